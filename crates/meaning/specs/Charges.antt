@@ -1,0 +1,189 @@
+-- The charges, found in the source (01, "Charges"), and the final figures.
+-- Assumes nothing.
+use mathlib.Core.List.{List, [], _∷_, _++_}
+use mathlib.Core.Bool.{Bool, true, false, not, _||_, _&&_}
+use Prim.Native.Nat.{ℕ, suc, _+_, _*_}
+use lib.ListN.{length}
+use lib.Dec.{eqb, ltb}
+use Rattle.meaning.specs.Tree.{if_then_else_, oneOf, Head, Forest, none, more, count, size}
+use Rattle.meaning.specs.File.{Symbol, File, fieldBytes}
+use Rattle.meaning.specs.Statements.{isUsing, anyUsing}
+use Rattle.meaning.specs.Contexts.{anyCaseUsing}
+use Rattle.meaning.specs.Program.{boundNames, keepsDefault}
+use Rattle.meaning.specs.Walk.{Act, keep, program, block, functionBody, tryParts, forLoop, switch, forOfInsert, forOfWrap, forOfAct, Spot, fileAt, storeAt}
+
+-- ---- 01's lines
+
+-- what a context is made for
+pub data Kind : Type 0 where
+  ofBlock ofBody ofStaticBlock ofTryPart ofFor ofSwitch : Kind
+
+-- A charge is a list of these. The numbers count wrapped initializers, and the names of an exported Declaration.
+pub data Line : Type 0 where
+  context : Kind → Line
+  wrapped : ℕ → Line
+  forOf forOfBlock programBlock topLevelClass exportedClass defaultExport : Line
+  exportedNames : ℕ → Line
+  helper : Line
+
+-- records, scopes, symbols, contexts, and the bytes of the written file
+pub record Figures : Type 0 where
+  pub records : ℕ
+  pub scopes : ℕ
+  pub symbols : ℕ
+  pub contexts : ℕ
+  pub bytes : ℕ
+
+abbrev pub figures : ℕ → ℕ → ℕ → ℕ → ℕ → Figures
+figures r s y c b = record { records = r; scopes = s; symbols = y; contexts = c; bytes = b }
+
+infixl 20 _⊕_
+abbrev pub _⊕_ : Figures → Figures → Figures
+x ⊕ y =
+    figures
+    (x .records + y .records)
+    (x .scopes + y .scopes)
+    (x .symbols + y .symbols)
+    (x .contexts + y .contexts)
+    (x .bytes + y .bytes)
+
+-- so many rows, and contexts; the last number is the bytes of the records alone
+abbrev pub charge : ℕ → ℕ → ℕ → ℕ → ℕ → Figures
+charge r s y c b = figures r s y c (b + (7 * s + 11 * y))
+
+unfoldable pub contextCharge : Kind → Figures
+contextCharge ofBlock = charge 11 3 2 1 83
+contextCharge ofBody = charge 12 4 2 1 90
+contextCharge ofStaticBlock = charge 12 4 2 1 90
+contextCharge ofTryPart = charge 12 4 2 1 90
+contextCharge ofFor = charge 12 4 2 1 90
+contextCharge ofSwitch = charge 12 4 2 1 90
+
+unfoldable pub lineCharge : Line → Figures
+lineCharge (context k) = contextCharge k
+lineCharge (wrapped n) = charge n 0 0 0 (9 * n)
+lineCharge forOf = charge 4 0 1 0 26
+lineCharge forOfBlock = charge 5 1 1 0 33
+lineCharge programBlock = charge 1 1 0 0 7
+lineCharge topLevelClass = charge 3 0 1 0 21
+lineCharge exportedClass = charge 4 0 1 0 32
+lineCharge defaultExport = charge 4 0 1 0 32
+lineCharge (exportedNames n) = charge n 0 0 0 (4 + 7 * n)
+lineCharge helper = charge 0 0 1 0 0
+
+unfoldable pub total : List Line → Figures
+total [] = charge 0 0 0 0 0
+total (l ∷ ls) = lineCharge l ⊕ total ls
+
+-- ---- what is counted in a list
+
+-- the Declarators with an initializer
+unfoldable pub initializers : Forest → ℕ
+initializers none = 0
+initializers (more h k r) = (if eqb (h .tag) 6 && ltb (h .b) (count k) then 1 else 0) + initializers r
+
+-- those of its usings
+unfoldable pub wraps : Forest → ℕ
+wraps none = 0
+wraps (more h k r) = (if isUsing h then initializers k else 0) + wraps r
+
+unfoldable pub caseWraps : Forest → ℕ
+caseWraps none = 0
+caseWraps (more h k r) = (if eqb (h .tag) 10 then wraps k else 0) + caseWraps r
+
+-- a list that gets a context, if it has a using
+unfoldable pub contextLines : Kind → Forest → List Line
+contextLines kind list = if anyUsing list then context kind ∷ wrapped (wraps list) ∷ [] else []
+
+-- ---- Program's items
+
+-- below 19, and below 18; each has one child
+unfoldable pub exportLines : Forest → List Line
+exportLines none = []
+exportLines (more h k r) =
+    (if eqb (h .tag) 15 then exportedClass ∷ []
+    else if eqb (h .tag) 5 then exportedNames (length (boundNames k)) ∷ []
+    else [])
+    ++ exportLines r
+
+unfoldable pub defaultLines : Forest → List Line
+defaultLines none = []
+defaultLines (more h k r) = (if keepsDefault h then [] else defaultExport ∷ []) ++ defaultLines r
+
+unfoldable pub itemLines : Forest → List Line
+itemLines none = []
+itemLines (more h k r) =
+    (if eqb (h .tag) 15 then topLevelClass ∷ []
+    else if eqb (h .tag) 18 then defaultLines k
+    else if eqb (h .tag) 19 then exportLines k
+    else [])
+    ++ itemLines r
+
+-- ---- each record's own lines
+
+-- a ForOf's body that gets the using at index 0 gets a context, if its list has none
+unfoldable pub bodyLines : Forest → List Line
+bodyLines none = []
+bodyLines (more h₁ k₁ none) = []
+bodyLines (more h₁ k₁ (more h₂ k₂ none)) = []
+bodyLines (more h₁ k₁ (more h₂ k₂ (more h₃ k₃ r))) = if anyUsing k₃ then [] else context ofBlock ∷ []
+
+unfoldable pub forOfLines : Act → Forest → List Line
+forOfLines keep k = []
+forOfLines program k = []
+forOfLines block k = []
+forOfLines functionBody k = []
+forOfLines tryParts k = []
+forOfLines forLoop k = []
+forOfLines switch k = []
+forOfLines forOfInsert k = forOf ∷ wrapped 1 ∷ bodyLines k
+forOfLines forOfWrap k = forOfBlock ∷ wrapped 1 ∷ context ofBlock ∷ []
+
+-- `up` is the tag of the record around it: a Block below a Try or a Catch is a try part
+unfoldable pub ownLines : List Symbol → ℕ → Head → Forest → List Line
+ownLines asRead up h k =
+    let t = h .tag in
+    if eqb t 1 then (if anyUsing k then programBlock ∷ (contextLines ofBlock k ++ itemLines k) else [])
+    else if eqb t 2 then contextLines (if oneOf (11 ∷ 12 ∷ []) up then ofTryPart else ofBlock) k
+    else if eqb t 7 then contextLines ofFor k
+    else if eqb t 8 then forOfLines (forOfAct asRead k) k
+    else if eqb t 9 then (if anyCaseUsing k then context ofSwitch ∷ wrapped (caseWraps k) ∷ [] else [])
+    else if eqb t 14 then contextLines ofBody k
+    else if eqb t 16 then contextLines ofStaticBlock k
+    else []
+
+unfoldable pub treeLines : List Symbol → ℕ → Forest → List Line
+treeLines asRead up none = []
+treeLines asRead up (more h k r) =
+    ownLines asRead up h k ++ (treeLines asRead (h .tag) k ++ treeLines asRead up r)
+
+-- ---- the figures
+
+-- the bytes of a tree's records
+unfoldable pub recordBytes : Forest → ℕ
+recordBytes none = 0
+recordBytes (more h k r) = fieldBytes (h .tag) + (recordBytes k + recordBytes r)
+
+-- those of a file as it stands
+unfoldable pub figuresIn : File → Figures
+figuresIn f =
+    figures
+    (size (f .tree))
+    (length (f .scopes))
+    (length (f .symbols))
+    0
+    (7 + (7 * length (f .scopes) + (11 * length (f .symbols) + recordBytes (f .tree))))
+
+-- those of the walk as it stands
+unfoldable pub figuresAt : Spot → Figures
+figuresAt s = figuresIn (fileAt s) ⊕ figures 0 0 0 (storeAt s .contexts) 0
+
+-- the runtime helper, once, if there is a context
+unfoldable pub helperLines : ℕ → Figures → List Line
+helperLines mode due = if eqb mode 0 && not (eqb (due .contexts) 0) then helper ∷ [] else []
+
+-- the final figures: those read and all charges
+unfoldable pub finalFigures : File → Figures
+finalFigures f =
+    let due = total (treeLines (f .symbols) 0 (f .tree)) in
+    figuresIn f ⊕ (due ⊕ total (helperLines (f .mode) due))

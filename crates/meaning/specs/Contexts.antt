@@ -1,0 +1,155 @@
+-- The statements and bodies that get a context: block, function body, static block, try parts, for, switch.
+-- Assumes nothing.
+use mathlib.Core.Bool.{Bool, true, false, _||_, _&&_}
+use mathlib.Core.List.{List, [], _∷_}
+use Prim.Native.Nat.{ℕ}
+use lib.Dec.{eqb}
+use Rattle.meaning.specs.Tree.{if_then_else_, Head, hd, Forest, none, more, one, Node, node, single, _&_}
+use Rattle.meaning.specs.Shapes.{declaration}
+use Rattle.meaning.specs.Scoping.{
+  Change,
+  _>>=_,
+  _>>_,
+  return,
+  get,
+  createChildScope,
+  changeScopeParent,
+  setScopeFlags,
+  insertScopeBetween,
+  insertScopeBelow,
+  moveBinding,
+  moveBindings,
+  blockScopedIn,
+}
+use Rattle.meaning.specs.HelperLoader.{helperLoad}
+use Rattle.meaning.specs.Statements.{
+  anyUsing,
+  anyAwaitUsing,
+  takeUp,
+  makeContext,
+  transformStatements,
+  createTryStmt,
+}
+
+-- `transform_block_statement`: the Block becomes a Try around its list
+unfoldable pub transformBlockStatement : ℕ → ℕ → Head → Forest → Change Node
+transformBlockStatement cur hoist h list = do
+  t ← transformStatements cur hoist list
+  createTryStmt (h .a) (t .statements) (t .usingCtx) cur (t .needsAwait)
+
+-- `enter_function_body`: a new scope below the function's takes the list, and what the function's scope binds block-scoped or as a class
+unfoldable pub enterFunctionBody : ℕ → ℕ → Forest → Change Node
+enterFunctionBody cur hoist list = do
+  t ← transformStatements cur hoist list
+  scope ← insertScopeBelow cur list
+  st ← get
+  moveBindings (blockScopedIn (st .symbols) cur (st .symbols) 1) scope
+  try ← createTryStmt scope (t .statements) (t .usingCtx) cur (t .needsAwait)
+  return (node (hd 14 0 0 0) (single try))
+
+-- `exit_static_block`: the block gets a new scope above its old one, which is strict and no static block any more
+unfoldable pub exitStaticBlock : Head → Forest → Change Node
+exitStaticBlock h list = do
+  t ← transformStatements (h .a) (h .a) list
+  scope ← insertScopeBetween (h .a) 4
+  moveBinding (t .usingCtx) scope
+  setScopeFlags (h .a) 1
+  try ← createTryStmt (h .a) (t .statements) (t .usingCtx) scope (t .needsAwait)
+  return (node (hd 16 scope 0 0) (single try))
+
+-- ---- try parts
+
+-- `transform_try_block`: the part gets a new scope above its old one; its context moves to the hoist scope
+unfoldable pub transformTryBlock : ℕ → ℕ → Head → Forest → Change Node
+transformTryBlock cur hoist h list = do
+  t ← transformStatements cur (h .a) list
+  scope ← insertScopeBetween (h .a) 0
+  try ← createTryStmt (h .a) (t .statements) (t .usingCtx) scope (t .needsAwait)
+  moveBinding (t .usingCtx) hoist
+  return (node (hd 2 scope 0 0) (single try))
+
+-- the Names that stand directly in a list, as symbols
+unfoldable pub namesIn : Forest → List ℕ
+namesIn none = []
+namesIn (more h k r) = if eqb (h .tag) 26 then h .a ∷ namesIn r else namesIn r
+
+-- the scope of the last Block of a list, or 0
+unfoldable pub lastBlockScope : Forest → ℕ
+lastBlockScope none = 0
+lastBlockScope (more h k none) = if eqb (h .tag) 2 then h .a else 0
+lastBlockScope (more h k (more h′ k′ r)) = lastBlockScope (more h′ k′ r)
+
+-- a part of a Try or a Catch has a using
+unfoldable pub anyPartUsing : Forest → Bool
+anyPartUsing none = false
+anyPartUsing (more h k r) =
+    (eqb (h .tag) 2 && anyUsing k) || (eqb (h .tag) 12 && anyPartUsing k) || anyPartUsing r
+
+-- a Catch, its parts being transformed by `inside`: its names move with a lowered body
+unfoldable pub transformHandler : Head → Forest → Change Forest → Change Node
+transformHandler h k inside = do
+  parts ← inside
+  if anyPartUsing k then moveBindings (namesIn k) (lastBlockScope parts) else return tt
+  return (node h parts)
+
+-- `enter_try_statement`: block, handler and finalizer in turn
+unfoldable pub transformTryParts : ℕ → ℕ → Forest → Change Forest
+transformTryParts cur hoist none = return none
+transformTryParts cur hoist (more h k r) = do
+  part ←
+      if eqb (h .tag) 12 then transformHandler h k (transformTryParts cur hoist k)
+      else if eqb (h .tag) 2 && anyUsing k then transformTryBlock cur hoist h k
+      else return (node h k)
+  rest ← transformTryParts cur hoist r
+  return (single part & rest)
+
+unfoldable pub enterTryStatement : ℕ → ℕ → Head → Forest → Change Node
+enterTryStatement cur hoist h parts = do
+  parts′ ← transformTryParts cur hoist parts
+  return (node h parts′)
+
+-- ---- for
+
+-- the children of the For below some Labels; of these only the first can be a Declaration
+unfoldable pub forList : Forest → Forest
+forList none = none
+forList (more h k r) = if eqb (h .tag) 4 then forList k else if eqb (h .tag) 7 then k else none
+
+unfoldable pub takeUpFor : ℕ → Forest → Forest
+takeUpFor ctx none = none
+takeUpFor ctx (more h k r) = more h (if eqb (h .tag) 4 then takeUpFor ctx k else takeUp false ctx false k) r
+
+-- `transform_for_statement`: the For with its Labels goes into the Try
+unfoldable pub transformForStatement : ℕ → ℕ → Head → Forest → Change Node
+transformForStatement cur hoist h k = do
+  ctx ← makeContext hoist
+  scope ← insertScopeBelow cur (one h k)
+  helper ← helperLoad cur
+  createTryStmt scope (declaration 0 ctx helper & takeUpFor ctx (one h k)) ctx cur (anyAwaitUsing (forList (one h k)))
+
+-- ---- switch
+
+-- a using stands directly in a Case; one of them is an `await using`
+unfoldable pub anyCaseUsing : Forest → Bool
+anyCaseUsing none = false
+anyCaseUsing (more h k r) = (eqb (h .tag) 10 && anyUsing k) || anyCaseUsing r
+
+unfoldable pub anyCaseAwaitUsing : Forest → Bool
+anyCaseAwaitUsing none = false
+anyCaseAwaitUsing (more h k r) = (eqb (h .tag) 10 && anyAwaitUsing k) || anyCaseAwaitUsing r
+
+-- the usings of the Cases: the letter comes from the running needs_await
+unfoldable pub takeUpCases : ℕ → Bool → Forest → Forest
+takeUpCases ctx needsAwait none = none
+takeUpCases ctx needsAwait (more h k r) =
+    if eqb (h .tag) 10 then more h (takeUp true ctx needsAwait k) (takeUpCases ctx (needsAwait || anyAwaitUsing k) r)
+    else more h k (takeUpCases ctx needsAwait r)
+
+-- `transform_switch_statement`: the context is bound in the current scope
+unfoldable pub transformSwitchStatement : ℕ → Head → Forest → Change Node
+transformSwitchStatement cur h k = do
+  ctx ← makeContext cur
+  scope ← createChildScope cur 0
+  changeScopeParent (h .a) scope
+  helper ← helperLoad cur
+  createTryStmt scope (declaration 0 ctx helper & one h (takeUpCases ctx false k)) ctx cur (anyCaseAwaitUsing k)

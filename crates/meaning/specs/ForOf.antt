@@ -1,0 +1,71 @@
+-- `enter_for_of_statement`.
+-- Assumes nothing.
+use mathlib.Core.Bool.{Bool, true, false, not, _&&_}
+use mathlib.Core.List.{List}
+use Prim.Native.Nat.{ℕ}
+use lib.Dec.{eqb}
+use Rattle.meaning.specs.Tree.{if_then_else_, Head, hd, Forest, none, more, one, Node, node, _&_}
+use Rattle.meaning.specs.File.{Symbol}
+use Rattle.meaning.specs.Shapes.{block, declaration, read}
+use Rattle.meaning.specs.Scoping.{
+  Change,
+  _>>=_,
+  _>>_,
+  return,
+  get,
+  rowAt,
+  noSymbol,
+  symbolIn,
+  generateUid,
+  insertScopeBelow,
+  moveBinding,
+  getBinding,
+}
+
+-- the one Declarator has pattern 0: it binds an identifier
+unfoldable pub bindsIdentifier : Forest → Bool
+bindsIdentifier none = false
+bindsIdentifier (more h k r) = eqb (h .tag) 6 && eqb (h .a) 0
+
+-- its symbol
+unfoldable pub boundSymbol : Forest → ℕ
+boundSymbol none = 0
+boundSymbol (more h none r) = 0
+boundSymbol (more h (more h₁ k₁ r₁) r) = h₁ .a
+
+unfoldable pub rebind : ℕ → Forest → Forest
+rebind y none = none
+rebind y (more h none r) = more h none r
+rebind y (more h (more h₁ k₁ r₁) r) = more h (more (hd 26 y 0 0) k₁ r₁) r
+
+-- The scope binds the symbol's name, by the symbol rows as read.
+unfoldable pub bindsName : List Symbol → ℕ → ℕ → Bool
+bindsName asRead scope y =
+    let s = rowAt noSymbol asRead y in
+    eqb (s .made) 0 && not (eqb (getBinding asRead scope (s .name)) 0)
+
+-- the body with the using at index 0, which moves to the body's scope
+unfoldable pub insertUsing : ℕ → Forest → Head → Forest → Change Forest
+insertUsing y held h body = do
+  moveBinding y (h .a)
+  return (one h (held & body))
+
+-- the body in a new Block below the ForOf's scope, with the using before it, which moves to the Block's scope
+unfoldable pub wrapBody : ℕ → Forest → ℕ → Forest → Change Forest
+wrapBody y held scope body = do
+  new ← insertScopeBelow scope body
+  moveBinding y new
+  return (block new (held & body))
+
+-- `for (using x of e)` becomes `for (const _x of e)`, and `using x = _x` goes into the body
+unfoldable pub enterForOfStatement : Bool → Head → Forest → Change Node
+enterForOfStatement wraps h none = return (node h none)
+enterForOfStatement wraps h (more h₁ k₁ none) = return (node h (one h₁ k₁))
+enterForOfStatement wraps h (more h₁ k₁ (more h₂ k₂ none)) = return (node h (more h₁ k₁ (one h₂ k₂)))
+enterForOfStatement wraps h (more h₁ k₁ (more h₂ k₂ (more h₃ k₃ r))) = do
+  st ← get
+  temp ← generateUid (symbolIn st (boundSymbol k₁) .name) (h .a) 6
+  body ←
+      if wraps then wrapBody (boundSymbol k₁) (declaration (h₁ .a) (boundSymbol k₁) (read temp)) (h .a) (one h₃ k₃)
+      else insertUsing (boundSymbol k₁) (declaration (h₁ .a) (boundSymbol k₁) (read temp)) h₃ k₃
+  return (node h (more (hd 5 2 0 0) (rebind temp k₁) (more h₂ k₂ (body & r))))

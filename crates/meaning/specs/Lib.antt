@@ -1,0 +1,22 @@
+-- What document 01 means, in its order.
+pub mod Tree
+pub mod File
+pub mod Grammar
+pub mod Reading
+pub mod Scoping
+pub mod Shapes
+pub mod HelperLoader
+pub mod Statements
+pub mod Contexts
+pub mod ForOf
+pub mod Program
+pub mod Walk
+pub mod Charges
+pub mod VisitCharges
+pub mod Lowering
+pub mod Hint
+-- 01's cases, computed.
+pub mod Notation
+pub mod Computing
+pub mod Table
+pub mod TableVisits

@@ -1,0 +1,163 @@
+-- Reading a file: the rows and the tree, or the refusal with its place (01, "Who can be refused, and for what").
+-- Assumes nothing.
+use mathlib.Core.List.{List, [], _∷_}
+use mathlib.Core.Bool.{Bool, true, false, _||_, _&&_}
+use Prim.Native.Nat.{ℕ, zero, suc, _+_, _*_}
+use lib.ListN.{length, getD, replicate}
+use lib.Dec.{eqb, leb}
+use Rattle.meaning.specs.Tree.{if_then_else_, Forest, none, more}
+use Rattle.meaning.specs.File.{Scope, scopeRow, Symbol, symbolRow, File}
+use Rattle.meaning.specs.Grammar.{
+  fieldAt,
+  two,
+  right,
+  scopeRight,
+  symbolRight,
+  scopeOf,
+  below,
+  childrenOf,
+  placeOf,
+  headOf,
+  mayName,
+  naming,
+  parentIn,
+  unnamed,
+}
+use Rattle.meaning.specs.declared.Place.{Place}
+use Rattle.meaning.specs.declared.Place.the-variants.{Settings, ScopeRow, SymbolRow, Program}
+use Rattle.meaning.specs.declared.Field.{Field}
+use Rattle.meaning.specs.declared.Reading.{Reading}
+use Rattle.meaning.specs.declared.Reading.the-variants.{Whole, Refused}
+use Rattle.meaning.specs.declared.Rows.{Rows}
+use Rattle.meaning.specs.declared.Rows.the-variants.{Read, Refused as RefusedRows}
+
+-- ---- an answer, or a refusal with its number and place
+
+pub data Outcome (A : Type 0) : Type 0 where
+  accepted : A → Outcome A
+  refused : ℕ → ℕ → Outcome A
+
+infixl 5 _>>=_
+abbrev pub _>>=_ : {A B : Type 0} → Outcome A → (A → Outcome B) → Outcome B
+_>>=_ (accepted a) g = g a
+_>>=_ (refused c p) g = refused c p
+
+infixl 5 _>>_
+abbrev pub _>>_ : {A B : Type 0} → Outcome A → Outcome B → Outcome B
+_>>_ m n = m >>= (λ _. n)
+
+-- the test passes, or the check refuses
+abbrev pub ensure : Bool → ℕ → ℕ → Outcome (Unit {0})
+ensure true c p = accepted tt
+ensure false c p = refused c p
+
+abbrev pub field : Reading → Outcome Field
+field (Whole x) = accepted x
+field (Refused c p) = refused c p
+
+-- ---- the tree
+
+-- records beside each other, the offset behind them, and the marks
+pub record Records : Type 0 where
+  pub forest : Forest
+  pub next : ℕ
+  pub marks : List ℕ
+
+abbrev records : Forest → ℕ → List ℕ → Records
+records t at m = record { forest = t; next = at; marks = m }
+
+-- n records from child k on, each at its place, below the scope `cur`. `inside` reads a record's children: it is handed the record, its place and
+-- offset, the scope below it and the marks.
+unfoldable pub readList
+    : (Place → Field → ℕ → ℕ → List ℕ → Outcome Records)
+    → List ℕ → ℕ → (ℕ → Place) → ℕ → ℕ → ℕ → ℕ → List ℕ → Outcome Records
+readList inside f syms place cur k zero at m = accepted (records none at m)
+readList inside f syms place cur k (suc n) at m = do
+  x ← field (fieldAt f (place k) at)
+  ensure (right (place k) syms x) 5 at
+  ensure (mayName f cur m (scopeOf (headOf x))) 5 at
+  kids ← inside (place k) x at (below cur (scopeOf (headOf x))) (naming m (scopeOf (headOf x)))
+  beside ← readList inside f syms place cur (suc k) n (kids .next) (kids .marks)
+  accepted (records (more (headOf x) (kids .forest) (beside .forest)) (beside .next) (beside .marks))
+
+-- with so many levels left: a record below the last is refused
+unfoldable pub readForest : ℕ → List ℕ → ℕ → (ℕ → Place) → ℕ → ℕ → ℕ → ℕ → List ℕ → Outcome Records
+readForest zero f syms = readList (λ p x at cur m. refused 6 at) f syms
+readForest (suc l) f syms =
+    readList (λ p x at cur m. readForest l f syms (placeOf p x) cur 0 (childrenOf x) (x .next) m) f syms
+
+-- ---- the rows
+
+-- a field that passes its test
+abbrev pub judged : (Field → Bool) → ℕ → Reading → Reading
+judged test at (Whole x) = if test x then Whole x else Refused 5 at
+judged test at (Refused c p) = Refused c p
+
+-- the field of scope row k counted from 0, and that of a symbol row
+unfoldable pub scopeAt : List ℕ → ℕ → ℕ → Reading
+scopeAt f k at = judged (scopeRight k) at (fieldAt f ScopeRow at)
+
+unfoldable pub symbolAt : List ℕ → ℕ → ℕ → Reading
+symbolAt f scopes at = judged (symbolRight scopes) at (fieldAt f SymbolRow at)
+
+abbrev pub andRows : Reading → (Field → Rows) → Rows
+andRows (Whole x) g = g x
+andRows (Refused c p) g = RefusedRows c p
+
+-- rows from row k on, as long as there are more, at most n
+unfoldable pub readRows : (ℕ → ℕ → Bool) → (ℕ → ℕ → Reading) → ℕ → ℕ → ℕ → Rows
+readRows again one zero k at = Read k at
+readRows again one (suc n) k at =
+    if again k at then andRows (one k at) (λ x. readRows again one n (k + 1) (x .next)) else Read k at
+
+-- more rows than a file of 65,535 bytes holds
+abbrev pub mostRows : ℕ
+mostRows = 9362
+
+-- one scope row, then more while the next tag is 41; symbol rows while it is 42
+unfoldable pub readScopes : List ℕ → ℕ → Rows
+readScopes f from = readRows (λ k at. eqb k 0 || eqb (getD f at 0) 41) (scopeAt f) mostRows 0 from
+
+unfoldable pub readSymbols : List ℕ → ℕ → ℕ → Rows
+readSymbols f scopes from = readRows (λ k at. eqb (getD f at 0) 42) (λ k at. symbolAt f scopes at) mostRows 0 from
+
+-- n scope rows from row s on, each at byte 7 * s; n symbol rows from an offset on
+unfoldable pub scopesIn : List ℕ → ℕ → ℕ → List Scope
+scopesIn f zero s = []
+scopesIn f (suc n) s = scopeRow (parentIn f s) (two f (7 * s + 5)) ∷ scopesIn f n (suc s)
+
+unfoldable pub symbolsIn : List ℕ → ℕ → ℕ → List Symbol
+symbolsIn f zero at = []
+symbolsIn f (suc n) at =
+    symbolRow (two f (at + 3)) (two f (at + 5)) (two f (at + 7)) (two f (at + 9)) ∷ symbolsIn f n (at + 11)
+
+-- ---- the file
+
+-- how many rows, and the offset behind them
+pub record Counted : Type 0 where
+  pub number : ℕ
+  pub next : ℕ
+
+abbrev pub rows : Rows → Outcome Counted
+rows (Read k at) = accepted (record { number = k; next = at })
+rows (RefusedRows c p) = refused c p
+
+-- The checks in their order: 1; field by field; 7; 5 for the lowest unnamed row.
+unfoldable pub readFile : List ℕ → Outcome File
+readFile f = do
+  ensure (leb (length f) 65535) 1 65535
+  settings ← field (fieldAt f Settings 0)
+  ensure (leb (settings .a) 2 && leb (settings .b) 1) 5 0
+  scopes ← rows (readScopes f (settings .next))
+  symbols ← rows (readSymbols f (scopes .number) (scopes .next))
+  program ← readForest 64 f (symbols .number) (λ _. Program) 0 0 1 (symbols .next) (replicate (scopes .number) 0)
+  ensure (leb (length f) (program .next)) 7 (program .next)
+  ensure (leb (scopes .number) (unnamed (program .marks))) 5 (7 + 7 * unnamed (program .marks))
+  accepted
+      (record {
+        mode = settings .a;
+        isModule = settings .b;
+        scopes = scopesIn f (scopes .number) 1;
+        symbols = symbolsIn f (symbols .number) (scopes .next);
+        tree = program .forest;
+      })

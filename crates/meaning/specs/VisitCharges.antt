@@ -1,0 +1,268 @@
+-- The charge of each visit, found in the source: one list of lines a visit, in the walk's order.
+-- Assumes nothing.
+use mathlib.Core.List.{List, [], _∷_, _++_}
+use mathlib.Core.Bool.{Bool, true, false, not, _||_, _&&_}
+use Prim.Native.Nat.{ℕ, zero, suc, _+_}
+use lib.ListN.{length, replicate}
+use lib.Dec.{eqb}
+use Rattle.meaning.specs.Tree.{if_then_else_, oneOf, Head, Forest, none, more, one}
+use Rattle.meaning.specs.File.{Symbol, File}
+use Rattle.meaning.specs.Statements.{isUsing, anyUsing}
+use Rattle.meaning.specs.Contexts.{forList}
+use Rattle.meaning.specs.Program.{boundNames, keepsDefault}
+use Rattle.meaning.specs.Walk.{
+  isStaticBlock,
+  Act,
+  keep,
+  program,
+  block,
+  functionBody,
+  tryParts,
+  forLoop,
+  switch,
+  forOfInsert,
+  forOfWrap,
+  actOf,
+}
+use Rattle.meaning.specs.Charges.{
+  Kind,
+  ofBlock,
+  ofBody,
+  ofStaticBlock,
+  ofTryPart,
+  ofFor,
+  ofSwitch,
+  Line,
+  context,
+  wrapped,
+  forOf,
+  forOfBlock,
+  programBlock,
+  topLevelClass,
+  exportedClass,
+  defaultExport,
+  exportedNames,
+  helper,
+  wraps,
+  caseWraps,
+  contextLines,
+  itemLines,
+}
+
+-- ---- the charge of one visit
+
+-- the parts of a Try that have a using, in turn
+unfoldable pub partLines : Forest → List Line
+partLines none = []
+partLines (more h k r) =
+    (if eqb (h .tag) 12 then partLines k
+    else if eqb (h .tag) 2 then contextLines ofTryPart k
+    else [])
+    ++ partLines r
+
+-- entering a record, by what it does
+unfoldable pub enterLines : Act → Head → Forest → List Line
+enterLines keep h k = []
+enterLines program h k = programBlock ∷ itemLines k
+enterLines block h k = contextLines ofBlock k
+enterLines functionBody h k = contextLines ofBody k
+enterLines tryParts h k = partLines k
+enterLines forLoop h k = contextLines ofFor (forList (one h k))
+enterLines switch h k = context ofSwitch ∷ wrapped (caseWraps k) ∷ []
+enterLines forOfInsert h k = forOf ∷ []
+enterLines forOfWrap h k = forOfBlock ∷ []
+
+-- ---- the visits to records beside each other
+
+-- What a rewrite above has done to records of the source before they are visited.
+pub data Mode : Type 0 where
+  -- nothing; a list whose usings a context took up; the Declarators of such a using; their children, so many Names being left
+  standing takenUp declarators : Mode
+  initializer : ℕ → Mode
+  -- a For with its Labels; the children of a Switch; those of a Try or a Catch
+  loop cases parts : Mode
+  -- Program's items: what stays of them, and what moves into the Block
+  kept moved skipped : Mode
+  -- the children of a ForOf
+  left right body : Act → Mode
+
+-- the mode of the next record
+unfoldable pub next : Mode → Mode
+next standing = standing
+next takenUp = takenUp
+next declarators = declarators
+next (initializer zero) = standing
+next (initializer (suc m)) = initializer m
+next loop = loop
+next cases = cases
+next parts = parts
+next kept = kept
+next moved = moved
+next skipped = skipped
+next (left a) = right a
+next (right a) = body a
+next (body a) = standing
+
+-- The visits to a record: those before its children, how its children are visited, and those behind them. `again`: Program's items are visited a
+-- second time, in its Block.
+pub record Visits : Type 0 where
+  pub before : List (List Line)
+  pub inside : Mode
+  pub again : Bool
+  pub behind : List (List Line)
+
+abbrev pub around : List (List Line) → Mode → List (List Line) → Visits
+around before inside behind = record { before = before; inside = inside; again = false; behind = behind }
+
+-- visits without a charge
+abbrev pub free : ℕ → List (List Line)
+free n = replicate n []
+
+-- In a made Try five records stand before the list (Block, and the context's Declaration, Declarator, Name and Load), and six behind it (Catch,
+-- Name, Block, Step; Block, Step).
+abbrev pub inTry : List (List Line) → Mode → Visits
+inTry before inside = around (before ++ free 5) inside (free 6)
+
+-- so many visits more before it
+abbrev pub behindFree : ℕ → Visits → Visits
+behindFree n v = record { before = free n ++ v .before; inside = v .inside; again = v .again; behind = v .behind }
+
+-- a record that no rewrite above has changed
+unfoldable pub visitsAs : Act → Head → Forest → Visits
+visitsAs keep h k = around (free 1) standing (if isStaticBlock h then contextLines ofStaticBlock k ∷ [] else [])
+visitsAs program h k = record { before = enterLines program h k ∷ []; inside = kept; again = true; behind = free 6 }
+visitsAs block h k = inTry (enterLines block h k ∷ []) takenUp
+visitsAs functionBody h k = inTry (enterLines functionBody h k ∷ free 1) takenUp
+visitsAs tryParts h k = around (enterLines tryParts h k ∷ []) parts []
+visitsAs forLoop h k = around (enterLines forLoop h k ∷ free 6) (if eqb (h .tag) 4 then loop else takenUp) (free 6)
+visitsAs switch h k = around (enterLines switch h k ∷ free 6) cases (free 6)
+visitsAs forOfInsert h k = around (enterLines forOfInsert h k ∷ []) (left forOfInsert) []
+visitsAs forOfWrap h k = around (enterLines forOfWrap h k ∷ []) (left forOfWrap) []
+
+module _ (asRead : List Symbol) where
+  unfoldable pub visitsStanding : Head → Forest → Visits
+  visitsStanding h k = visitsAs (actOf asRead h k) h k
+
+  unfoldable pub visitsTakenUp : Head → Forest → Visits
+  visitsTakenUp h k = if isUsing h then around (free 1) declarators [] else visitsStanding h k
+
+  -- the body of a ForOf: a context for it, and five records for the using that went in
+  unfoldable pub visitsBody : Act → Head → Forest → Visits
+  visitsBody keep h k = visitsStanding h k
+  visitsBody program h k = visitsStanding h k
+  visitsBody block h k = visitsStanding h k
+  visitsBody functionBody h k = visitsStanding h k
+  visitsBody tryParts h k = visitsStanding h k
+  visitsBody forLoop h k = visitsStanding h k
+  visitsBody switch h k = visitsStanding h k
+  visitsBody forOfInsert h k = inTry ((context ofBlock ∷ wrapped (1 + wraps k) ∷ []) ∷ free 5) takenUp
+  visitsBody forOfWrap h k =
+      let v = visitsTakenUp h k in
+      record {
+        before = (context ofBlock ∷ wrapped (1 + wraps (one h k)) ∷ []) ∷ (free 10 ++ v .before);
+        inside = v .inside;
+        again = v .again;
+        behind = v .behind ++ free 6;
+      }
+
+  -- what a Program's item leaves among the items that stay: itself, or an export with a Specifier for each name
+  unfoldable pub visitsExport : Head → Forest → Forest → Visits
+  visitsExport h k none = visitsStanding h k
+  visitsExport h k (more h₁ k₁ r₁) =
+      if eqb (h₁ .tag) 15 then around (free 2) skipped []
+      else if eqb (h₁ .tag) 5 then around (free (1 + length (boundNames k₁))) skipped []
+      else visitsStanding h k
+
+  unfoldable pub visitsDefault : Head → Forest → Forest → Visits
+  visitsDefault h k none = visitsStanding h k
+  visitsDefault h k (more h₁ k₁ r₁) =
+      if keepsDefault h₁ then visitsStanding h k else around (free 2) skipped []
+
+  unfoldable pub visitsKept : Head → Forest → Visits
+  visitsKept h k =
+      if oneOf (13 ∷ 17 ∷ []) (h .tag) then visitsStanding h k
+      else if eqb (h .tag) 18 then visitsDefault h k k
+      else if eqb (h .tag) 19 then visitsExport h k k
+      else around [] skipped []
+
+  -- what it leaves in the Block: for a class or a default export, a Declaration, a Declarator and a Name before it
+  unfoldable pub visitsMovedExport : Forest → Visits
+  visitsMovedExport none = around [] skipped []
+  visitsMovedExport (more h₁ k₁ r₁) =
+      if eqb (h₁ .tag) 15 then around (free 3) standing []
+      else if eqb (h₁ .tag) 5 then around [] standing []
+      else around [] skipped []
+
+  unfoldable pub visitsMovedDefault : Forest → Visits
+  visitsMovedDefault none = around [] skipped []
+  visitsMovedDefault (more h₁ k₁ r₁) = if keepsDefault h₁ then around [] skipped [] else around (free 3) standing []
+
+  unfoldable pub visitsMoved : Head → Forest → Visits
+  visitsMoved h k =
+      if oneOf (13 ∷ 17 ∷ []) (h .tag) then around [] skipped []
+      else if eqb (h .tag) 18 then visitsMovedDefault k
+      else if eqb (h .tag) 19 then visitsMovedExport k
+      else if eqb (h .tag) 15 then behindFree 3 (visitsStanding h k)
+      else visitsTakenUp h k
+
+  unfoldable pub visitsOf : Mode → Head → Forest → Visits
+  visitsOf standing h k = visitsStanding h k
+  visitsOf takenUp h k = visitsTakenUp h k
+  visitsOf declarators h k = if eqb (h .tag) 6 then around (free 1) (initializer (h .b)) [] else visitsStanding h k
+  visitsOf (initializer zero) h k = behindFree 1 (visitsStanding h k)
+  visitsOf (initializer (suc m)) h k = visitsStanding h k
+  visitsOf loop h k = around (free 1) (if eqb (h .tag) 4 then loop else takenUp) []
+  visitsOf cases h k = if eqb (h .tag) 10 then around (free 1) takenUp [] else visitsStanding h k
+  visitsOf parts h k =
+      if eqb (h .tag) 12 then around (free 1) parts []
+      else if eqb (h .tag) 2 && anyUsing k then inTry (free 2) takenUp
+      else visitsStanding h k
+  visitsOf kept h k = visitsKept h k
+  visitsOf moved h k = visitsMoved h k
+  visitsOf skipped h k = around [] skipped []
+  visitsOf (left a) h k = visitsStanding h k
+  visitsOf (right a) h k = visitsStanding h k
+  visitsOf (body a) h k = visitsBody a h k
+
+  -- the Block of a lowered Program: its own visit, with the context, and those of its Try around the items
+  abbrev pub programVisits : Bool → Forest → (Unit {0} → List (List Line)) → List (List Line)
+  programVisits true items inside = contextLines ofBlock items ∷ (free 5 ++ inside tt)
+  programVisits false items inside = []
+
+  unfoldable pub visitsIn : Forest → Mode → List (List Line)
+  visitsIn none m = []
+  visitsIn (more h k r) m =
+      let v = visitsOf m h k in
+      v .before
+      ++ (visitsIn k (v .inside)
+      ++ (programVisits (v .again) k (λ _. visitsIn k moved)
+      ++ (v .behind
+      ++ visitsIn r (next m))))
+
+-- ---- the runtime helper
+
+unfoldable pub isContext : Line → Bool
+isContext (context k) = true
+isContext (wrapped n) = false
+isContext forOf = false
+isContext forOfBlock = false
+isContext programBlock = false
+isContext topLevelClass = false
+isContext exportedClass = false
+isContext defaultExport = false
+isContext (exportedNames n) = false
+isContext helper = false
+
+unfoldable pub anyContext : List Line → Bool
+anyContext [] = false
+anyContext (l ∷ ls) = isContext l || anyContext ls
+
+-- it comes with the first context, if it is still missing
+unfoldable pub addHelper : Bool → List (List Line) → List (List Line)
+addHelper missing [] = []
+addHelper missing (x ∷ xs) =
+    (if missing && anyContext x then helper ∷ x else x) ∷ addHelper (missing && not (anyContext x)) xs
+
+-- the charges of the visits, in order
+unfoldable pub visitCharges : File → List (List Line)
+visitCharges f = addHelper (eqb (f .mode) 0) (visitsIn (f .symbols) (f .tree) standing)

@@ -1,0 +1,176 @@
+-- The walk, one visit at a time (01, "Rewrites").
+-- Assumes nothing.
+use mathlib.Core.List.{List, [], _∷_}
+use mathlib.Core.Bool.{Bool, true, false, not, _||_, _&&_}
+use Prim.Native.Nat.{ℕ, zero, suc}
+use lib.Dec.{eqb}
+use Rattle.meaning.specs.Tree.{if_then_else_, oneOf, Head, Forest, none, more, one, Node, node, _&_}
+use Rattle.meaning.specs.File.{Symbol, File}
+use Rattle.meaning.specs.Grammar.{scopeOf, below}
+use Rattle.meaning.specs.Scoping.{Store, Change, return}
+use Rattle.meaning.specs.Statements.{isUsing, anyUsing}
+use Rattle.meaning.specs.Contexts.{
+  anyPartUsing,
+  anyCaseUsing,
+  forList,
+  transformBlockStatement,
+  enterFunctionBody,
+  exitStaticBlock,
+  enterTryStatement,
+  transformForStatement,
+  transformSwitchStatement,
+}
+use Rattle.meaning.specs.ForOf.{bindsIdentifier, boundSymbol, bindsName, enterForOfStatement}
+use Rattle.meaning.specs.Program.{enterProgram}
+
+-- ---- what entering a record does
+
+pub data Act : Type 0 where
+  keep program block functionBody tryParts forLoop switch forOfInsert forOfWrap : Act
+
+abbrev pub actIf : Bool → Act → Act
+actIf b a = if b then a else keep
+
+-- a ForOf with a using: the using goes in at index 0 of a body Block that does not bind its name; any other body is wrapped
+unfoldable pub forOfAct : List Symbol → Forest → Act
+forOfAct asRead none = keep
+forOfAct asRead (more h₁ k₁ none) = keep
+forOfAct asRead (more h₁ k₁ (more h₂ k₂ none)) = keep
+forOfAct asRead (more h₁ k₁ (more h₂ k₂ (more h₃ k₃ r))) =
+    actIf
+    (isUsing h₁ && bindsIdentifier k₁)
+    (if eqb (h₃ .tag) 2 && not (bindsName asRead (h₃ .a) (boundSymbol k₁)) then forOfInsert else forOfWrap)
+
+-- A Block below a Try or a Catch is never met here with a using: the visit to its Try took it up.
+unfoldable pub actOf : List Symbol → Head → Forest → Act
+actOf asRead h k =
+    let t = h .tag in
+    if eqb t 1 then actIf (anyUsing k) program
+    else if eqb t 2 then actIf (anyUsing k) block
+    else if oneOf (4 ∷ 7 ∷ []) t then actIf (anyUsing (forList (one h k))) forLoop
+    else if eqb t 8 then forOfAct asRead k
+    else if eqb t 9 then actIf (anyCaseUsing k) switch
+    else if eqb t 11 then actIf (anyPartUsing k) tryParts
+    else if eqb t 14 then actIf (anyUsing k) functionBody
+    else keep
+
+unfoldable pub enterAs : Act → ℕ → ℕ → Head → Forest → Change Node
+enterAs keep cur hoist h k = return (node h k)
+enterAs program cur hoist h k = enterProgram h k
+enterAs block cur hoist h k = transformBlockStatement cur hoist h k
+enterAs functionBody cur hoist h k = enterFunctionBody cur hoist k
+enterAs tryParts cur hoist h k = enterTryStatement cur hoist h k
+enterAs forLoop cur hoist h k = transformForStatement cur hoist h k
+enterAs switch cur hoist h k = transformSwitchStatement cur h k
+enterAs forOfInsert cur hoist h k = enterForOfStatement false h k
+enterAs forOfWrap cur hoist h k = enterForOfStatement true h k
+
+unfoldable pub enter : ℕ → ℕ → Head → Forest → Change Node
+enter cur hoist h k = λ st. enterAs (actOf (st .asRead) h k) cur hoist h k st
+
+-- leaving a StaticBlock
+abbrev pub isStaticBlock : Head → Bool
+isStaticBlock h = eqb (h .tag) 16
+
+unfoldable pub leave : Head → Forest → Change Node
+leave h k = if anyUsing k then exitStaticBlock h k else return (node h k)
+
+-- ---- where the walk stands
+
+-- an open record, with what stands before it and after it
+pub data Crumb : Type 0 where
+  crumb : Head → Forest → Forest → Crumb
+
+-- Before a record that is entered next, between those done and those after it; at the end of a StaticBlock, whose children are done; or over.
+-- The open records are listed from the innermost.
+pub data Spot : Type 0 where
+  at : Forest → Head → Forest → Forest → List Crumb → Store → Spot
+  leaving : Forest → Head → Forest → Forest → List Crumb → Store → Spot
+  over : Forest → Store → Spot
+
+-- the scope of the nearest open record with one
+unfoldable pub currentScope : List Crumb → ℕ
+currentScope [] = 0
+currentScope (crumb h before after ∷ path) = below (currentScope path) (scopeOf h)
+
+-- that of the nearest Program, Function or StaticBlock
+unfoldable pub hoistScope : List Crumb → ℕ
+hoistScope [] = 0
+hoistScope (crumb h before after ∷ path) = if oneOf (1 ∷ 13 ∷ 16 ∷ []) (h .tag) then scopeOf h else hoistScope path
+
+-- records whose children are all done are left behind; leaving a StaticBlock is a visit
+unfoldable pub settle : Forest → Forest → List Crumb → Store → Spot
+settle done none [] st = over done st
+settle done (more h k r) [] st = at done h k r [] st
+settle done none (crumb h before after ∷ path) st =
+    if isStaticBlock h then leaving done h before after path st
+    else settle (before & one h done) after path st
+settle done (more h k r) (c ∷ path) st = at done h k r (c ∷ path) st
+
+-- the walk goes on with the children of what was entered, and behind what was left
+abbrev pub opened : Forest → Forest → List Crumb → Node × Store → Spot
+opened before after path e = settle none (e .0 .children) (crumb (e .0 .head) before after ∷ path) (e .1)
+
+abbrev pub closed : Forest → Forest → List Crumb → Node × Store → Spot
+closed before after path e = settle (before & one (e .0 .head) (e .0 .children)) after path (e .1)
+
+-- ---- visits
+
+-- the next visit; after the last there is no change
+unfoldable pub visit : Spot → Spot
+visit (over tree st) = over tree st
+visit (at done h k r path st) = opened done r path (enter (currentScope path) (hoistScope path) h k st)
+visit (leaving kids h before after path st) = closed before after path (leave h kids st)
+
+unfoldable pub visits : ℕ → Spot → Spot
+visits zero s = s
+visits (suc k) s = visits k (visit s)
+
+-- to the end, with so many visits at most
+unfoldable pub walk : ℕ → Spot → Spot
+walk zero s = s
+walk (suc n) (over tree st) = over tree st
+walk (suc n) (at done h k r path st) = walk n (visit (at done h k r path st))
+walk (suc n) (leaving kids h before after path st) = walk n (visit (leaving kids h before after path st))
+
+-- the tree just read
+unfoldable pub storeOf : File → Store
+storeOf f =
+    record {
+      mode = f .mode;
+      isModule = f .isModule;
+      scopes = f .scopes;
+      symbols = f .symbols;
+      asRead = f .symbols;
+      helper = 0;
+      contexts = 0;
+    }
+
+unfoldable pub start : File → Spot
+start f = settle none (f .tree) [] (storeOf f)
+
+-- the tree and the store as they stand
+unfoldable pub plug : Forest → List Crumb → Forest
+plug f [] = f
+plug f (crumb h before after ∷ path) = plug (before & more h f after) path
+
+unfoldable pub treeAt : Spot → Forest
+treeAt (over tree st) = tree
+treeAt (at done h k r path st) = plug (done & more h k r) path
+treeAt (leaving kids h before after path st) = plug (before & more h kids after) path
+
+unfoldable pub storeAt : Spot → Store
+storeAt (over tree st) = st
+storeAt (at done h k r path st) = st
+storeAt (leaving kids h before after path st) = st
+
+-- as a file
+unfoldable pub fileAt : Spot → File
+fileAt s =
+    record {
+      mode = storeAt s .mode;
+      isModule = storeAt s .isModule;
+      scopes = storeAt s .scopes;
+      symbols = storeAt s .symbols;
+      tree = treeAt s;
+    }
