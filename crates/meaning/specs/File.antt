@@ -1,8 +1,9 @@
 -- The bytes of a file (01, "The tree file").
 -- Assumes nothing.
 use mathlib.Core.List.{List, [], _∷_, _++_}
-use mathlib.Core.Bool.{Bool, not}
+use mathlib.Core.Bool.{Bool, _||_, _&&_}
 use Prim.Native.Nat.{ℕ, _+_, _*_, _-_, _/_, _%_}
+use lib.Dec.{leb}
 use lib.ListN.{length, take}
 use Rattle.meaning.specs.Tree.{if_then_else_, oneOf, Head, Forest, Row, flatten}
 
@@ -43,7 +44,7 @@ numbersOf t =
 
 -- the records whose last number is n, and how many numbers stand before it
 unfoldable pub hasChildren : ℕ → Bool
-hasChildren t = not (oneOf (20 ∷ 25 ∷ 26 ∷ 28 ∷ 29 ∷ []) t)
+hasChildren t = leb 1 t && leb t 19 || oneOf (24 ∷ 27 ∷ []) t
 
 unfoldable pub ownNumbers : ℕ → ℕ
 ownNumbers t = if hasChildren t then numbersOf t - 1 else numbersOf t
