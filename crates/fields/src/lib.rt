@@ -1,0 +1,157 @@
+// Fields of a tree file: what stands at an offset, whether it may, and which numbers are right.
+use meaning::Field;
+use meaning::Place;
+use meaning::Reading;
+ghost use mathlib.Core.Path.{_≡_};
+ghost use Prim.Native.Nat.{_+_, _≤_};
+ghost use lib.ListN.{getD, length};
+ghost use Rattle.meaning.specs.Tree.{oneOf};
+ghost use Rattle.meaning.specs.File.{numbersOf};
+ghost use Rattle.meaning.specs.Grammar.{statements, expressions, allowed, two, number, fieldAt};
+
+// ---- bytes and fields
+
+// The byte at an offset, or 0 behind the end.
+pub fn byte(file: &[u8], at: usize) -> u8
+    ensures { λ r. ⌜ r ≡ getD (now (file .entry)) at 0 ⌝ }
+{
+    if at < file.len() { file[at] } else { 0 }
+}
+
+// Two bytes as a number, high byte first; a missing byte reads as 0.
+pub fn read_two(file: &[u8], at: usize) -> u16
+    ensures { λ r. ⌜ r ≡ two (now (file .entry)) at ⌝ }
+{
+    let high = byte(file, at);
+    let low = if at < file.len() {
+        byte(file, at + 1)
+    } else {
+        0
+    };
+    (high as u16) * 256 + (low as u16)
+}
+
+// How many numbers a tag has.
+pub fn numbers_of(tag: u8) -> u8
+    ensures { λ r. ⌜ r ≡ numbersOf tag ⌝ }
+{
+    match tag {
+        14 | 18 | 19 | 25 | 26 => 1,
+        1 | 2 | 4 | 5 | 7 | 9 | 10 | 11 | 16 | 20 | 24 | 28 | 40 | 41 => 2,
+        3 | 6 | 8 | 17 | 27 | 29 => 3,
+        12 | 13 | 15 | 42 => 4,
+        _ => 0,
+    }
+}
+
+fn is_statement(tag: u8) -> bool
+    ensures { λ r. ⌜ r ≡ oneOf statements tag ⌝ }
+{
+    match tag {
+        2 | 3 | 4 | 7 | 8 | 9 | 11 | 13 | 15 | 29 => true,
+        _ => false,
+    }
+}
+
+fn is_expression(tag: u8) -> bool
+    ensures { λ r. ⌜ r ≡ oneOf expressions tag ⌝ }
+{
+    match tag {
+        13 | 15 | 24 | 25 | 27 | 28 => true,
+        _ => false,
+    }
+}
+
+// Whether a tag may stand at a place.
+pub fn is_allowed(place: Place, tag: u8) -> bool
+    ensures { λ r. ⌜ r ≡ allowed place tag ⌝ }
+{
+    match place {
+        Place::Settings => tag == 40,
+        Place::ScopeRow => tag == 41,
+        Place::SymbolRow => tag == 42,
+        Place::Program => tag == 1,
+        Place::ProgramItem => match tag {
+            5 | 17 | 18 | 19 => true,
+            _ => is_statement(tag),
+        },
+        Place::ListItem => match tag {
+            5 => true,
+            _ => is_statement(tag),
+        },
+        Place::Statement => is_statement(tag),
+        Place::PlainItem => match tag {
+            24 | 25 | 27 | 28 => true,
+            _ => is_statement(tag),
+        },
+        Place::Declarator => tag == 6,
+        Place::ForOfDeclarator => tag == 6,
+        Place::Name => tag == 26,
+        Place::ForLeft => match tag {
+            5 => true,
+            _ => is_expression(tag),
+        },
+        Place::ForOfLeft => match tag {
+            5 => true,
+            _ => is_expression(tag),
+        },
+        Place::Expression => is_expression(tag),
+        Place::SwitchExpression => is_expression(tag),
+        Place::Case => tag == 10,
+        Place::TryPart => tag == 2,
+        Place::Catch => tag == 12,
+        Place::Body => tag == 14,
+        Place::ClassItem => match tag {
+            16 => true,
+            _ => is_expression(tag),
+        },
+        Place::DefaultExport => is_expression(tag),
+        Place::ExportedDeclaration => match tag {
+            5 | 13 | 15 => true,
+            _ => false,
+        },
+        Place::Specifier => tag == 20,
+    }
+}
+
+// Number i of the field at an offset, or 0 where the field has no such number.
+fn read_number(file: &[u8], at: usize, len: u8, i: u8) -> u16
+    requires { ⌜ at + 3 ≤ length (now file) ⌝ }
+    ensures { λ r. ⌜ r ≡ number (now (file .entry)) at len i ⌝ }
+{
+    if i < len {
+        return read_two(file, at + 3 + 2 * (i as usize));
+    }
+    0
+}
+
+// The field at an offset: head cut, tag, length, payload cut.
+pub fn read_field(file: &[u8], place: Place, at: usize) -> Reading
+    ensures { λ r. ⌜ r ≡ fieldAt (now (file .entry)) place at ⌝ }
+{
+    if file.len() <= at {
+        return Reading::Refused(2, at);
+    }
+    if file.len() - at < 3 {
+        return Reading::Refused(2, at);
+    }
+    let tag = byte(file, at);
+    if !is_allowed(place, tag) {
+        return Reading::Refused(3, at);
+    }
+    let len = numbers_of(tag);
+    if (read_two(file, at + 1) as usize) != 2 * (len as usize) {
+        return Reading::Refused(4, at);
+    }
+    if file.len() - at - 3 < 2 * (len as usize) {
+        return Reading::Refused(2, at);
+    }
+    Reading::Whole(Field {
+        tag: tag,
+        a: read_number(file, at, len, 0),
+        b: read_number(file, at, len, 1),
+        c: read_number(file, at, len, 2),
+        d: read_number(file, at, len, 3),
+        next: at + (3 + 2 * (len as usize)),
+    })
+}
