@@ -52,7 +52,7 @@ split kept moved = record { kept = kept; moved = moved }
 -- the symbols that a Declaration binds, by its Declarators
 unfoldable pub boundNames : Forest → List ℕ
 boundNames none = []
-boundNames (more h k r) = namesIn k ++ boundNames r
+boundNames (more h k r) = (if eqb (h .tag) 6 then namesIn k else []) ++ boundNames r
 
 -- each exported under its own name
 unfoldable pub specifiers : Store → List ℕ → Forest

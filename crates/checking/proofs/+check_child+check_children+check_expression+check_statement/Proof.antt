@@ -1,0 +1,262 @@
+-- The cycle of calls: records and lists of children. Assumes nothing.
+use mathlib.Core.Path.{_≡_, refl, _∙_}
+use Prim.Native.Nat.{ℕ, _+_, _-_, _*_, _≤_, _<_}
+use native.Mathlib.Nat.{sub-zero}
+use lib.ListN.{length}
+use borrow.Author.Needs.{needs}
+use Rattle.meaning.specs.Grammar.{placeOf}
+use Rattle.checking.specs.Flat.{listF, recordF, childrenF}
+use Rattle.checking.proofs.Laws.{record-refused, record-deep, record-inside, list-step, list-stop, list-end}
+use borrow.Fn.Kinds.{In}
+use borrow.Fn.PlainCycle.{Measures, is, falls, and}
+use Rattle.checking.proofs.check_child.Reads as check-child
+use Rattle.checking.proofs.check_child.Kinds as check-child-kinds
+use Rattle.checking.proofs.+check_child+check_children+check_expression+check_statement.Lts-check_child as check-child-lts
+use Rattle.checking.proofs.check_children.Reads as check-children
+use Rattle.checking.proofs.check_children.Kinds as check-children-kinds
+use Rattle.checking.proofs.+check_child+check_children+check_expression+check_statement.Lts-check_children as check-children-lts
+use Rattle.checking.proofs.check_expression.Reads as check-expression
+use Rattle.checking.proofs.check_expression.Kinds as check-expression-kinds
+use Rattle.checking.proofs.+check_child+check_children+check_expression+check_statement.Lts-check_expression as check-expression-lts
+use Rattle.checking.proofs.check_statement.Reads as check-statement
+use Rattle.checking.proofs.check_statement.Kinds as check-statement-kinds
+use Rattle.checking.proofs.+check_child+check_children+check_expression+check_statement.Lts-check_statement as check-statement-lts
+use Rattle.checking.proofs.enter_record.Reads as enter-record-reads
+use Rattle.checking.proofs.refusal.Reads as refusal-reads
+use Rattle.rules.proofs.children_of.Reads as children-of-reads
+use Rattle.rules.proofs.place_of.Reads as place-of-reads
+use Rattle.rules.proofs.scope_in.Reads as scope-in-reads
+use Rattle.rules.proofs.scope_below.Reads as scope-below-reads
+use Rattle.checking.proofs.+check_child+check_children+check_expression+check_statement.{statement}
+use Rattle.checking.proofs.+check_child+check_children+check_expression+check_statement.Tie.{close}
+
+-- a record hands its children a level less; a list asks for its children, and a child for its record, with the same levels
+abbrev μ-check-child : Measures 2 check-child-kinds.ps ℕ
+μ-check-child κs a = 3 * a .1 .1 .1 .1 .1 .1 .0 + 1
+
+abbrev μ-check-children : Measures 2 check-children-kinds.ps ℕ
+μ-check-children κs a = 3 * a .1 .1 .1 .1 .1 .1 .0 + 2
+
+abbrev μ-check-expression : Measures 2 check-expression-kinds.ps ℕ
+μ-check-expression κs a = 3 * a .1 .1 .1 .1 .1 .1 .0
+
+abbrev μ-check-statement : Measures 2 check-statement-kinds.ps ℕ
+μ-check-statement κs a = 3 * a .1 .1 .1 .1 .1 .1 .0
+
+-- what each is given at the measure t, and what a call of it asks below t
+abbrev check-child-at : ℕ → In 2 check-child-kinds.ps
+check-child-at t = and 2 check-child-kinds.ps (is 2 check-child-kinds.ps μ-check-child t) check-child.Pre
+
+abbrev check-child-below : ℕ → In 2 check-child-kinds.ps
+check-child-below t = and 2 check-child-kinds.ps (falls 2 check-child-kinds.ps _<_ μ-check-child t) check-child.Pre
+
+abbrev check-children-at : ℕ → In 2 check-children-kinds.ps
+check-children-at t = and 2 check-children-kinds.ps (is 2 check-children-kinds.ps μ-check-children t) check-children.Pre
+
+abbrev check-children-below : ℕ → In 2 check-children-kinds.ps
+check-children-below t = and 2 check-children-kinds.ps (falls 2 check-children-kinds.ps _<_ μ-check-children t) check-children.Pre
+
+abbrev check-expression-at : ℕ → In 2 check-expression-kinds.ps
+check-expression-at t = and 2 check-expression-kinds.ps (is 2 check-expression-kinds.ps μ-check-expression t) check-expression.Pre
+
+abbrev check-expression-below : ℕ → In 2 check-expression-kinds.ps
+check-expression-below t = and 2 check-expression-kinds.ps (falls 2 check-expression-kinds.ps _<_ μ-check-expression t) check-expression.Pre
+
+abbrev check-statement-at : ℕ → In 2 check-statement-kinds.ps
+check-statement-at t = and 2 check-statement-kinds.ps (is 2 check-statement-kinds.ps μ-check-statement t) check-statement.Pre
+
+abbrev check-statement-below : ℕ → In 2 check-statement-kinds.ps
+check-statement-below t = and 2 check-statement-kinds.ps (falls 2 check-statement-kinds.ps _<_ μ-check-statement t) check-statement.Pre
+
+-- the contracts of what each calls
+abbrev check-child-calls : ℕ → check-child-lts.Claims
+check-child-calls t = (
+  check-expression-below t,
+  check-expression.Post,
+  check-statement-below t,
+  check-statement.Post,
+)
+
+abbrev check-children-calls : ℕ → check-children-lts.Claims
+check-children-calls t = (
+  children-of-reads.Asked,
+  children-of-reads.Learnt,
+  place-of-reads.Asked,
+  place-of-reads.Learnt,
+  check-child-below t,
+  check-child.Post,
+)
+
+abbrev check-expression-calls : ℕ → check-expression-lts.Claims
+check-expression-calls t = (
+  enter-record-reads.Asked,
+  enter-record-reads.Learnt,
+  refusal-reads.Asked,
+  refusal-reads.Learnt,
+  scope-in-reads.Asked,
+  scope-in-reads.Learnt,
+  scope-below-reads.Asked,
+  scope-below-reads.Learnt,
+  check-children-below t,
+  check-children.Post,
+)
+
+abbrev check-statement-calls : ℕ → check-statement-lts.Claims
+check-statement-calls t = (
+  enter-record-reads.Asked,
+  enter-record-reads.Learnt,
+  refusal-reads.Asked,
+  refusal-reads.Learnt,
+  scope-in-reads.Asked,
+  scope-in-reads.Learnt,
+  scope-below-reads.Asked,
+  scope-below-reads.Learnt,
+  check-children-below t,
+  check-children.Post,
+)
+
+check-child-returns : (t : ℕ)
+    → check-child-lts.Need-returns (check-child-calls t) (check-child-at t) check-child.Post
+check-child-returns t c = c .before .before .check-expression .ensures
+
+check-child-returns-2 : (t : ℕ)
+    → check-child-lts.Need-returns-2 (check-child-calls t) (check-child-at t) check-child.Post
+check-child-returns-2 t c = c .before .before .check-statement .ensures
+
+abbrev check-children-Inv-loop : check-children-lts.InvT-loop
+check-children-Inv-loop file marks₀ symbols place x cur levels n at₀ k₀ marks at k =
+    (k ≤ n) × (length marks ≡ length marks₀)
+    × (childrenF levels file symbols place x (cur .0) marks₀
+    ≡ listF (λ j a m. recordF levels file symbols (placeOf place x j) (cur .0) a m) (n - k) k at marks)
+
+abbrev check-children-μ-loop : check-children-lts.MeasureT-loop
+check-children-μ-loop file marks₀ symbols place x cur levels n at₀ k₀ marks at k = n - k
+
+check-children-loop-holds : (t : ℕ)
+    → check-children-lts.Need-loop-holds (check-children-calls t) (check-children-at t) check-children.Post
+    check-children-Inv-loop check-children-μ-loop
+unfolding childrenF
+check-children-loop-holds t c = (search needs, refl, rw (c .children-of .ensures, sub-zero))
+
+check-children-same-length : (t : ℕ)
+    → check-children-lts.Need-same-length (check-children-calls t) (check-children-at t) check-children.Post
+    check-children-Inv-loop check-children-μ-loop
+check-children-same-length t c =
+    let at-check-child = c .before .before .before .before in
+    let at-loop = at-check-child .before .before .before .before in
+    at-check-child .check-child .kept .1 .0 ∙ at-loop .loop .inv .1
+
+check-children-returns : (t : ℕ)
+    → check-children-lts.Need-returns (check-children-calls t) (check-children-at t) check-children.Post
+    check-children-Inv-loop check-children-μ-loop
+check-children-returns t c =
+    let at-check-child = c .before .before .before .before in
+    let at-place-of = at-check-child .before in
+    let at-loop-test = at-place-of .before .before in
+    let at-loop = at-loop-test .before in
+    list-stop _ _ _ _ _ _ (at-loop .loop .inv .2) _ _ _ _ (at-loop-test .loop-test .taken)
+    (rw (← at-place-of .place-of .ensures) (at-check-child .check-child .ensures)) (c .enum-told .given .1)
+
+check-children-loop-again : (t : ℕ)
+    → check-children-lts.Need-loop-again (check-children-calls t) (check-children-at t) check-children.Post
+    check-children-Inv-loop check-children-μ-loop
+check-children-loop-again t c =
+    let at-a = c .before in
+    let at-check-child = at-a .before .before .before .before in
+    let at-place-of = at-check-child .before in
+    let at-loop-test = at-place-of .before .before in
+    let at-loop = at-loop-test .before in (
+      search needs,
+      at-check-child .check-child .kept .1 .0 ∙ at-loop .loop .inv .1,
+      list-step _ _ _ _ _ _ (at-loop .loop .inv .2) _ _ _ (at-loop-test .loop-test .taken)
+          (rw (← at-place-of .place-of .ensures) (at-check-child .check-child .ensures)) (at-a .a .given .1),
+    )
+
+check-children-returns-2 : (t : ℕ)
+    → check-children-lts.Need-returns-2 (check-children-calls t) (check-children-at t) check-children.Post
+    check-children-Inv-loop check-children-μ-loop
+check-children-returns-2 t c =
+    let at-loop = c .before in
+    list-end _ _ _ _ _ _ (at-loop .loop .inv .2) (c .loop-test .left)
+
+check-expression-returns : (t : ℕ)
+    → check-expression-lts.Need-returns (check-expression-calls t) (check-expression-at t) check-expression.Post
+check-expression-returns t c =
+    let at-enum-told = c .before in
+    let at-enter-record = at-enum-told .before .before .before .before in
+    record-refused _ _ _ _ _ _ _ _ _ (at-enter-record .enter-record .ensures) _ _ _ _
+    (at-enum-told .enum-told .given .1) (c .refusal .ensures)
+
+check-expression-returns-2 : (t : ℕ)
+    → check-expression-lts.Need-returns-2 (check-expression-calls t) (check-expression-at t) check-expression.Post
+check-expression-returns-2 t c =
+    let at-read = c .before .before in
+    let at-enter-record = at-read .before .before .before .before in
+    record-deep _ _ _ _ _ _ _ _ _ (at-enter-record .enter-record .ensures) _ (at-read .read .given .1) (c .if1 .taken)
+
+check-expression-returns-3 : (t : ℕ)
+    → check-expression-lts.Need-returns-3 (check-expression-calls t) (check-expression-at t) check-expression.Post
+check-expression-returns-3 t c =
+    let at-check-children = c .before .before in
+    let at-scope-below = at-check-children .before in
+    let at-scope-in = at-scope-below .before in
+    let at-if1 = at-scope-in .before .before in
+    let at-read = at-if1 .before .before in
+    let at-enter-record = at-read .before .before .before .before in
+    record-inside _ _ _ _ _ _ _ _ _ (at-enter-record .enter-record .ensures) _
+    (at-check-children .check-children .result) _ (at-read .read .given .1) (at-if1 .if1 .left)
+    (rw (← at-scope-in .scope-in .ensures, ← at-scope-below .scope-below .ensures)
+    (at-check-children .check-children .ensures))
+
+check-statement-returns : (t : ℕ)
+    → check-statement-lts.Need-returns (check-statement-calls t) (check-statement-at t) check-statement.Post
+check-statement-returns t c =
+    let at-enum-told = c .before in
+    let at-enter-record = at-enum-told .before .before .before .before in
+    record-refused _ _ _ _ _ _ _ _ _ (at-enter-record .enter-record .ensures) _ _ _ _
+    (at-enum-told .enum-told .given .1) (c .refusal .ensures)
+
+check-statement-returns-2 : (t : ℕ)
+    → check-statement-lts.Need-returns-2 (check-statement-calls t) (check-statement-at t) check-statement.Post
+check-statement-returns-2 t c =
+    let at-read = c .before .before in
+    let at-enter-record = at-read .before .before .before .before in
+    record-deep _ _ _ _ _ _ _ _ _ (at-enter-record .enter-record .ensures) _ (at-read .read .given .1) (c .if1 .taken)
+
+check-statement-returns-3 : (t : ℕ)
+    → check-statement-lts.Need-returns-3 (check-statement-calls t) (check-statement-at t) check-statement.Post
+check-statement-returns-3 t c =
+    let at-check-children = c .before .before in
+    let at-scope-below = at-check-children .before in
+    let at-scope-in = at-scope-below .before in
+    let at-if1 = at-scope-in .before .before in
+    let at-read = at-if1 .before .before in
+    let at-enter-record = at-read .before .before .before .before in
+    record-inside _ _ _ _ _ _ _ _ _ (at-enter-record .enter-record .ensures) _
+    (at-check-children .check-children .result) _ (at-read .read .given .1) (at-if1 .if1 .left)
+    (rw (← at-scope-in .scope-in .ensures, ← at-scope-below .scope-below .ensures)
+    (at-check-children .check-children .ensures))
+
+pub +check-child+check-children+check-expression+check-statement-spec : {M : Type 1} → statement M
++check-child+check-children+check-expression+check-statement-spec =
+    close
+    μ-check-child μ-check-children μ-check-expression μ-check-statement
+    (λ t. check-child-lts.spec (check-child-calls t) (check-child-at t) check-child.Post
+    (λ c. search needs) (λ c κs. search needs) (λ c κs. search needs) (λ c. search needs)
+    (check-child-returns t) (λ c. search needs) (check-child-returns-2 t))
+    (λ t. check-children-lts.spec (check-children-calls t) (check-children-at t) check-children.Post
+    check-children-Inv-loop check-children-μ-loop (λ c κs. search needs)
+    (check-children-loop-holds t) (λ c κs. search needs) (λ c κs. search needs)
+    (λ c. search needs) (λ c. search needs) (check-children-same-length t)
+    (check-children-returns t) (λ c. search needs) (λ c. search needs)
+    (check-children-loop-again t) (λ c. search needs) (check-children-returns-2 t))
+    (λ t. check-expression-lts.spec (check-expression-calls t) (check-expression-at t) check-expression.Post
+    (λ c κs. search needs) (λ c. search needs) (λ c. search needs) (λ c κs. search needs)
+    (λ c. search needs) (check-expression-returns t) (λ c. search needs)
+    (check-expression-returns-2 t) (λ c κs. search needs) (λ c κs. search needs)
+    (λ c. search needs) (λ c κs. search needs) (λ c. search needs) (check-expression-returns-3 t))
+    (λ t. check-statement-lts.spec (check-statement-calls t) (check-statement-at t) check-statement.Post
+    (λ c κs. search needs) (λ c. search needs) (λ c. search needs) (λ c κs. search needs)
+    (λ c. search needs) (check-statement-returns t) (λ c. search needs)
+    (check-statement-returns-2 t) (λ c κs. search needs) (λ c κs. search needs)
+    (λ c. search needs) (λ c κs. search needs) (λ c. search needs) (check-statement-returns-3 t))

@@ -1,0 +1,225 @@
+-- Laws of the definitions, for the proofs of the code.
+-- Assumes nothing.
+use mathlib.Core.Path.{_≡_, refl, sym, ap, subst, _∙_}
+use mathlib.Core.Bool.{Bool, true, false}
+use mathlib.Core.List.{List, [], _∷_, _++_}
+use Prim.Native.Nat.{ℕ, zero, suc, _+_, _-_, _*_, _≤_, _<_}
+use native.Mathlib.Omega.{arith}
+use lib.ListN.{length, drop, getD, take, replicate, length-replicate, replicate-append-replicate, drop-of-length-le}
+use lib.Seq.{take-append-seam}
+use lib.Dec.{eqb}
+use borrow.Author.Tests.{ne-eqb, le-leb, lt-leb}
+use Rattle.meaning.specs.Tree.{if_then_else_}
+use Rattle.meaning.specs.Grammar.{scopeOf, headOf, below, unnamed}
+use Rattle.meaning.specs.Reading.{Outcome, refused, _>>=_, readRows, andRows, mostRows}
+use Rattle.meaning.specs.declared.Place.{Place}
+use Rattle.meaning.specs.declared.Place.the-variants.{Program}
+use Rattle.meaning.specs.declared.Field.{Field}
+use Rattle.meaning.specs.declared.Reading.{Reading}
+use Rattle.meaning.specs.declared.Reading.the-variants.{Whole, Refused as RefusedField}
+use Rattle.meaning.specs.declared.Rows.{Rows}
+use Rattle.meaning.specs.declared.Rows.the-variants.{Read, Refused as RefusedRows}
+use Rattle.checking.specs.declared.Answer.{Answer}
+use Rattle.checking.specs.declared.Answer.the-variants.{Next, Refused as RefusedAnswer}
+use Rattle.checking.specs.declared.Checked.{Checked}
+use Rattle.checking.specs.declared.Checked.the-variants.{Fine, Refused as RefusedFile}
+use Rattle.checking.specs.Flat.{
+  Past,
+  entered,
+  past,
+  refusalOf,
+  enterF,
+  listF,
+  recordF,
+  childrenF,
+  rowsRefusal,
+  treeRefusal,
+  checkedOf,
+  endF,
+  treeF,
+}
+
+-- ---- one record: refused on entering, too deep, or its children
+
+-- what the children answer, with levels left
+abbrev kidsF : List ℕ → ℕ → Place → ℕ → ℕ → ℕ → Field → List ℕ → Outcome Past
+kidsF f syms p cur at zero x m = refused 6 at
+kidsF f syms p cur at (suc l) x m = childrenF l f syms p x (below cur (scopeOf (headOf x))) m
+
+record-is : (l : ℕ) (f : List ℕ) (syms : ℕ) (p : Place) (cur at : ℕ) (m : List ℕ)
+    → recordF l f syms p cur at m ≡ enterF f syms p cur at m >>= (λ e. kidsF f syms p cur at l (e .field) (e .marks))
+unfolding recordF childrenF
+record-is zero f syms p cur at m = refl
+record-is (suc l) f syms p cur at m = refl
+
+module _ (l : ℕ) (f : List ℕ) (syms : ℕ) (p : Place) (cur at : ℕ) (m : List ℕ) (d : Reading) (m₁ : List ℕ)
+    (enters : entered d m₁ ≡ enterF f syms p cur at m) where
+  pub record-refused : (c q : ℕ) (a : Answer) (m₂ : List ℕ) → d ≡ RefusedField c q → a ≡ refusalOf d
+      → past a m₂ ≡ recordF l f syms p cur at m
+  record-refused c q a m₂ e r =
+      let w : a ≡ RefusedAnswer c q = rw e at r in
+      rw (record-is l f syms p cur at m, ← enters, e, w)
+
+  pub record-deep : (x : Field) → d ≡ Whole x → l ≡ 0 → refused 6 at ≡ recordF l f syms p cur at m
+  record-deep x e z = rw (record-is l f syms p cur at m, ← enters, e, z)
+
+  pub record-inside : (x : Field) (a : Answer) (m₂ : List ℕ) → d ≡ Whole x → (l ≡ 0 → ⊥)
+      → past a m₂ ≡ childrenF (l - 1) f syms p x (below cur (scopeOf (headOf x))) m₁
+      → past a m₂ ≡ recordF l f syms p cur at m
+  record-inside x a m₂ e z h =
+      let s : l ≡ suc (l - 1) = omega arith in
+      rw (record-is l f syms p cur at m, ← enters, e)
+      (subst (λ (k : ℕ). past a m₂ ≡ kidsF f syms p cur at k x m₁) (sym s) h)
+
+-- ---- records in a row
+
+abbrev One : Type 0
+One = ℕ → ℕ → List ℕ → Outcome Past
+
+module _ (one : One) (n k p : ℕ) (m : List ℕ) (r : Outcome Past) (so-far : r ≡ listF one (n - k) k p m) where
+  pub list-step : (q : ℕ) (m₁ : List ℕ) (a : Answer) → k < n → past a m₁ ≡ one k p m → a ≡ Next q
+      → r ≡ listF one (n - (k + 1)) (k + 1) q m₁
+  unfolding listF
+  list-step q m₁ a h i j =
+      let s : n - k ≡ suc (n - (k + 1)) = omega arith in
+      rw (s, ← i, j) at so-far
+
+  pub list-stop : (c d : ℕ) (m₁ : List ℕ) (a : Answer) → k < n → past a m₁ ≡ one k p m → a ≡ RefusedAnswer c d
+      → past a m₁ ≡ r
+  unfolding listF
+  list-stop c d m₁ a h i j =
+      let s : n - k ≡ suc (n - (k + 1)) = omega arith in
+      let w : r ≡ refused c d = rw (s, ← i, j) at so-far in
+      rw (j, w)
+
+  pub list-end : n ≤ k → past (Next p) m ≡ r
+  unfolding listF
+  list-end h = let s : n - k ≡ 0 = omega arith in rw s at (sym so-far)
+
+-- ---- the rows before the tree
+
+module _ (again : ℕ → ℕ → Bool) (one : ℕ → ℕ → Reading) (n k at : ℕ) (r : Rows)
+    (so-far : r ≡ readRows again one (n - k) k at) where
+  pub rows-stop : (b : Bool) → k < n → b ≡ again k at → b ≡ false → Read k at ≡ r
+  unfolding readRows
+  rows-stop b h eb bf =
+      let s : n - k ≡ suc (n - (k + 1)) = omega arith in
+      let w : r ≡ Read k at = rw (s, ← eb, bf) at so-far in
+      sym w
+
+  pub rows-step : (b : Bool) (d : Reading) (x : Field) → k < n → b ≡ again k at → b ≡ true → d ≡ one k at → d ≡ Whole x
+      → r ≡ readRows again one (n - (k + 1)) (k + 1) (x .next)
+  unfolding readRows
+  rows-step b d x h eb bt ed dw =
+      let s : n - k ≡ suc (n - (k + 1)) = omega arith in
+      rw (s, ← eb, bt, ← ed, dw) at so-far
+
+  pub rows-bad : (b : Bool) (d : Reading) (c p : ℕ) (q : Rows) → k < n → b ≡ again k at → b ≡ true → d ≡ one k at
+      → d ≡ RefusedField c p → q ≡ rowsRefusal d → q ≡ r
+  unfolding readRows
+  rows-bad b d c p q h eb bt ed dw eq =
+      let s : n - k ≡ suc (n - (k + 1)) = omega arith in
+      let w : r ≡ RefusedRows c p = rw (s, ← eb, bt, ← ed, dw) at so-far in
+      let v : q ≡ RefusedRows c p = rw dw at eq in
+      v ∙ sym w
+
+  pub rows-end : n ≤ k → Read k at ≡ r
+  unfolding readRows
+  rows-end h = let s : n - k ≡ 0 = omega arith in rw s at (sym so-far)
+
+-- no more than the most rows
+abbrev Few : ℕ → Rows → Type 0
+Few b (Read k at) = k ≤ b
+Few b (RefusedRows c p) = Unit {0}
+
+few-if : (b : Bool) (n : ℕ) (x y : Rows) → Few n x → Few n y → Few n (if b then x else y)
+few-if true n x y hx hy = hx
+few-if false n x y hx hy = hy
+
+few-field : (d : Reading) (n : ℕ) (g : Field → Rows) → ((x : Field) → Few n (g x)) → Few n (andRows d g)
+few-field (Whole x) n g h = h x
+few-field (RefusedField c p) n g h = tt
+
+rows-few : (again : ℕ → ℕ → Bool) (one : ℕ → ℕ → Reading) (n k b at : ℕ) → k + n ≤ b → Few b (readRows again one n k at)
+unfolding readRows
+rows-few again one zero k b at h = omega arith
+rows-few again one (suc n) k b at h =
+    few-if (again k at) b _ _
+    (few-field (one k at) b _ (λ x. rows-few again one n (k + 1) b (x .next) (omega arith)))
+    (omega arith)
+
+pub few : (again : ℕ → ℕ → Bool) (one : ℕ → ℕ → Reading) (at : ℕ) (d : Rows) (k p : ℕ)
+    → d ≡ readRows again one mostRows 0 at → d ≡ Read k p → k ≤ mostRows
+few again one at d k p e w = subst (Few mostRows) (sym e ∙ w) (rows-few again one mostRows 0 mostRows at (omega arith))
+
+-- ---- the lowest unnamed row
+
+unnamed-turn : (m : List ℕ) (i : ℕ) → unnamed (drop i m) ≡ (if eqb (getD m i 0) 0 then 0 else 1 + unnamed (drop (suc i) m))
+unfolding unnamed
+unnamed-turn [] zero = refl
+unnamed-turn [] (suc i) = refl
+unnamed-turn (x ∷ m) zero = refl
+unnamed-turn (x ∷ m) (suc i) = unnamed-turn m i
+
+module _ (m : List ℕ) (i u : ℕ) (so-far : u ≡ i + unnamed (drop i m)) where
+  pub unnamed-here : getD m i 0 ≡ 0 → i ≡ u
+  unnamed-here h =
+      let t : unnamed (drop i m) ≡ 0 =
+      unnamed-turn m i ∙ ap (λ (n : ℕ). if eqb n 0 then 0 else 1 + unnamed (drop (suc i) m)) h in
+      omega arith
+
+  pub unnamed-step : (getD m i 0 ≡ 0 → ⊥) → u ≡ (i + 1) + unnamed (drop (i + 1) m)
+  unnamed-step h =
+      let t : unnamed (drop i m) ≡ 1 + unnamed (drop (suc i) m) =
+      unnamed-turn m i ∙ ap (λ (b : Bool). if b then 0 else 1 + unnamed (drop (suc i) m)) (ne-eqb _ _ h) in
+      let s : i + 1 ≡ suc i = omega arith in
+      rw s (omega arith)
+
+  pub unnamed-end : length m ≤ i → i ≡ u
+  unfolding unnamed
+  unnamed-end h = let t : unnamed (drop i m) ≡ 0 = ap unnamed (drop-of-length-le m h) in omega arith
+
+-- ---- behind the tree
+
+module _ (f : List ℕ) (syms at : ℕ) (m₀ m : List ℕ) (a : Answer) (answered : past a m ≡ recordF 64 f syms Program 0 at m₀) where
+  ends : treeF f syms at m₀ ≡ checkedOf (endF f (length m₀) (past a m))
+  unfolding treeF
+  ends = sym (ap (λ (o : Outcome Past). checkedOf (endF f (length m₀) o)) answered)
+
+  pub tree-refused : (r : Checked) (c p : ℕ) → a ≡ RefusedAnswer c p → r ≡ treeRefusal a → r ≡ treeF f syms at m₀
+  unfolding endF
+  tree-refused r c p e t = let w : r ≡ RefusedFile c p = rw e at t in rw (ends, e, w)
+
+  module _ (q : ℕ) (next : a ≡ Next q) where
+    pub tree-more : q < length f → RefusedFile 7 q ≡ treeF f syms at m₀
+    unfolding endF
+    tree-more h = rw (ends, next, lt-leb _ _ h)
+
+    module _ (u : ℕ) (whole : length f ≤ q) (lowest : u ≡ unnamed m) (marks : length m ≡ length m₀) where
+      pub tree-unnamed : u < length m → RefusedFile 5 (7 + 7 * u) ≡ treeF f syms at m₀
+      unfolding endF
+      tree-unnamed h = rw (ends, next, le-leb _ _ whole, ← lowest, ← marks, lt-leb _ _ h)
+
+      pub tree-fine : length m ≤ u → Fine ≡ treeF f syms at m₀
+      unfolding endF
+      tree-fine h = rw (ends, next, le-leb _ _ whole, ← lowest, ← marks, le-leb _ _ h)
+
+-- ---- marks of zeros
+
+zeros : (k d : ℕ) → take {A = ℕ} k (replicate {A = ℕ} (k + d) 0) ≡ replicate k 0
+zeros k d =
+    ap (take {A = ℕ} k) (sym (replicate-append-replicate k d 0))
+    ∙ ap (λ (j : ℕ). take {A = ℕ} j (replicate k 0 ++ replicate d 0)) (sym (length-replicate k 0))
+    ∙ take-append-seam (replicate k 0) (replicate d 0)
+
+module _ (k : ℕ) (fits : k ≤ mostRows) where
+  pub take-zeros : take {A = ℕ} k (replicate {A = ℕ} mostRows 0) ≡ replicate k 0
+  take-zeros =
+      let e : mostRows ≡ k + (mostRows - k) = omega arith in
+      ap (λ (n : ℕ). take {A = ℕ} k (replicate {A = ℕ} n 0)) e ∙ zeros k (mostRows - k)
+
+  pub zeros-length : k ≡ length (take {A = ℕ} k (replicate {A = ℕ} mostRows 0))
+  zeros-length = sym (ap length take-zeros ∙ length-replicate k 0)
+
+  pub zeros-few : length (take {A = ℕ} k (replicate {A = ℕ} mostRows 0)) ≤ mostRows
+  zeros-few = omega (arith, zeros-length)

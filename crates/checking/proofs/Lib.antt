@@ -1,0 +1,3 @@
+-- Laws of the definitions, and what ties them to the reader.
+pub mod Laws
+pub mod Link

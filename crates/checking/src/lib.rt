@@ -1,0 +1,395 @@
+// Checking a tree file on its bytes.
+use meaning::Field;
+use meaning::Place;
+use meaning::Reading;
+use meaning::Rows;
+use meaning::ScopeId;
+ghost use mathlib.Core.Path.{_≡_};
+ghost use mathlib.Core.Bool.{_||_};
+ghost use Prim.Native.Nat.{_≤_};
+ghost use lib.ListN.{getD, length, replicate};
+ghost use lib.Dec.{eqb};
+ghost use Rattle.meaning.specs.Tree.{if_then_else_};
+ghost use Rattle.meaning.specs.Grammar.{mayName, naming, unnamed};
+ghost use Rattle.meaning.specs.Reading.{scopeAt, symbolAt, readScopes, readSymbols, readFile};
+ghost use Rattle.checking.specs.Flat.{entered, enterF, refusalOf, past, recordF, childrenF, rowsRefusal, treeF, treeRefusal, fileF, fileRefusal, fileRows, checkedOf};
+
+// The offset behind what was checked, or a refusal's number and place.
+enum Answer {
+    Next(usize),
+    Refused(u8, usize),
+}
+
+// What a check answers: fine, or a refusal's number and place.
+pub enum Checked {
+    Fine,
+    Refused(u8, usize),
+}
+
+// ---- one record
+
+// Marks row s as named, if a record below the scope `cur` may name it; row 0 is none.
+fn name_scope(file: &[u8], marks: &mut [u8], cur: ScopeId, s: ScopeId) -> bool
+    ensures told { λ r. ⌜ r ≡ mayName (now (file .entry)) (cur .0) (now (marks .entry)) (s .0) ⌝ }
+    ensures marked { λ r. ⌜ now (marks .exit) ≡ (if mayName (now (file .entry)) (cur .0) (now (marks .entry)) (s .0) then naming (now (marks .entry)) (s .0) else now (marks .entry)) ⌝ }
+{
+    let n = s.0 as usize;
+    if n == 0 {
+        return true;
+    }
+    if marks.len() < n {
+        return false;
+    }
+    if fields::read_two(file, 7 * n + 3) != cur.0 {
+        return false;
+    }
+    if marks[n - 1] != 0 {
+        return false;
+    }
+    marks[n - 1] = 1;
+    true
+}
+
+// The field of a record, its numbers right and its scope row named: the checks 2 to 5.
+fn enter_record(
+    file: &[u8],
+    marks: &mut [u8],
+    symbols: usize,
+    place: Place,
+    cur: ScopeId,
+    at: usize,
+) -> Reading
+    ensures { λ r. ⌜ entered r (now (marks .exit)) ≡ enterF (now (file .entry)) symbols place (cur .0) at (now (marks .entry)) ⌝ }
+{
+    let read = fields::read_field(file, place, at);
+    let Reading::Whole(x) = read else {
+        return read;
+    };
+    if !rules::is_right(place, symbols, x) {
+        return Reading::Refused(5, at);
+    }
+    if !name_scope(file, marks, cur, rules::scope_in(x)) {
+        return Reading::Refused(5, at);
+    }
+    read
+}
+
+// A refusal handed on.
+fn refusal(r: Reading) -> Answer
+    ensures { λ q. ⌜ q ≡ refusalOf r ⌝ }
+{
+    match r {
+        Reading::Whole(_) => Answer::Refused(0, 0),
+        Reading::Refused(c, p) => Answer::Refused(c, p),
+    }
+}
+
+// ---- the cycle: a record's children are statements, expressions and parts of them
+
+// A record at a place that is no expression's.
+fn check_statement(
+    file: &[u8],
+    marks: &mut [u8],
+    symbols: usize,
+    place: Place,
+    cur: ScopeId,
+    at: usize,
+    levels: u16,
+) -> Answer
+    ensures { λ r. ⌜ past r (now (marks .exit)) ≡ recordF levels (now (file .entry)) symbols place (cur .0) at (now (marks .entry)) ⌝ }
+{
+    let read = enter_record(file, marks, symbols, place, cur, at);
+    let Reading::Whole(x) = read else {
+        return refusal(read);
+    };
+    if levels == 0 {
+        return Answer::Refused(6, at);
+    }
+    check_children(
+        file,
+        marks,
+        symbols,
+        place,
+        x,
+        rules::scope_below(cur, rules::scope_in(x)),
+        levels - 1,
+    )
+}
+
+// An expression.
+fn check_expression(
+    file: &[u8],
+    marks: &mut [u8],
+    symbols: usize,
+    place: Place,
+    cur: ScopeId,
+    at: usize,
+    levels: u16,
+) -> Answer
+    ensures { λ r. ⌜ past r (now (marks .exit)) ≡ recordF levels (now (file .entry)) symbols place (cur .0) at (now (marks .entry)) ⌝ }
+{
+    let read = enter_record(file, marks, symbols, place, cur, at);
+    let Reading::Whole(x) = read else {
+        return refusal(read);
+    };
+    if levels == 0 {
+        return Answer::Refused(6, at);
+    }
+    check_children(
+        file,
+        marks,
+        symbols,
+        place,
+        x,
+        rules::scope_below(cur, rules::scope_in(x)),
+        levels - 1,
+    )
+}
+
+// A child at its place.
+fn check_child(
+    file: &[u8],
+    marks: &mut [u8],
+    symbols: usize,
+    place: Place,
+    cur: ScopeId,
+    at: usize,
+    levels: u16,
+) -> Answer
+    ensures { λ r. ⌜ past r (now (marks .exit)) ≡ recordF levels (now (file .entry)) symbols place (cur .0) at (now (marks .entry)) ⌝ }
+{
+    match place {
+        Place::Expression => check_expression(file, marks, symbols, place, cur, at, levels),
+        _ => check_statement(file, marks, symbols, place, cur, at, levels),
+    }
+}
+
+// The children of a record at `place`, one after another.
+fn check_children(
+    file: &[u8],
+    marks: &mut [u8],
+    symbols: usize,
+    place: Place,
+    x: Field,
+    cur: ScopeId,
+    levels: u16,
+) -> Answer
+    ensures { λ r. ⌜ past r (now (marks .exit)) ≡ childrenF levels (now (file .entry)) symbols place x (cur .0) (now (marks .entry)) ⌝ }
+{
+    let n = rules::children_of(x);
+    let mut at = x.next;
+    let mut k: u16 = 0;
+    while k < n {
+        let a = check_child(
+            file,
+            marks,
+            symbols,
+            rules::place_of(place, x, k),
+            cur,
+            at,
+            levels,
+        );
+        let Answer::Next(next) = a else {
+            return a;
+        };
+        at = next;
+        k += 1;
+    }
+    Answer::Next(at)
+}
+
+// ---- the rows before the tree
+
+fn rows_refusal(r: Reading) -> Rows
+    ensures { λ q. ⌜ q ≡ rowsRefusal r ⌝ }
+{
+    match r {
+        Reading::Whole(_) => Rows::Refused(0, 0),
+        Reading::Refused(c, p) => Rows::Refused(c, p),
+    }
+}
+
+// Scope row k, counted from 0.
+fn read_scope(file: &[u8], k: usize, at: usize) -> Reading
+    ensures { λ r. ⌜ r ≡ scopeAt (now (file .entry)) k at ⌝ }
+{
+    let read = fields::read_field(file, Place::ScopeRow, at);
+    let Reading::Whole(x) = read else {
+        return read;
+    };
+    if !rules::scope_right(k, x) {
+        return Reading::Refused(5, at);
+    }
+    read
+}
+
+fn read_symbol(file: &[u8], scopes: usize, at: usize) -> Reading
+    ensures { λ r. ⌜ r ≡ symbolAt (now (file .entry)) scopes at ⌝ }
+{
+    let read = fields::read_field(file, Place::SymbolRow, at);
+    let Reading::Whole(x) = read else {
+        return read;
+    };
+    if !rules::symbol_right(scopes, x) {
+        return Reading::Refused(5, at);
+    }
+    read
+}
+
+fn more_scopes(file: &[u8], k: usize, at: usize) -> bool
+    ensures { λ r. ⌜ r ≡ (eqb k 0 || eqb (getD (now (file .entry)) at 0) 41) ⌝ }
+{
+    if k == 0 {
+        return true;
+    }
+    fields::byte(file, at) == 41
+}
+
+fn more_symbols(file: &[u8], at: usize) -> bool
+    ensures { λ r. ⌜ r ≡ eqb (getD (now (file .entry)) at 0) 42 ⌝ }
+{
+    fields::byte(file, at) == 42
+}
+
+fn read_scopes(file: &[u8], from: usize) -> Rows
+    ensures { λ r. ⌜ r ≡ readScopes (now (file .entry)) from ⌝ }
+{
+    let mut k: usize = 0;
+    let mut at: usize = from;
+    while k < 9362 {
+        if !more_scopes(file, k, at) {
+            return Rows::Read(k, at);
+        }
+        let read = read_scope(file, k, at);
+        let Reading::Whole(x) = read else {
+            return rows_refusal(read);
+        };
+        at = x.next;
+        k += 1;
+    }
+    Rows::Read(k, at)
+}
+
+fn read_symbols(file: &[u8], scopes: usize, from: usize) -> Rows
+    ensures { λ r. ⌜ r ≡ readSymbols (now (file .entry)) scopes from ⌝ }
+{
+    let mut k: usize = 0;
+    let mut at: usize = from;
+    while k < 9362 {
+        if !more_symbols(file, at) {
+            return Rows::Read(k, at);
+        }
+        let read = read_symbol(file, scopes, at);
+        let Reading::Whole(x) = read else {
+            return rows_refusal(read);
+        };
+        at = x.next;
+        k += 1;
+    }
+    Rows::Read(k, at)
+}
+
+// ---- the whole file
+
+// The lowest row without a mark, counted from 0, or the number of rows.
+fn first_unnamed(marks: &[u8]) -> usize
+    ensures { λ r. ⌜ r ≡ unnamed (now (marks .entry)) ⌝ }
+{
+    let mut i = 0;
+    while i < marks.len() {
+        if marks[i] == 0 {
+            return i;
+        }
+        i += 1;
+    }
+    i
+}
+
+// The tree, what stands behind it, and the lowest unnamed row.
+fn check_tree(file: &[u8], marks: &mut [u8], symbols: usize, at: usize) -> Checked
+    requires { ⌜ length (now marks) ≤ 9362 ⌝ }
+    ensures { λ r. ⌜ r ≡ treeF (now (file .entry)) symbols at (now (marks .entry)) ⌝ }
+{
+    let a = check_statement(file, marks, symbols, Place::Program, ScopeId(0), at, 64);
+    let Answer::Next(next) = a else {
+        return tree_refusal(a);
+    };
+    if next < file.len() {
+        return Checked::Refused(7, next);
+    }
+    let u = first_unnamed(marks);
+    if u < marks.len() {
+        return Checked::Refused(5, 7 + 7 * u);
+    }
+    Checked::Fine
+}
+
+fn tree_refusal(a: Answer) -> Checked
+    ensures { λ q. ⌜ q ≡ treeRefusal a ⌝ }
+{
+    match a {
+        Answer::Next(_) => Checked::Fine,
+        Answer::Refused(c, p) => Checked::Refused(c, p),
+    }
+}
+
+// The same, with no row marked.
+fn check_unmarked(file: &[u8], scopes: usize, symbols: usize, at: usize) -> Checked
+    requires { ⌜ scopes ≤ 9362 ⌝ }
+    ensures { λ r. ⌜ r ≡ treeF (now (file .entry)) symbols at (replicate scopes 0) ⌝ }
+{
+    let mut marks = [0u8; 9362];
+    check_tree(file, &mut marks[..scopes], symbols, at)
+}
+
+fn file_refusal(r: Reading) -> Checked
+    ensures { λ q. ⌜ q ≡ fileRefusal r ⌝ }
+{
+    match r {
+        Reading::Whole(_) => Checked::Fine,
+        Reading::Refused(c, p) => Checked::Refused(c, p),
+    }
+}
+
+fn rows_refused(r: Rows) -> Checked
+    ensures { λ q. ⌜ q ≡ fileRows r ⌝ }
+{
+    match r {
+        Rows::Read(_, _) => Checked::Fine,
+        Rows::Refused(c, p) => Checked::Refused(c, p),
+    }
+}
+
+fn check_file(file: &[u8]) -> Checked
+    ensures { λ r. ⌜ r ≡ fileF (now (file .entry)) ⌝ }
+{
+    if 65535 < file.len() {
+        return Checked::Refused(1, 65535);
+    }
+    let read = fields::read_field(file, Place::Settings, 0);
+    let Reading::Whole(s) = read else {
+        return file_refusal(read);
+    };
+    if 2 < s.a {
+        return Checked::Refused(5, 0);
+    }
+    if 1 < s.b {
+        return Checked::Refused(5, 0);
+    }
+    let scopes = read_scopes(file, s.next);
+    let Rows::Read(n, at) = scopes else {
+        return rows_refused(scopes);
+    };
+    let symbols = read_symbols(file, n, at);
+    let Rows::Read(m, tree) = symbols else {
+        return rows_refused(symbols);
+    };
+    check_unmarked(file, n, m, tree)
+}
+
+// Checks a tree file: fine, or 01's refusal with its place.
+pub fn check(file: &[u8]) -> Checked
+    ensures { λ r. ⌜ r ≡ checkedOf (readFile (now (file .entry))) ⌝ }
+{
+    check_file(file)
+}
