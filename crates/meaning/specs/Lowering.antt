@@ -37,6 +37,12 @@ checkFile bytes = do
   checkMode f
   accepted f
 
+-- what figures alone answer
+unfoldable pub figuresOf : List ℕ → Outcome Figures
+figuresOf bytes = do
+  f ← checkFile bytes
+  accepted (finalFigures f)
+
 -- up to 9
 unfoldable pub admit : List ℕ → Lent → Outcome File
 admit bytes lent = do

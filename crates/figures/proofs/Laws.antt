@@ -1,0 +1,43 @@
+-- The figures of a tally, summed in parts.
+-- Assumes nothing.
+use mathlib.Core.Path.{_≡_, refl}
+use Prim.Native.Nat.{ℕ, _+_, _*_}
+use native.Mathlib.Omega.{arith}
+use Rattle.tallies.specs.Tally.{tallyFigures}
+use Rattle.tallies.specs.declared.Tally.{Tally}
+use Rattle.figures.specs.declared.FinalFigures.{FinalFigures}
+use Rattle.figures.specs.Figures.{helperF, finalF}
+
+-- what each part of the sums is
+pub record Parts (mode : ℕ) (t : Tally) (contexts helper cb fb ib cr fr ir scopes cs is : ℕ) : Type 0 where
+  pub are-contexts : contexts ≡ t .blocks + t .parts
+  pub is-helper : helper ≡ helperF mode contexts
+  pub context-bytes : cb ≡ t .bytes + 126 * t .blocks + 140 * t .parts + 9 * t .wrapped
+  pub for-of-bytes : fb ≡ 37 * t .«for_ofs» + 51 * t .«for_of_blocks» + 14 * t .programs
+  pub item-bytes : ib ≡ 32 * t .classes + 43 * t .exports + 4 * t .declarations + 7 * t .names
+  pub context-records : cr ≡ t .records + 11 * t .blocks + 12 * t .parts + t .wrapped
+  pub for-of-records : fr ≡ 4 * t .«for_ofs» + 5 * t .«for_of_blocks» + t .programs
+  pub item-records : ir ≡ 3 * t .classes + 4 * t .exports + t .names
+  pub new-scopes : scopes ≡ 3 * t .blocks + 4 * t .parts + t .«for_of_blocks» + t .programs
+  pub context-symbols : cs ≡ 2 * t .blocks + 2 * t .parts + t .«for_ofs»
+  pub item-symbols : is ≡ t .«for_of_blocks» + t .classes + t .exports
+
+pub final-is : {mode : ℕ} {t : Tally} {contexts helper cb fb ib cr fr ir ns cs is : ℕ} (scopes symbols : ℕ)
+    → Parts mode t contexts helper cb fb ib cr fr ir ns cs is
+    → _≡_ {A = FinalFigures}
+    (record {
+      records = cr + fr + ir;
+      scopes = scopes + ns;
+      symbols = symbols + (cs + is) + helper;
+      contexts = contexts;
+      bytes = 7 + 7 * scopes + 11 * symbols + (cb + fb + ib) + 11 * helper;
+    })
+    (finalF mode scopes symbols t)
+unfolding finalF tallyFigures
+final-is {mode} {t} {contexts} {helper} {cb} {fb} {ib} {cr} {fr} {ir} {ns} {cs} {is} scopes symbols p =
+    let h : helper ≡ helperF mode (t .blocks + t .parts) = rw (p .are-contexts) at (p .is-helper) in
+    let records : cr + fr + ir ≡ finalF mode scopes symbols t .records = omega arith in
+    let scopes′ : scopes + ns ≡ finalF mode scopes symbols t .scopes = omega arith in
+    let symbols′ : symbols + (cs + is) + helper ≡ finalF mode scopes symbols t .symbols = omega arith in
+    let bytes : 7 + 7 * scopes + 11 * symbols + (cb + fb + ib) + 11 * helper ≡ finalF mode scopes symbols t .bytes = omega arith in
+    λ i. record { records = records i; scopes = scopes′ i; symbols = symbols′ i; contexts = p .are-contexts i; bytes = bytes i }

@@ -1,0 +1,43 @@
+-- 01's figures of a file, from its mode, its rows and the tally of its tree.
+-- Assumes nothing.
+use mathlib.Core.Bool.{Bool, not, _&&_}
+use Prim.Native.Nat.{ℕ, _+_, _*_}
+use lib.Dec.{eqb, leb}
+use Rattle.meaning.specs.Tree.{if_then_else_}
+use Rattle.meaning.specs.Charges.{Figures}
+use Rattle.meaning.specs.Reading.{Outcome, accepted, refused}
+use Rattle.tallies.specs.Tally.{tallyFigures}
+use Rattle.tallies.specs.declared.Tally.{Tally}
+use Rattle.figures.specs.declared.FinalFigures.{FinalFigures}
+use Rattle.figures.specs.declared.Figured.{Figured}
+use Rattle.figures.specs.declared.Figured.the-variants.{Fine, Refused}
+
+-- the runtime helper, once, if there is a context
+unfoldable pub helperF : ℕ → ℕ → ℕ
+helperF mode contexts = if eqb mode 0 && not (eqb contexts 0) then 1 else 0
+
+unfoldable pub finalF : ℕ → ℕ → ℕ → Tally → FinalFigures
+finalF mode scopes symbols t =
+    let g = tallyFigures t in
+    let h = helperF mode (g .contexts) in
+    record {
+      records = g .records;
+      scopes = scopes + g .scopes;
+      symbols = symbols + g .symbols + h;
+      contexts = g .contexts;
+      bytes = 7 + 7 * scopes + 11 * symbols + g .bytes + 11 * h;
+    }
+
+-- 8: inline with a context to make
+unfoldable pub figuredF : ℕ → ℕ → ℕ → Tally → Figured
+figuredF mode scopes symbols t =
+    if eqb mode 2 && leb 1 (tallyFigures t .contexts) then Refused 8 0 else Fine (finalF mode scopes symbols t)
+
+-- 01's answer: the figures, or number and place
+abbrev pub shownFigures : Figures → FinalFigures
+shownFigures g =
+    record { records = g .records; scopes = g .scopes; symbols = g .symbols; contexts = g .contexts; bytes = g .bytes }
+
+abbrev pub figuredOf : Outcome Figures → Figured
+figuredOf (accepted g) = Fine (shownFigures g)
+figuredOf (refused c p) = Refused c p

@@ -1,0 +1,13 @@
+-- `tallies::add_record` meets its contract. Assumes nothing.
+use mathlib.Core.Path.{ap, _∙_}
+use Rattle.tallies.specs.Tally.{cap, _⊞_}
+use Rattle.tallies.specs.declared.Tally.{Tally}
+use borrow.Author.Needs.{needs}
+use Rattle.tallies.proofs.add_record.Statement.{statement}
+use Rattle.tallies.proofs.add_record.Tie as tie
+
+returns : tie.Need-returns
+returns c = c .both .ensures ∙ ap (λ (t : Tally). cap (c .before .before .args .before ⊞ t)) (c .before .own-tally .ensures)
+
+pub add-record-spec : {M : Type 1} → statement M
+add-record-spec = tie.close (tie.spec (λ c κs. search needs) (λ c κs. search needs) returns)

@@ -1,0 +1,29 @@
+-- `tallies::up_index` meets its contract. Assumes nothing.
+use Rattle.tallies.specs.Tally.{upIndex}
+use borrow.Author.Needs.{needs}
+use Rattle.tallies.proofs.up_index.Statement.{statement}
+use Rattle.tallies.proofs.up_index.Tie as tie
+
+pub up-index-spec : {M : Type 1} → statement M
+unfolding upIndex
+up-index-spec =
+    tie.close
+    (tie.spec
+    (λ c. search needs)
+    (λ c. search needs)
+    (λ c. search needs)
+    (λ c. search needs)
+    (λ c. search needs)
+    (λ c. search needs)
+    (λ c. search needs)
+    (λ c. search needs)
+    (λ c. search needs)
+    (λ c. rw (c .enum-told .given .1))
+    (λ c. rw (c .enum-told2 .given .1))
+    (λ c. rw (c .enum-told3 .given .1))
+    (λ c. rw (c .enum-told4 .given .1))
+    (λ c. rw (c .enum-told5 .given .1))
+    (λ c. rw (c .enum-told6 .given .1))
+    (λ c. rw (c .enum-told7 .given .1))
+    (λ c. rw (c .enum-told8 .given .1))
+    (λ c. rw (c .enum-told9 .given .1)))

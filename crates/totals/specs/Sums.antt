@@ -1,0 +1,71 @@
+-- Figures and their sums: a tally's, and those of lines.
+-- Assumes nothing.
+use mathlib.Core.Path.{_≡_}
+use mathlib.Core.Bool.{false, _&&_}
+use mathlib.Core.List.{List, [], _∷_, _++_}
+use Prim.Native.Nat.{ℕ, _+_, _*_}
+use native.Mathlib.Omega.{arith}
+use lib.Dec.{eqb}
+use Rattle.meaning.specs.Tree.{if_then_else_, Forest, none, more}
+use Rattle.meaning.specs.Statements.{anyUsing}
+use Rattle.meaning.specs.Charges.{Line, Figures, figures, _⊕_, total, itemLines}
+use Rattle.tallies.specs.declared.Tally.{Tally}
+use Rattle.tallies.specs.Tally.{tallyFigures}
+
+abbrev pub Same : Figures → Figures → Type 0
+Same x y =
+    (x .records ≡ y .records) × (x .scopes ≡ y .scopes) × (x .symbols ≡ y .symbols)
+    × (x .contexts ≡ y .contexts) × (x .bytes ≡ y .bytes)
+
+pub figures-same : (x y : Figures) → Same x y → x ≡ y
+figures-same x y e = λ i. record { records = e .0 i; scopes = e .1 i; symbols = e .2 i; contexts = e .3 i; bytes = e .4 i }
+
+pub total-++ : (xs ys : List Line) → Same (total (xs ++ ys)) (total xs ⊕ total ys)
+unfolding total
+total-++ [] ys = omega arith
+total-++ (x ∷ xs) ys = omega (arith, total-++ xs ys)
+
+pub total-three : (xs ys zs : List Line) → Same (total (xs ++ (ys ++ zs))) (total xs ⊕ total ys ⊕ total zs)
+total-three xs ys zs = omega (arith, total-++ xs (ys ++ zs), total-++ ys zs)
+
+-- ---- a tally's figures
+
+-- contexts of Block statements, and others; wrapped initializers; lowered Programs
+abbrev pub contextFigures : ℕ → ℕ → ℕ → ℕ → Figures
+contextFigures x y w p =
+    figures (11 * x + 12 * y + w + p) (3 * x + 4 * y + p) (2 * x + 2 * y) (x + y) (126 * x + 140 * y + 9 * w + 14 * p)
+
+-- ForOfs whose using goes into the body, and those whose body is wrapped
+abbrev pub forOfFigures : ℕ → ℕ → Figures
+forOfFigures x y = figures (4 * x + 5 * y) y (x + y) 0 (37 * x + 51 * y)
+
+-- Program's items: classes, exports, exported declarations and their names
+abbrev pub itemFigures : ℕ → ℕ → ℕ → ℕ → Figures
+itemFigures c e d n = figures (3 * c + 4 * e + n) 0 (c + e) 0 (32 * c + 43 * e + 4 * d + 7 * n)
+
+-- all but those items
+abbrev pub statementFigures : Tally → Figures
+statementFigures t =
+    figures (t .records) 0 0 0 (t .bytes)
+    ⊕ (contextFigures (t .blocks) (t .parts) (t .wrapped) (t .programs) ⊕ forOfFigures (t .«for_ofs») (t .«for_of_blocks»))
+
+abbrev pub itemsOf : Tally → Figures
+itemsOf t = itemFigures (t .classes) (t .exports) (t .declarations) (t .names)
+
+pub tally-figures : (t : Tally) → Same (tallyFigures t) (statementFigures t ⊕ itemsOf t)
+unfolding tallyFigures
+tally-figures t = omega arith
+
+-- ---- the lines of Program's items
+
+-- of one record: those of a Program with a using
+unfoldable pub programOwn : ℕ → Forest → List Line
+programOwn t k = if eqb t 1 && anyUsing k then itemLines k else []
+
+pub no-program : (t : ℕ) (k : Forest) → eqb t 1 ≡ false → Same (total (programOwn t k)) (figures 0 0 0 0 0)
+unfolding programOwn total
+no-program t k e = rw e (omega arith)
+
+unfoldable pub programLines : Forest → List Line
+programLines none = []
+programLines (more h k r) = programOwn (h .tag) k ++ (programLines k ++ programLines r)

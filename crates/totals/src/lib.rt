@@ -1,0 +1,1 @@
+// The tally of a tree comes to 01's figures: no code.
