@@ -10,8 +10,8 @@ use lib.Seq.{take-append-seam}
 use lib.Dec.{eqb}
 use borrow.Author.Tests.{ne-eqb, le-leb, lt-leb}
 use Rattle.meaning.specs.Tree.{if_then_else_}
-use Rattle.meaning.specs.Grammar.{scopeOf, headOf, below, unnamed}
-use Rattle.meaning.specs.Reading.{Outcome, refused, _>>=_, readRows, andRows, mostRows}
+use Rattle.meaning.specs.Grammar.{scopeOf, headOf, below, childrenOf, unnamed}
+use Rattle.meaning.specs.Reading.{Outcome, accepted, refused, _>>=_, symbolsIn, readRows, andRows, mostRows}
 use Rattle.meaning.specs.declared.Place.{Place}
 use Rattle.meaning.specs.declared.Place.the-variants.{Program}
 use Rattle.meaning.specs.declared.Field.{Field}
@@ -21,80 +21,104 @@ use Rattle.meaning.specs.declared.Rows.{Rows}
 use Rattle.meaning.specs.declared.Rows.the-variants.{Read, Refused as RefusedRows}
 use Rattle.checking.specs.declared.Answer.{Answer}
 use Rattle.checking.specs.declared.Answer.the-variants.{Next, Refused as RefusedAnswer}
-use Rattle.checking.specs.declared.Checked.{Checked}
-use Rattle.checking.specs.declared.Checked.the-variants.{Fine, Refused as RefusedFile}
+use Rattle.tallies.specs.Tally.{insertsIn, noTally, _⊞_, cap, own}
+use Rattle.tallies.specs.declared.Tally.{Tally}
+use Rattle.tallies.specs.declared.Up.{Up}
+use Rattle.tallies.specs.declared.Up.the-variants.{Plain}
 use Rattle.checking.specs.Flat.{
   Past,
   entered,
   past,
   refusalOf,
   enterF,
+  addF,
   listF,
   recordF,
   childrenF,
   rowsRefusal,
-  treeRefusal,
-  checkedOf,
+  answerOf,
   endF,
   treeF,
 }
 
--- ---- one record: refused on entering, too deep, or its children
+-- ---- one record: refused on entering, too deep, refused inside, or fine
 
 -- what the children answer, with levels left
-abbrev kidsF : List ℕ → ℕ → Place → ℕ → ℕ → ℕ → Field → List ℕ → Outcome Past
-kidsF f syms p cur at zero x m = refused 6 at
-kidsF f syms p cur at (suc l) x m = childrenF l f syms p x (below cur (scopeOf (headOf x))) m
+abbrev kidsF : List ℕ → ℕ → ℕ → Place → Up → ℕ → ℕ → ℕ → Field → List ℕ → Outcome Past
+kidsF f scopes syms p u cur at zero x m = refused 6 at
+kidsF f scopes syms p u cur at (suc l) x m = childrenF l f scopes syms p u x (below cur (scopeOf (headOf x))) m
 
-record-is : (l : ℕ) (f : List ℕ) (syms : ℕ) (p : Place) (cur at : ℕ) (m : List ℕ)
-    → recordF l f syms p cur at m ≡ enterF f syms p cur at m >>= (λ e. kidsF f syms p cur at l (e .field) (e .marks))
+-- the record behind its children
+abbrev addedF : List ℕ → ℕ → ℕ → Up → Tally → Field → Past → Outcome Past
+addedF f scopes syms u t x q =
+    accepted (record { next = q .next; marks = q .marks; tally = addF f scopes syms u x t (q .tally) })
+
+record-is : (l : ℕ) (f : List ℕ) (scopes syms : ℕ) (p : Place) (u : Up) (cur : ℕ) (t : Tally) (at : ℕ) (m : List ℕ)
+    → recordF l f scopes syms p u cur t at m
+    ≡ enterF f syms p cur at m >>= (λ e.
+    kidsF f scopes syms p u cur at l (e .field) (e .marks) >>= addedF f scopes syms u t (e .field))
 unfolding recordF childrenF
-record-is zero f syms p cur at m = refl
-record-is (suc l) f syms p cur at m = refl
+record-is zero f scopes syms p u cur t at m = refl
+record-is (suc l) f scopes syms p u cur t at m = refl
 
-module _ (l : ℕ) (f : List ℕ) (syms : ℕ) (p : Place) (cur at : ℕ) (m : List ℕ) (d : Reading) (m₁ : List ℕ)
-    (enters : entered d m₁ ≡ enterF f syms p cur at m) where
+module _ (l : ℕ) (f : List ℕ) (scopes syms : ℕ) (p : Place) (u : Up) (cur : ℕ) (t : Tally) (at : ℕ) (m : List ℕ)
+    (d : Reading) (m₁ : List ℕ) (enters : entered d m₁ ≡ enterF f syms p cur at m) where
   pub record-refused : (c q : ℕ) (a : Answer) (m₂ : List ℕ) → d ≡ RefusedField c q → a ≡ refusalOf d
-      → past a m₂ ≡ recordF l f syms p cur at m
+      → past a m₂ ≡ recordF l f scopes syms p u cur t at m
   record-refused c q a m₂ e r =
       let w : a ≡ RefusedAnswer c q = rw e at r in
-      rw (record-is l f syms p cur at m, ← enters, e, w)
+      rw (record-is l f scopes syms p u cur t at m, ← enters, e, w)
 
-  pub record-deep : (x : Field) → d ≡ Whole x → l ≡ 0 → refused 6 at ≡ recordF l f syms p cur at m
-  record-deep x e z = rw (record-is l f syms p cur at m, ← enters, e, z)
+  pub record-deep : (x : Field) → d ≡ Whole x → l ≡ 0 → refused 6 at ≡ recordF l f scopes syms p u cur t at m
+  record-deep x e z = rw (record-is l f scopes syms p u cur t at m, ← enters, e, z)
 
-  pub record-inside : (x : Field) (a : Answer) (m₂ : List ℕ) → d ≡ Whole x → (l ≡ 0 → ⊥)
-      → past a m₂ ≡ childrenF (l - 1) f syms p x (below cur (scopeOf (headOf x))) m₁
-      → past a m₂ ≡ recordF l f syms p cur at m
-  record-inside x a m₂ e z h =
-      let s : l ≡ suc (l - 1) = omega arith in
-      rw (record-is l f syms p cur at m, ← enters, e)
-      (subst (λ (k : ℕ). past a m₂ ≡ kidsF f syms p cur at k x m₁) (sym s) h)
+  module _ (x : Field) (a : Answer) (m₂ : List ℕ) (is-whole : d ≡ Whole x) (has-level : l ≡ 0 → ⊥)
+      (inside : past a m₂ ≡ childrenF (l - 1) f scopes syms p u x (below cur (scopeOf (headOf x))) m₁) where
+    record-inside : recordF l f scopes syms p u cur t at m ≡ past a m₂ >>= addedF f scopes syms u t x
+    record-inside =
+        let s : l ≡ suc (l - 1) = omega arith in
+        let k : kidsF f scopes syms p u cur at l x m₁ ≡ past a m₂ =
+        subst (λ (n : ℕ). kidsF f scopes syms p u cur at n x m₁ ≡ past a m₂) (sym s) (sym inside) in
+        rw (record-is l f scopes syms p u cur t at m, ← enters, is-whole, k)
+
+    pub record-stop : (c q : ℕ) → a ≡ RefusedAnswer c q → past a m₂ ≡ recordF l f scopes syms p u cur t at m
+    record-stop c q e = rw (record-inside, e)
+
+    pub record-fine : (q : ℕ) (kids : Tally) (inserted : Bool) (sum : Tally) → a ≡ Next q kids
+        → inserted ≡ insertsIn (symbolsIn f syms (7 + 7 * scopes)) u (headOf x)
+        → sum ≡ cap (t ⊞ cap (own u inserted (headOf x) (childrenOf x) kids))
+        → past (Next q sum) m₂ ≡ recordF l f scopes syms p u cur t at m
+    record-fine q kids inserted sum e i r =
+        let w : sum ≡ addF f scopes syms u x t kids =
+        r ∙ ap (λ (b : Bool). cap (t ⊞ cap (own u b (headOf x) (childrenOf x) kids))) i in
+        ap (λ (s : Tally). past (Next q s) m₂) w
+        ∙ sym (record-inside ∙ ap (λ (b : Answer). past b m₂ >>= addedF f scopes syms u t x) e)
 
 -- ---- records in a row
 
 abbrev One : Type 0
-One = ℕ → ℕ → List ℕ → Outcome Past
+One = ℕ → Tally → ℕ → List ℕ → Outcome Past
 
-module _ (one : One) (n k p : ℕ) (m : List ℕ) (r : Outcome Past) (so-far : r ≡ listF one (n - k) k p m) where
-  pub list-step : (q : ℕ) (m₁ : List ℕ) (a : Answer) → k < n → past a m₁ ≡ one k p m → a ≡ Next q
-      → r ≡ listF one (n - (k + 1)) (k + 1) q m₁
+module _ (one : One) (n k : ℕ) (t : Tally) (p : ℕ) (m : List ℕ) (r : Outcome Past)
+    (so-far : r ≡ listF one (n - k) k t p m) where
+  pub list-step : (q : ℕ) (s : Tally) (m₁ : List ℕ) (a : Answer) → k < n → past a m₁ ≡ one k t p m → a ≡ Next q s
+      → r ≡ listF one (n - (k + 1)) (k + 1) s q m₁
   unfolding listF
-  list-step q m₁ a h i j =
-      let s : n - k ≡ suc (n - (k + 1)) = omega arith in
-      rw (s, ← i, j) at so-far
+  list-step q s m₁ a h i j =
+      let e : n - k ≡ suc (n - (k + 1)) = omega arith in
+      rw (e, ← i, j) at so-far
 
-  pub list-stop : (c d : ℕ) (m₁ : List ℕ) (a : Answer) → k < n → past a m₁ ≡ one k p m → a ≡ RefusedAnswer c d
+  pub list-stop : (c d : ℕ) (m₁ : List ℕ) (a : Answer) → k < n → past a m₁ ≡ one k t p m → a ≡ RefusedAnswer c d
       → past a m₁ ≡ r
   unfolding listF
   list-stop c d m₁ a h i j =
-      let s : n - k ≡ suc (n - (k + 1)) = omega arith in
-      let w : r ≡ refused c d = rw (s, ← i, j) at so-far in
+      let e : n - k ≡ suc (n - (k + 1)) = omega arith in
+      let w : r ≡ refused c d = rw (e, ← i, j) at so-far in
       rw (j, w)
 
-  pub list-end : n ≤ k → past (Next p) m ≡ r
+  pub list-end : n ≤ k → past (Next p t) m ≡ r
   unfolding listF
-  list-end h = let s : n - k ≡ 0 = omega arith in rw s at (sym so-far)
+  list-end h = let e : n - k ≡ 0 = omega arith in rw e at (sym so-far)
 
 -- ---- the rows before the tree
 
@@ -181,26 +205,30 @@ module _ (m : List ℕ) (i u : ℕ) (so-far : u ≡ i + unnamed (drop i m)) wher
 
 -- ---- behind the tree
 
-module _ (f : List ℕ) (syms at : ℕ) (m₀ m : List ℕ) (a : Answer) (answered : past a m ≡ recordF 64 f syms Program 0 at m₀) where
-  ends : treeF f syms at m₀ ≡ checkedOf (endF f (length m₀) (past a m))
+module _ (f : List ℕ) (scopes syms at : ℕ) (m₀ m : List ℕ) (a : Answer) (none : Tally) (is-none : none ≡ noTally)
+    (answered : past a m ≡ recordF 64 f scopes syms Program Plain 0 none at m₀) where
+  ends : treeF f scopes syms at m₀ ≡ answerOf (endF f (length m₀) (past a m))
   unfolding treeF
-  ends = sym (ap (λ (o : Outcome Past). checkedOf (endF f (length m₀) o)) answered)
+  ends =
+      let e : past a m ≡ recordF 64 f scopes syms Program Plain 0 noTally at m₀ =
+      answered ∙ ap (λ (t : Tally). recordF 64 f scopes syms Program Plain 0 t at m₀) is-none in
+      sym (ap (λ (o : Outcome Past). answerOf (endF f (length m₀) o)) e)
 
-  pub tree-refused : (r : Checked) (c p : ℕ) → a ≡ RefusedAnswer c p → r ≡ treeRefusal a → r ≡ treeF f syms at m₀
+  pub tree-refused : (c p : ℕ) → a ≡ RefusedAnswer c p → a ≡ treeF f scopes syms at m₀
   unfolding endF
-  tree-refused r c p e t = let w : r ≡ RefusedFile c p = rw e at t in rw (ends, e, w)
+  tree-refused c p e = rw (ends, e)
 
-  module _ (q : ℕ) (next : a ≡ Next q) where
-    pub tree-more : q < length f → RefusedFile 7 q ≡ treeF f syms at m₀
+  module _ (q : ℕ) (t : Tally) (next : a ≡ Next q t) where
+    pub tree-more : q < length f → RefusedAnswer 7 q ≡ treeF f scopes syms at m₀
     unfolding endF
     tree-more h = rw (ends, next, lt-leb _ _ h)
 
     module _ (u : ℕ) (whole : length f ≤ q) (lowest : u ≡ unnamed m) (marks : length m ≡ length m₀) where
-      pub tree-unnamed : u < length m → RefusedFile 5 (7 + 7 * u) ≡ treeF f syms at m₀
+      pub tree-unnamed : u < length m → RefusedAnswer 5 (7 + 7 * u) ≡ treeF f scopes syms at m₀
       unfolding endF
       tree-unnamed h = rw (ends, next, le-leb _ _ whole, ← lowest, ← marks, lt-leb _ _ h)
 
-      pub tree-fine : length m ≤ u → Fine ≡ treeF f syms at m₀
+      pub tree-fine : length m ≤ u → Next q t ≡ treeF f scopes syms at m₀
       unfolding endF
       tree-fine h = rw (ends, next, le-leb _ _ whole, ← lowest, ← marks, le-leb _ _ h)
 

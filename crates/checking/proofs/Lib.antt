@@ -1,3 +1,7 @@
 -- Laws of the definitions, and what ties them to the reader.
 pub mod Laws
+pub mod Cap
+pub mod Body
 pub mod Link
+pub mod Files
+pub mod Figured

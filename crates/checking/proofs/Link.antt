@@ -1,15 +1,24 @@
--- What the check computes is what the reader answers, with the tree forgotten.
+-- What the check computes is what the reader answers, with the tally of its tree in place of the tree.
 -- Assumes nothing.
 use mathlib.Core.Path.{_≡_, refl, sym, ap, subst, _∙_}
 use mathlib.Core.Bool.{Bool, true, false, _&&_}
-use mathlib.Core.List.{List}
+use mathlib.Core.List.{List, [], _∷_}
 use Prim.Native.Nat.{ℕ, zero, suc, _+_, _*_}
 use native.Mathlib.Omega.{arith}
-use lib.Dec.{leb}
-use lib.ListN.{length, replicate, length-replicate}
-use Rattle.meaning.specs.Tree.{if_then_else_, Head, more}
-use Rattle.meaning.specs.File.{File}
-use Rattle.meaning.specs.Grammar.{fieldAt, right, scopeOf, below, childrenOf, placeOf, headOf, mayName, naming, unnamed}
+use lib.Dec.{eqb, leb}
+use Rattle.meaning.specs.Tree.{if_then_else_, Head, Forest, none, more, count}
+use Rattle.meaning.specs.File.{Symbol, numbersOf, hasChildren, ownNumbers}
+use Rattle.meaning.specs.Grammar.{
+  fieldAt,
+  right,
+  scopeOf,
+  below,
+  childrenOf,
+  placeOf,
+  headOf,
+  mayName,
+  naming,
+}
 use Rattle.meaning.specs.Reading.{
   Outcome,
   accepted,
@@ -19,184 +28,204 @@ use Rattle.meaning.specs.Reading.{
   ensure,
   field,
   Records,
-  Counted,
-  rows,
+  symbolsIn,
   readList,
   readForest,
-  readScopes,
-  readSymbols,
-  readFile,
 }
+use Rattle.meaning.specs.Statements.{isUsing}
 use Rattle.meaning.specs.declared.Place.{Place}
-use Rattle.meaning.specs.declared.Place.the-variants.{Settings, Program}
+use Rattle.meaning.specs.declared.Place.the-variants.{ForOfLeft}
 use Rattle.meaning.specs.declared.Field.{Field}
 use Rattle.meaning.specs.declared.Reading.{Reading}
 use Rattle.meaning.specs.declared.Reading.the-variants.{Whole, Refused as RefusedField}
-use Rattle.meaning.specs.declared.Rows.{Rows}
-use Rattle.meaning.specs.declared.Rows.the-variants.{Read, Refused as RefusedRows}
-use Rattle.checking.specs.declared.Checked.{Checked}
-use Rattle.checking.specs.declared.Checked.the-variants.{Refused as RefusedFile}
-use Rattle.checking.specs.Flat.{
-  Entered,
-  Past,
-  enterF,
-  listF,
-  recordF,
-  checkedOf,
-  endF,
-  treeF,
-  byRows,
-  byField,
-  fileF,
-}
+use Rattle.tallies.specs.Tally.{upOf, bodyOf, bodyUp, insertsIn, noTally, _⊞_, cap, own, tallyOf}
+use Rattle.tallies.specs.declared.Tally.{Tally}
+use Rattle.tallies.specs.declared.Up.{Up}
+use Rattle.checking.specs.Flat.{Entered, Past, enterF, upsF, addF, listF, recordF}
+use Rattle.checking.proofs.Cap.{⊞-assoc, none-⊞, ⊞-none, add-cap}
+use Rattle.checking.proofs.Body.{Inside, list-first, accepted-inj, is-eq, and-inv, body-is}
 
-abbrev pastOf : Records → Past
-pastOf k = record { next = k .next; marks = k .marks }
+-- ---- what an accepted list of children tells
 
-abbrev pub forget : Outcome Records → Outcome Past
-forget (accepted k) = accepted (pastOf k)
-forget (refused c p) = refused c p
+list-count : (inside : Inside) (f : List ℕ) (syms : ℕ) (place : ℕ → Place) (cur n j at : ℕ) (m : List ℕ) (k : Records)
+    → readList inside f syms place cur j n at m ≡ accepted k → count (k .forest) ≡ n
+unfolding readList count
+list-count inside f syms place cur zero j at m k e = ap (λ (r : Records). count (r .forest)) (sym (accepted-inj _ k e))
+list-count inside f syms place cur (suc n) j at m k e =
+    let a = list-first inside f syms place cur j n at m k e in
+    ap count (a .7) ∙ ap suc (list-count inside f syms place cur n (suc j) (a .3 .next) (a .3 .marks) (a .5) (a .6))
+
+forest-count : (l : ℕ) (f : List ℕ) (syms : ℕ) (place : ℕ → Place) (cur n j at : ℕ) (m : List ℕ) (k : Records)
+    → readForest l f syms place cur j n at m ≡ accepted k → count (k .forest) ≡ n
+unfolding readForest
+forest-count zero f syms place cur n j at m k e = list-count _ f syms place cur n j at m k e
+forest-count (suc l) f syms place cur n j at m k e = list-count _ f syms place cur n j at m k e
+
+-- only a ForOf looks at what its body is
+ups-same : (u : Up) (t : ℕ) (held : Bool) (b₁ b₂ : Up) (is : Bool) → eqb t 8 ≡ is → (eqb t 8 ≡ true → b₁ ≡ b₂) → upOf u t held b₁ ≡ upOf u t held b₂
+unfolding upOf
+ups-same u t held b₁ b₂ true e h = ap (upOf u t held) (h e)
+ups-same u t held b₁ b₂ false e h = λ i k. pointwise k i
+  where
+    pointwise : (k : ℕ) → upOf u t held b₁ k ≡ upOf u t held b₂ k
+    pointwise k = rw e
+
+-- a ForOf has three children, and a Declaration or an expression first
+forOf-kids : (p : Place) (syms : ℕ) (x : Field) → x .tag ≡ 8 → right p syms x ≡ true → childrenOf x ≡ 3
+unfolding right childrenOf numbersOf hasChildren ownNumbers
+forOf-kids p syms x t e = rw t (is-eq (x .c) 3 (and-inv (leb 1 (x .a) && leb (x .b) 1) (eqb (x .c) 3) (rw t at e) .1))
+
+forOf-place : (p : Place) (x : Field) → x .tag ≡ 8 → placeOf p x 0 ≡ ForOfLeft
+unfolding placeOf
+forOf-place p x t = rw t
+
+-- what the children of a record are to it, in the bytes and in the tree
+ups-are : (l : ℕ) (f : List ℕ) (syms : ℕ) (p : Place) (u : Up) (x : Field) (cur : ℕ) (m : List ℕ) (k : Records) → right p syms x ≡ true
+    → readForest l f syms (placeOf p x) cur 0 (childrenOf x) (x .next) m ≡ accepted k
+    → upOf u (x .tag) (isUsing (headOf x)) (bodyOf (k .forest)) ≡ upsF f u x
+ups-are l f syms p u x cur m k r e =
+    ups-same u (x .tag) (isUsing (headOf x)) (bodyOf (k .forest)) (bodyUp f (x .next)) (eqb (x .tag) 8) refl (λ t.
+    body-is l f syms (placeOf p x) cur 2 (x .next) m k
+    (forOf-place p x (is-eq (x .tag) 8 t))
+    (rw (forOf-kids p syms x (is-eq (x .tag) 8 t) r) at e))
+
+-- ---- answers
+
+abbrev pub forget : List Symbol → (ℕ → Up) → ℕ → Tally → Outcome Records → Outcome Past
+forget ys ups k t (accepted r) = accepted (record { next = r .next; marks = r .marks; tally = cap (t ⊞ tallyOf ys ups k (r .forest)) })
+forget ys ups k t (refused c p) = refused c p
 
 abbrev join : Head → Records → Records → Records
 join h k b = record { forest = more h (k .forest) (b .forest); next = b .next; marks = b .marks }
 
--- ---- one record and those beside it
+-- a record's own tally, from the tree
+abbrev ownIn : List Symbol → Up → Head → Forest → Tally
+ownIn ys u h kids = own u (insertsIn ys u h) h (count kids) (tallyOf ys (upOf u (h .tag) (isUsing h) (bodyOf kids)) 0 kids)
 
-joined : (h : Head) (k : Records) (o : Outcome Records) → forget (o >>= (λ b. accepted (join h k b))) ≡ forget o
-joined h k (accepted b) = refl
-joined h k (refused c p) = refl
+module _ (ys : List Symbol) (ups : ℕ → Up) (k : ℕ) (t : Tally) where
+  joined : (h : Head) (kids : Records) (o : Outcome Records)
+      → forget ys ups k t (o >>= (λ b. accepted (join h kids b))) ≡ forget ys ups (suc k) (t ⊞ ownIn ys (ups k) h (kids .forest)) o
+  unfolding tallyOf
+  joined h kids (accepted b) =
+      ap (λ (s : Tally). accepted (record { next = b .next; marks = b .marks; tally = cap s }))
+      (sym (⊞-assoc t (ownIn ys (ups k) h (kids .forest)) (tallyOf ys ups (suc k) (b .forest))))
+  joined h kids (refused c p) = refl
 
-after-kids : (h : Head) (o : Outcome Records) (oF : Outcome Past) (rest : Records → Outcome Records) (restF : Past → Outcome Past)
-    → forget o ≡ oF → ((k : Records) → forget (rest k) ≡ restF (pastOf k))
-    → forget (o >>= (λ k. rest k >>= (λ b. accepted (join h k b)))) ≡ oF >>= restF
-after-kids h (accepted k) oF rest restF e i =
-    subst (λ (q : Outcome Past). forget (rest k >>= (λ b. accepted (join h k b))) ≡ q >>= restF) e (joined h k (rest k) ∙ i k)
-after-kids h (refused c p) oF rest restF e i =
-    subst (λ (q : Outcome Past). refused c p ≡ q >>= restF) e refl
+  -- `added` adds the record to the tally before it, from the tally of its children
+  after-kids : (h : Head) (upsIn : ℕ → Up) (o : Outcome Records) (oF : Outcome Past) (added : Tally → Tally)
+      (rest : Records → Outcome Records) (restF : Past → Outcome Past)
+      → forget ys upsIn 0 noTally o ≡ oF
+      → ((kids : Records) → o ≡ accepted kids → cap (t ⊞ ownIn ys (ups k) h (kids .forest)) ≡ added (cap (noTally ⊞ tallyOf ys upsIn 0 (kids .forest))))
+      → ((kids : Records) → forget ys ups (suc k) (t ⊞ ownIn ys (ups k) h (kids .forest)) (rest kids)
+      ≡ restF (record { next = kids .next; marks = kids .marks; tally = cap (t ⊞ ownIn ys (ups k) h (kids .forest)) }))
+      → forget ys ups k t (o >>= (λ kids. rest kids >>= (λ b. accepted (join h kids b))))
+      ≡ oF >>= (λ q. accepted (record { next = q .next; marks = q .marks; tally = added (q .tally) })) >>= restF
+  after-kids h upsIn (accepted kids) oF added rest restF e a i =
+      joined h kids (rest kids)
+      ∙ i kids
+      ∙ ap (λ (s : Tally). restF (record { next = kids .next; marks = kids .marks; tally = s })) (a kids refl)
+      ∙ ap (λ (q : Outcome Past). q >>= (λ q. accepted (record { next = q .next; marks = q .marks; tally = added (q .tally) })) >>= restF) e
+  after-kids h upsIn (refused c p) oF added rest restF e a i =
+      ap (λ (q : Outcome Past). q >>= (λ q. accepted (record { next = q .next; marks = q .marks; tally = added (q .tally) })) >>= restF) e
 
-after-tests : (b₁ b₂ : Bool) (at : ℕ) (e : Entered) (o : Outcome Records) (kidsF : Entered → Outcome Past) (restF : Past → Outcome Past)
-    → forget o ≡ kidsF e >>= restF
-    → forget (ensure b₁ 5 at >> (ensure b₂ 5 at >> o)) ≡ (ensure b₁ 5 at >> (ensure b₂ 5 at >> accepted e)) >>= kidsF >>= restF
-after-tests true true at e o kidsF restF h = h
-after-tests true false at e o kidsF restF h = refl
-after-tests false b₂ at e o kidsF restF h = refl
+  after-tests : (b₁ b₂ : Bool) (at : ℕ) (e : Entered) (o : Outcome Records) (kidsF : Entered → Outcome Past) (restF : Past → Outcome Past)
+      → (b₁ ≡ true → forget ys ups k t o ≡ kidsF e >>= restF)
+      → forget ys ups k t (ensure b₁ 5 at >> (ensure b₂ 5 at >> o))
+      ≡ (ensure b₁ 5 at >> (ensure b₂ 5 at >> accepted e)) >>= kidsF >>= restF
+  after-tests true true at e o kidsF restF h = h refl
+  after-tests true false at e o kidsF restF h = refl
+  after-tests false b₂ at e o kidsF restF h = refl
 
-after-field : (r : Reading) (g : Field → Outcome Records) (gF : Field → Outcome Entered) (kidsF : Entered → Outcome Past) (restF : Past → Outcome Past)
-    → ((x : Field) → forget (g x) ≡ gF x >>= kidsF >>= restF)
-    → forget (field r >>= g) ≡ field r >>= gF >>= kidsF >>= restF
-after-field (Whole x) g gF kidsF restF h = h x
-after-field (RefusedField c p) g gF kidsF restF h = refl
+  after-field : (r : Reading) (g : Field → Outcome Records) (gF : Field → Outcome Entered) (kidsF : Entered → Outcome Past) (restF : Past → Outcome Past)
+      → ((x : Field) → forget ys ups k t (g x) ≡ gF x >>= kidsF >>= restF)
+      → forget ys ups k t (field r >>= g) ≡ field r >>= gF >>= kidsF >>= restF
+  after-field (Whole x) g gF kidsF restF h = h x
+  after-field (RefusedField c p) g gF kidsF restF h = refl
 
 -- ---- lists
 
-abbrev Inside : Type 0
-Inside = Place → Field → ℕ → ℕ → List ℕ → Outcome Records
-
 abbrev InsideF : Type 0
-InsideF = Place → ℕ → ℕ → Entered → Outcome Past
+InsideF = Place → Up → ℕ → ℕ → Entered → Outcome Past
 
--- one record by `enterF` and what its children answer
-abbrev oneF : InsideF → List ℕ → ℕ → Place → ℕ → ℕ → List ℕ → Outcome Past
-oneF insideF f syms p cur at m = enterF f syms p cur at m >>= insideF p cur at
+module _ (f : List ℕ) (scopes syms : ℕ) where
+  abbrev pub asRead : List Symbol
+  asRead = symbolsIn f syms (7 + 7 * scopes)
 
-link-list : (inside : Inside) (insideF : InsideF)
-    → ((p : Place) (x : Field) (at cur : ℕ) (m : List ℕ)
-    → forget (inside p x at (below cur (scopeOf (headOf x))) m) ≡ insideF p cur at (record { field = x; marks = m }))
-    → (f : List ℕ) (syms : ℕ) (place : ℕ → Place) (cur n k at : ℕ) (m : List ℕ)
-    → forget (readList inside f syms place cur k n at m) ≡ listF (λ j a m₁. oneF insideF f syms (place j) cur a m₁) n k at m
-unfolding readList listF enterF
-link-list inside insideF hk f syms place cur zero k at m = refl
-link-list inside insideF hk f syms place cur (suc n) k at m =
-    after-field (fieldAt f (place k) at) _ _ (insideF (place k) cur at) _ (λ x.
-    after-tests (right (place k) syms x) (mayName f cur m (scopeOf (headOf x))) at _ _ (insideF (place k) cur at) _
-    (after-kids
-    (headOf x)
-    (inside (place k) x at (below cur (scopeOf (headOf x))) (naming m (scopeOf (headOf x))))
-    _
-    (λ q. readList inside f syms place cur (suc k) n (q .next) (q .marks))
-    _
-    (hk (place k) x at cur (naming m (scopeOf (headOf x)))) (λ q.
-    link-list inside insideF hk f syms place cur n (suc k) (q .next) (q .marks)
-    ∙ ap (λ (j : ℕ). listF (λ j a m₁. oneF insideF f syms (place j) cur a m₁) n j (q .next) (q .marks)) (one-more k))))
-  where
-    one-more : (k : ℕ) → suc k ≡ k + 1
-    one-more k = omega arith
+  -- one record by `enterF` and what its children answer
+  abbrev oneF : InsideF → Place → Up → ℕ → Tally → ℕ → List ℕ → Outcome Past
+  oneF insideF p u cur t at m =
+      enterF f syms p cur at m >>= (λ e.
+      insideF p u cur at e >>= (λ q.
+      accepted (record { next = q .next; marks = q .marks; tally = addF f scopes syms u (e .field) t (q .tally) })))
 
--- with levels left
-pub link-forest : (l : ℕ) (f : List ℕ) (syms : ℕ) (place : ℕ → Place) (cur n k at : ℕ) (m : List ℕ)
-    → forget (readForest l f syms place cur k n at m) ≡ listF (λ j a m₁. recordF l f syms (place j) cur a m₁) n k at m
-unfolding readForest recordF
-link-forest zero f syms place cur n k at m =
-    link-list (λ p x at cur m. refused 6 at) (λ p cur at e. refused 6 at) (λ p x at cur m. refl) f syms place cur n k at m
-link-forest (suc l) f syms place cur n k at m =
-    link-list
-    (λ p x at cur m. readForest l f syms (placeOf p x) cur 0 (childrenOf x) (x .next) m)
-    (λ p cur at e. listF (λ j a m₁. recordF l f syms (placeOf p (e .field) j) (below cur (scopeOf (headOf (e .field)))) a m₁) (childrenOf (e .field)) 0 (e .field .next) (e .marks))
-    (λ p x at cur m. link-forest l f syms (placeOf p x) (below cur (scopeOf (headOf x))) (childrenOf x) 0 (x .next) m)
-    f syms place cur n k at m
+  -- the record's own tally, from the tree and in the code
+  Sums : Inside → Type 0
+  Sums inside =
+      (p : Place) (u : Up) (x : Field) (at cur : ℕ) (m : List ℕ) (t : Tally) (kids : Records)
+      → right p syms x ≡ true
+      → inside p x at cur m ≡ accepted kids
+      → cap (t ⊞ ownIn asRead u (headOf x) (kids .forest))
+      ≡ addF f scopes syms u x (cap t) (cap (noTally ⊞ tallyOf asRead (upsF f u x) 0 (kids .forest)))
 
--- ---- the whole file
+  link-list : (inside : Inside) (insideF : InsideF)
+      → ((p : Place) (u : Up) (x : Field) (at cur : ℕ) (m : List ℕ)
+      → forget asRead (upsF f u x) 0 noTally (inside p x at (below cur (scopeOf (headOf x))) m)
+      ≡ insideF p u cur at (record { field = x; marks = m }))
+      → Sums inside
+      → (place : ℕ → Place) (ups : ℕ → Up) (cur n k : ℕ) (t : Tally) (at : ℕ) (m : List ℕ)
+      → forget asRead ups k t (readList inside f syms place cur k n at m)
+      ≡ listF (λ j s a m₁. oneF insideF (place j) (ups j) cur s a m₁) n k (cap t) at m
+  unfolding readList listF enterF Sums tallyOf
+  link-list inside insideF hk hs place ups cur zero k t at m =
+      ap (λ (s : Tally). accepted (record { next = at; marks = m; tally = cap s })) (⊞-none t)
+  link-list inside insideF hk hs place ups cur (suc n) k t at m =
+      after-field asRead ups k t (fieldAt f (place k) at) _ _ _ _ (λ x.
+      after-tests asRead ups k t (right (place k) syms x) (mayName f cur m (scopeOf (headOf x))) at _ _ _ _ (λ r.
+      after-kids asRead ups k t (headOf x) (upsF f (ups k) x)
+      (inside (place k) x at (below cur (scopeOf (headOf x))) (naming m (scopeOf (headOf x))))
+      _
+      (addF f scopes syms (ups k) x (cap t))
+      (λ q. readList inside f syms place cur (suc k) n (q .next) (q .marks))
+      _
+      (hk (place k) (ups k) x at cur (naming m (scopeOf (headOf x))))
+      (λ kids e. hs (place k) (ups k) x at (below cur (scopeOf (headOf x))) (naming m (scopeOf (headOf x))) t kids r e)
+      (λ kids.
+      link-list inside insideF hk hs place ups cur n (suc k) (t ⊞ ownIn asRead (ups k) (headOf x) (kids .forest)) (kids .next) (kids .marks)
+      ∙ ap (λ (j : ℕ). listF (λ j s a m₁. oneF insideF (place j) (ups j) cur s a m₁) n j
+      (cap (t ⊞ ownIn asRead (ups k) (headOf x) (kids .forest))) (kids .next) (kids .marks)) (one-more k))))
+    where
+      one-more : (k : ℕ) → suc k ≡ k + 1
+      one-more k = omega arith
 
--- a list of one record
-alone : (o : Outcome Past) → o >>= (λ q. accepted (record { next = q .next; marks = q .marks })) ≡ o
-alone (accepted q) = refl
-alone (refused c p) = refl
+  -- ---- with levels left
 
-program-is : (f : List ℕ) (syms at : ℕ) (m : List ℕ)
-    → forget (readForest 64 f syms (λ _. Program) 0 0 1 at m) ≡ recordF 64 f syms Program 0 at m
-unfolding listF
-program-is f syms at m = link-forest 64 f syms (λ _. Program) 0 1 0 at m ∙ alone (recordF 64 f syms Program 0 at m)
+  sums : (l : ℕ) → Sums (λ p x at cur m. readForest l f syms (placeOf p x) cur 0 (childrenOf x) (x .next) m)
+  unfolding Sums headOf
+  sums l p u x at cur m t kids r e =
+      ap (λ (n : ℕ). cap (t ⊞ own u (insertsIn asRead u (headOf x)) (headOf x) n (tallyOf asRead (upOf u (x .tag) (isUsing (headOf x)) (bodyOf (kids .forest))) 0 (kids .forest))))
+      (forest-count l f syms (placeOf p x) cur (childrenOf x) 0 (x .next) m kids e)
+      ∙ ap (λ (v : ℕ → Up). cap (t ⊞ own u (insertsIn asRead u (headOf x)) (headOf x) (childrenOf x) (tallyOf asRead v 0 (kids .forest))))
+      (ups-are l f syms p u x cur m kids r e)
+      ∙ sym (add-cap t u (insertsIn asRead u (headOf x)) (headOf x) (childrenOf x) (tallyOf asRead (upsF f u x) 0 (kids .forest)))
+      ∙ ap (λ (s : Tally). addF f scopes syms u x (cap t) (cap s)) (sym (none-⊞ (tallyOf asRead (upsF f u x) 0 (kids .forest))))
 
--- 7 and the lowest unnamed row
-end-tests : (k : Records) (g : Records → File) (b₁ b₂ : Bool) (c₁ p₁ c₂ p₂ : ℕ)
-    → checkedOf (ensure b₁ c₁ p₁ >> (ensure b₂ c₂ p₂ >> accepted (g k)))
-    ≡ checkedOf (ensure b₁ c₁ p₁ >> (ensure b₂ c₂ p₂ >> accepted (pastOf k)))
-end-tests k g true true c₁ p₁ c₂ p₂ = refl
-end-tests k g true false c₁ p₁ c₂ p₂ = refl
-end-tests k g false b₂ c₁ p₁ c₂ p₂ = refl
+  no-sums : Sums (λ p x at cur m. refused 6 at)
+  unfolding Sums
+  no-sums p u x at cur m t kids r e = absurd (let z : _≡_ {A = ℕ} 0 1 = cc in omega arith)
 
-end-is : (f : List ℕ) (n : ℕ) (o : Outcome Records) (oF : Outcome Past) (g : Records → File) → forget o ≡ oF
-    → checkedOf
-    (o >>= (λ k.
-    ensure (leb (length f) (k .next)) 7 (k .next)
-    >> (ensure (leb n (unnamed (k .marks))) 5 (7 + 7 * unnamed (k .marks)) >> accepted (g k))))
-    ≡ checkedOf (endF f n oF)
-unfolding endF
-end-is f n (accepted k) oF g e =
-    end-tests k g (leb (length f) (k .next)) (leb n (unnamed (k .marks))) 7 (k .next) 5 (7 + 7 * unnamed (k .marks))
-    ∙ ap (λ (q : Outcome Past). checkedOf (endF f n q)) e
-end-is f n (refused c p) oF g e = ap (λ (q : Outcome Past). checkedOf (endF f n q)) e
-
--- the steps before the tree
-by-size : (b : Bool) (o : Outcome File) (r : Checked) → checkedOf o ≡ r
-    → checkedOf (ensure b 1 65535 >> o) ≡ (if b then r else RefusedFile 1 65535)
-by-size true o r e = e
-by-size false o r e = refl
-
-by-settings : (b₁ b₂ : Bool) (o : Outcome File) (r : Checked) → checkedOf o ≡ r
-    → checkedOf (ensure (b₁ && b₂) 5 0 >> o) ≡ (if b₁ then (if b₂ then r else RefusedFile 5 0) else RefusedFile 5 0)
-by-settings true true o r e = e
-by-settings true false o r e = refl
-by-settings false b₂ o r e = refl
-
-by-field : (d : Reading) (g : Field → Outcome File) (gF : Field → Checked) → ((x : Field) → checkedOf (g x) ≡ gF x)
-    → checkedOf (field d >>= g) ≡ byField d gF
-by-field (Whole x) g gF h = h x
-by-field (RefusedField c p) g gF h = refl
-
-by-rows : (d : Rows) (g : Counted → Outcome File) (gF : ℕ → ℕ → Checked)
-    → ((k at : ℕ) → checkedOf (g (record { number = k; next = at })) ≡ gF k at)
-    → checkedOf (rows d >>= g) ≡ byRows d gF
-by-rows (Read k at) g gF h = h k at
-by-rows (RefusedRows c p) g gF h = refl
-
-pub file-is : (f : List ℕ) → checkedOf (readFile f) ≡ fileF f
-unfolding readFile fileF treeF
-file-is f =
-    by-size (leb (length f) 65535) _ _ (
-    by-field (fieldAt f Settings 0) _ _ (λ s.
-    by-settings (leb (s .a) 2) (leb (s .b) 1) _ _ (
-    by-rows (readScopes f (s .next)) _ _ (λ n at.
-    by-rows (readSymbols f n at) _ _ (λ syms at₂.
-    end-is f n (readForest 64 f syms (λ _. Program) 0 0 1 at₂ (replicate n 0)) _ _ (program-is f syms at₂ (replicate n 0))
-    ∙ ap (λ (j : ℕ). checkedOf (endF f j (recordF 64 f syms Program 0 at₂ (replicate n 0)))) (sym (length-replicate n 0)))))))
+  pub link-forest : (l : ℕ) (place : ℕ → Place) (ups : ℕ → Up) (cur n k : ℕ) (t : Tally) (at : ℕ) (m : List ℕ)
+      → forget asRead ups k t (readForest l f syms place cur k n at m)
+      ≡ listF (λ j s a m₁. recordF l f scopes syms (place j) (ups j) cur s a m₁) n k (cap t) at m
+  unfolding readForest recordF
+  link-forest zero place ups cur n k t at m =
+      link-list (λ p x at cur m. refused 6 at) (λ p u cur at e. refused 6 at) (λ p u x at cur m. refl) no-sums place ups cur n k t at m
+  link-forest (suc l) place ups cur n k t at m =
+      link-list
+      (λ p x at cur m. readForest l f syms (placeOf p x) cur 0 (childrenOf x) (x .next) m)
+      (λ p u cur at e.
+      listF
+      (λ j s a m₁. recordF l f scopes syms (placeOf p (e .field) j) (upsF f u (e .field) j) (below cur (scopeOf (headOf (e .field)))) s a m₁)
+      (childrenOf (e .field)) 0 noTally (e .field .next) (e .marks))
+      (λ p u x at cur m. link-forest l (placeOf p x) (upsF f u x) (below cur (scopeOf (headOf x))) (childrenOf x) 0 noTally (x .next) m)
+      (sums l)
+      place ups cur n k t at m

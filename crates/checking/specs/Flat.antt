@@ -2,22 +2,32 @@
 -- Assumes nothing.
 use Prim.Native.Nat.{ℕ, zero, suc, _+_, _*_}
 use mathlib.Core.List.{List}
+use mathlib.Core.Bool.{Bool, _&&_}
 use lib.Dec.{leb}
 use lib.ListN.{length, replicate}
 use Rattle.meaning.specs.Tree.{if_then_else_}
+use Rattle.meaning.specs.File.{File}
 use Rattle.meaning.specs.Grammar.{fieldAt, right, scopeOf, below, childrenOf, placeOf, headOf, mayName, naming, unnamed}
-use Rattle.meaning.specs.Reading.{Outcome, accepted, refused, _>>=_, _>>_, ensure, field, readScopes, readSymbols}
+use Rattle.meaning.specs.Reading.{Outcome, accepted, refused, _>>=_, _>>_, ensure, field, symbolsIn, readScopes, readSymbols}
 use Rattle.meaning.specs.declared.Place.{Place}
 use Rattle.meaning.specs.declared.Place.the-variants.{Settings, Program}
 use Rattle.meaning.specs.declared.Field.{Field}
 use Rattle.meaning.specs.declared.Reading.{Reading}
-use Rattle.meaning.specs.declared.Reading.the-variants.{Whole, Refused as RefusedField}
+use Rattle.meaning.specs.declared.Reading.the-variants.{Whole as WholeField, Refused as RefusedField}
 use Rattle.meaning.specs.declared.Rows.{Rows}
 use Rattle.meaning.specs.declared.Rows.the-variants.{Read, Refused as RefusedRows}
 use Rattle.checking.specs.declared.Answer.{Answer}
 use Rattle.checking.specs.declared.Answer.the-variants.{Next, Refused as RefusedAnswer}
 use Rattle.checking.specs.declared.Checked.{Checked}
-use Rattle.checking.specs.declared.Checked.the-variants.{Fine, Refused as RefusedFile}
+use Rattle.checking.specs.declared.Checked.the-variants.{Fine, Refused as RefusedCheck}
+use Rattle.checking.specs.declared.RowCounts.{RowCounts}
+use Rattle.checking.specs.declared.Whole.{Whole}
+use Rattle.checking.specs.declared.Whole.the-variants.{Accepted, Refused as RefusedFile}
+use Rattle.meaning.specs.Statements.{isUsing}
+use Rattle.tallies.specs.Tally.{upOf, bodyUp, insertsIn, noTally, _⊞_, cap, own}
+use Rattle.tallies.specs.declared.Tally.{Tally}
+use Rattle.tallies.specs.declared.Up.{Up}
+use Rattle.tallies.specs.declared.Up.the-variants.{Plain}
 
 -- ---- answers of the code, with the marks that it leaves
 
@@ -29,17 +39,18 @@ pub record Entered : Type 0 where
 pub record Past : Type 0 where
   pub next : ℕ
   pub marks : List ℕ
+  pub tally : Tally
 
 abbrev pub entered : Reading → List ℕ → Outcome Entered
-entered (Whole x) m = accepted (record { field = x; marks = m })
+entered (WholeField x) m = accepted (record { field = x; marks = m })
 entered (RefusedField c p) m = refused c p
 
 abbrev pub past : Answer → List ℕ → Outcome Past
-past (Next at) m = accepted (record { next = at; marks = m })
+past (Next at t) m = accepted (record { next = at; marks = m; tally = t })
 past (RefusedAnswer c p) m = refused c p
 
 abbrev pub refusalOf : Reading → Answer
-refusalOf (Whole x) = RefusedAnswer 0 0
+refusalOf (WholeField x) = RefusedAnswer 0 0
 refusalOf (RefusedField c p) = RefusedAnswer c p
 
 -- ---- records
@@ -52,56 +63,64 @@ enterF f syms p cur at m = do
   ensure (mayName f cur m (scopeOf (headOf x))) 5 at
   accepted (record { field = x; marks = naming m (scopeOf (headOf x)) })
 
--- n records in a row, from child k on
-unfoldable pub listF : (ℕ → ℕ → List ℕ → Outcome Past) → ℕ → ℕ → ℕ → List ℕ → Outcome Past
-listF one zero k at m = accepted (record { next = at; marks = m })
-listF one (suc n) k at m = do
-  q ← one k at m
-  listF one n (k + 1) (q .next) (q .marks)
+-- what child k is to a record
+abbrev pub upsF : List ℕ → Up → Field → ℕ → Up
+upsF f u x k = upOf u (x .tag) (isUsing (headOf x)) (bodyUp f (x .next)) k
 
--- one record, with levels left
-unfoldable pub recordF : ℕ → List ℕ → ℕ → Place → ℕ → ℕ → List ℕ → Outcome Past
-recordF zero f syms p cur at m = do
+-- the tally before a record, with the record and its children's tally
+abbrev pub addF : List ℕ → ℕ → ℕ → Up → Field → Tally → Tally → Tally
+addF f scopes syms u x t kids =
+    cap (t ⊞ cap (own u (insertsIn (symbolsIn f syms (7 + 7 * scopes)) u (headOf x)) (headOf x) (childrenOf x) kids))
+
+-- n records in a row, from child k on
+unfoldable pub listF : (ℕ → Tally → ℕ → List ℕ → Outcome Past) → ℕ → ℕ → Tally → ℕ → List ℕ → Outcome Past
+listF one zero k t at m = accepted (record { next = at; marks = m; tally = t })
+listF one (suc n) k t at m = do
+  q ← one k t at m
+  listF one n (k + 1) (q .tally) (q .next) (q .marks)
+
+-- one record, with levels left; it is `u` to the one around it, and the tally before it is t
+unfoldable pub recordF : ℕ → List ℕ → ℕ → ℕ → Place → Up → ℕ → Tally → ℕ → List ℕ → Outcome Past
+recordF zero f scopes syms p u cur t at m = do
   e ← enterF f syms p cur at m
   refused 6 at
-recordF (suc l) f syms p cur at m = do
+recordF (suc l) f scopes syms p u cur t at m = do
   e ← enterF f syms p cur at m
-  listF
-      (λ k a m₁. recordF l f syms (placeOf p (e .field) k) (below cur (scopeOf (headOf (e .field)))) a m₁)
+  q ←
+      listF
+      (λ k t₁ a m₁.
+      recordF l f scopes syms (placeOf p (e .field) k) (upsF f u (e .field) k) (below cur (scopeOf (headOf (e .field)))) t₁ a m₁)
       (childrenOf (e .field))
       0
+      noTally
       (e .field .next)
       (e .marks)
+  accepted (record { next = q .next; marks = q .marks; tally = addF f scopes syms u (e .field) t (q .tally) })
 
 -- the children of a record at p
-unfoldable pub childrenF : ℕ → List ℕ → ℕ → Place → Field → ℕ → List ℕ → Outcome Past
-childrenF l f syms p x cur m =
-    listF (λ k a m₁. recordF l f syms (placeOf p x k) cur a m₁) (childrenOf x) 0 (x .next) m
+unfoldable pub childrenF : ℕ → List ℕ → ℕ → ℕ → Place → Up → Field → ℕ → List ℕ → Outcome Past
+childrenF l f scopes syms p u x cur m =
+    listF (λ k t a m₁. recordF l f scopes syms (placeOf p x k) (upsF f u x k) cur t a m₁) (childrenOf x) 0 noTally (x .next) m
 
 -- ---- the whole file
 
 abbrev pub rowsRefusal : Reading → Rows
-rowsRefusal (Whole x) = RefusedRows 0 0
+rowsRefusal (WholeField x) = RefusedRows 0 0
 rowsRefusal (RefusedField c p) = RefusedRows c p
 
-abbrev pub treeRefusal : Answer → Checked
-treeRefusal (Next at) = Fine
-treeRefusal (RefusedAnswer c p) = RefusedFile c p
-
-abbrev pub fileRefusal : Reading → Checked
-fileRefusal (Whole x) = Fine
+abbrev pub fileRefusal : Reading → Whole
+fileRefusal (WholeField x) = RefusedFile 0 0
 fileRefusal (RefusedField c p) = RefusedFile c p
 
-abbrev pub fileRows : Rows → Checked
-fileRows (Read k at) = Fine
+abbrev pub fileRows : Rows → Whole
+fileRows (Read k at) = RefusedFile 0 0
 fileRows (RefusedRows c p) = RefusedFile c p
 
--- 01's answer of a check
-abbrev pub checkedOf : {A : Type 0} → Outcome A → Checked
-checkedOf (accepted a) = Fine
-checkedOf (refused c p) = RefusedFile c p
+abbrev pub runAnswer : ℕ → RowCounts → Answer → Whole
+runAnswer mode n (Next at t) = Accepted mode n t
+runAnswer mode n (RefusedAnswer c p) = RefusedFile c p
 
--- the tree, 7, and the lowest unnamed row of n
+-- behind the tree: 7, and the lowest unnamed row of n
 unfoldable pub endF : List ℕ → ℕ → Outcome Past → Outcome Past
 endF f n o = do
   q ← o
@@ -109,25 +128,36 @@ endF f n o = do
   ensure (leb n (unnamed (q .marks))) 5 (7 + 7 * unnamed (q .marks))
   accepted q
 
-unfoldable pub treeF : List ℕ → ℕ → ℕ → List ℕ → Checked
-treeF f syms at m = checkedOf (endF f (length m) (recordF 64 f syms Program 0 at m))
+abbrev pub answerOf : Outcome Past → Answer
+answerOf (accepted q) = Next (q .next) (q .tally)
+answerOf (refused c p) = RefusedAnswer c p
 
-abbrev pub byRows : Rows → (ℕ → ℕ → Checked) → Checked
+unfoldable pub treeF : List ℕ → ℕ → ℕ → ℕ → List ℕ → Answer
+treeF f scopes syms at m = answerOf (endF f (length m) (recordF 64 f scopes syms Program Plain 0 noTally at m))
+
+abbrev pub byRows : Rows → (ℕ → ℕ → Whole) → Whole
 byRows (Read k at) g = g k at
 byRows (RefusedRows c p) g = RefusedFile c p
 
-abbrev pub byField : Reading → (Field → Checked) → Checked
-byField (Whole x) g = g x
+abbrev pub byField : Reading → (Field → Whole) → Whole
+byField (WholeField x) g = g x
 byField (RefusedField c p) g = RefusedFile c p
 
-unfoldable pub fileF : List ℕ → Checked
+-- the rows behind the settings, and the tree
+unfoldable pub rowsF : List ℕ → ℕ → ℕ → Whole
+rowsF f mode from =
+    byRows (readScopes f from) (λ n at.
+    byRows (readSymbols f n at) (λ syms at₂.
+    runAnswer mode (record { scopes = n; symbols = syms }) (treeF f n syms at₂ (replicate n 0))))
+
+unfoldable pub fileF : List ℕ → Whole
 fileF f =
     if leb (length f) 65535
     then byField (fieldAt f Settings 0) (λ s.
-    if leb (s .a) 2
-    then (if leb (s .b) 1
-    then byRows (readScopes f (s .next)) (λ n at.
-    byRows (readSymbols f n at) (λ syms at₂. treeF f syms at₂ (replicate n 0)))
-    else RefusedFile 5 0)
-    else RefusedFile 5 0)
+    if leb (s .a) 2 then (if leb (s .b) 1 then rowsF f (s .a) (s .next) else RefusedFile 5 0) else RefusedFile 5 0)
     else RefusedFile 1 65535
+
+-- 01's answer of a check
+abbrev pub checkedOf : {A : Type 0} → Outcome A → Checked
+checkedOf (accepted a) = Fine
+checkedOf (refused c p) = RefusedCheck c p

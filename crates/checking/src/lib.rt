@@ -1,9 +1,12 @@
 // Checking a tree file on its bytes.
+use figures::Figured;
 use meaning::Field;
 use meaning::Place;
 use meaning::Reading;
 use meaning::Rows;
 use meaning::ScopeId;
+use tallies::Tally;
+use tallies::Up;
 ghost use mathlib.Core.Path.{_≡_};
 ghost use mathlib.Core.Bool.{_||_};
 ghost use Prim.Native.Nat.{_≤_};
@@ -12,11 +15,25 @@ ghost use lib.Dec.{eqb};
 ghost use Rattle.meaning.specs.Tree.{if_then_else_};
 ghost use Rattle.meaning.specs.Grammar.{mayName, naming, unnamed};
 ghost use Rattle.meaning.specs.Reading.{scopeAt, symbolAt, readScopes, readSymbols, readFile};
-ghost use Rattle.checking.specs.Flat.{entered, enterF, refusalOf, past, recordF, childrenF, rowsRefusal, treeF, treeRefusal, fileF, fileRefusal, fileRows, checkedOf};
+ghost use Rattle.meaning.specs.Lowering.{figuresOf};
+ghost use Rattle.figures.specs.Figures.{figuredOf};
+ghost use Rattle.checking.specs.Flat.{entered, enterF, refusalOf, past, recordF, childrenF, rowsRefusal, treeF, fileRefusal, fileRows, runAnswer, rowsF, fileF, checkedOf};
 
-// The offset behind what was checked, or a refusal's number and place.
+// The offset behind what was checked and the tally so far, or a refusal's number and place.
 enum Answer {
-    Next(usize),
+    Next(usize, Tally),
+    Refused(u8, usize),
+}
+
+// How many scope and symbol rows a file has.
+pub struct RowCounts {
+    pub scopes: u16,
+    pub symbols: u16,
+}
+
+// What a whole file comes to: its mode, its rows and the tally of its tree, or the refusal.
+enum Whole {
+    Accepted(u16, RowCounts, Tally),
     Refused(u8, usize),
 }
 
@@ -90,77 +107,89 @@ fn refusal(r: Reading) -> Answer
 fn check_statement(
     file: &[u8],
     marks: &mut [u8],
-    symbols: usize,
+    rows: RowCounts,
     place: Place,
+    up: Up,
     cur: ScopeId,
+    before: Tally,
     at: usize,
     levels: u16,
 ) -> Answer
-    ensures { λ r. ⌜ past r (now (marks .exit)) ≡ recordF levels (now (file .entry)) symbols place (cur .0) at (now (marks .entry)) ⌝ }
+    ensures { λ r. ⌜ past r (now (marks .exit)) ≡ recordF levels (now (file .entry)) (rows .scopes) (rows .symbols) place up (cur .0) before at (now (marks .entry)) ⌝ }
 {
-    let read = enter_record(file, marks, symbols, place, cur, at);
+    let read = enter_record(file, marks, rows.symbols as usize, place, cur, at);
     let Reading::Whole(x) = read else {
         return refusal(read);
     };
     if levels == 0 {
         return Answer::Refused(6, at);
     }
-    check_children(
-        file,
-        marks,
-        symbols,
-        place,
-        x,
-        rules::scope_below(cur, rules::scope_in(x)),
-        levels - 1,
-    )
+    let below = rules::scope_below(cur, rules::scope_in(x));
+    let inside = check_children(file, marks, rows, place, up, x, below, levels - 1);
+    let Answer::Next(next, kids) = inside else {
+        return inside;
+    };
+    let inserted = tallies::inserts(file, rows.scopes, rows.symbols, up, x);
+    Answer::Next(next, tallies::add_record(before, up, inserted, x, kids))
 }
 
 // An expression.
 fn check_expression(
     file: &[u8],
     marks: &mut [u8],
-    symbols: usize,
+    rows: RowCounts,
     place: Place,
+    up: Up,
     cur: ScopeId,
+    before: Tally,
     at: usize,
     levels: u16,
 ) -> Answer
-    ensures { λ r. ⌜ past r (now (marks .exit)) ≡ recordF levels (now (file .entry)) symbols place (cur .0) at (now (marks .entry)) ⌝ }
+    ensures { λ r. ⌜ past r (now (marks .exit)) ≡ recordF levels (now (file .entry)) (rows .scopes) (rows .symbols) place up (cur .0) before at (now (marks .entry)) ⌝ }
 {
-    let read = enter_record(file, marks, symbols, place, cur, at);
+    let read = enter_record(file, marks, rows.symbols as usize, place, cur, at);
     let Reading::Whole(x) = read else {
         return refusal(read);
     };
     if levels == 0 {
         return Answer::Refused(6, at);
     }
-    check_children(
-        file,
-        marks,
-        symbols,
-        place,
-        x,
-        rules::scope_below(cur, rules::scope_in(x)),
-        levels - 1,
-    )
+    let below = rules::scope_below(cur, rules::scope_in(x));
+    let inside = check_children(file, marks, rows, place, up, x, below, levels - 1);
+    let Answer::Next(next, kids) = inside else {
+        return inside;
+    };
+    let inserted = tallies::inserts(file, rows.scopes, rows.symbols, up, x);
+    Answer::Next(next, tallies::add_record(before, up, inserted, x, kids))
 }
 
 // A child at its place.
 fn check_child(
     file: &[u8],
     marks: &mut [u8],
-    symbols: usize,
+    rows: RowCounts,
     place: Place,
+    up: Up,
     cur: ScopeId,
+    before: Tally,
     at: usize,
     levels: u16,
 ) -> Answer
-    ensures { λ r. ⌜ past r (now (marks .exit)) ≡ recordF levels (now (file .entry)) symbols place (cur .0) at (now (marks .entry)) ⌝ }
+    ensures { λ r. ⌜ past r (now (marks .exit)) ≡ recordF levels (now (file .entry)) (rows .scopes) (rows .symbols) place up (cur .0) before at (now (marks .entry)) ⌝ }
 {
     match place {
-        Place::Expression => check_expression(file, marks, symbols, place, cur, at, levels),
-        _ => check_statement(file, marks, symbols, place, cur, at, levels),
+        Place::Expression => check_expression(
+            file,
+            marks,
+            rows,
+            place,
+            up,
+            cur,
+            before,
+            at,
+            levels,
+        ),
+        _ => check_statement(file, marks, rows, place, up, cur, before, at, levels),
     }
 }
 
@@ -168,34 +197,40 @@ fn check_child(
 fn check_children(
     file: &[u8],
     marks: &mut [u8],
-    symbols: usize,
+    rows: RowCounts,
     place: Place,
+    up: Up,
     x: Field,
     cur: ScopeId,
     levels: u16,
 ) -> Answer
-    ensures { λ r. ⌜ past r (now (marks .exit)) ≡ childrenF levels (now (file .entry)) symbols place x (cur .0) (now (marks .entry)) ⌝ }
+    ensures { λ r. ⌜ past r (now (marks .exit)) ≡ childrenF levels (now (file .entry)) (rows .scopes) (rows .symbols) place up x (cur .0) (now (marks .entry)) ⌝ }
 {
     let n = rules::children_of(x);
     let mut at = x.next;
+    let mut t = tallies::no_tally();
     let mut k: u16 = 0;
     while k < n {
+        let here = rules::place_of(place, x, k);
         let a = check_child(
             file,
             marks,
-            symbols,
-            rules::place_of(place, x, k),
+            rows,
+            here,
+            tallies::up_in(file, up, x, k),
             cur,
+            t,
             at,
             levels,
         );
-        let Answer::Next(next) = a else {
+        let Answer::Next(next, sum) = a else {
             return a;
         };
         at = next;
+        t = sum;
         k += 1;
     }
-    Answer::Next(at)
+    Answer::Next(at, t)
 }
 
 // ---- the rows before the tree
@@ -306,77 +341,76 @@ fn first_unnamed(marks: &[u8]) -> usize
 }
 
 // The tree, what stands behind it, and the lowest unnamed row.
-fn check_tree(file: &[u8], marks: &mut [u8], symbols: usize, at: usize) -> Checked
+fn check_tree(file: &[u8], marks: &mut [u8], rows: RowCounts, at: usize) -> Answer
     requires { ⌜ length (now marks) ≤ 9362 ⌝ }
-    ensures { λ r. ⌜ r ≡ treeF (now (file .entry)) symbols at (now (marks .entry)) ⌝ }
+    ensures { λ r. ⌜ r ≡ treeF (now (file .entry)) (rows .scopes) (rows .symbols) at (now (marks .entry)) ⌝ }
 {
-    let a = check_statement(file, marks, symbols, Place::Program, ScopeId(0), at, 64);
-    let Answer::Next(next) = a else {
-        return tree_refusal(a);
+    let a = check_statement(
+        file,
+        marks,
+        rows,
+        Place::Program,
+        Up::Plain,
+        ScopeId(0),
+        tallies::no_tally(),
+        at,
+        64,
+    );
+    let Answer::Next(next, t) = a else {
+        return a;
     };
     if next < file.len() {
-        return Checked::Refused(7, next);
+        return Answer::Refused(7, next);
     }
     let u = first_unnamed(marks);
     if u < marks.len() {
-        return Checked::Refused(5, 7 + 7 * u);
+        return Answer::Refused(5, 7 + 7 * u);
     }
-    Checked::Fine
-}
-
-fn tree_refusal(a: Answer) -> Checked
-    ensures { λ q. ⌜ q ≡ treeRefusal a ⌝ }
-{
-    match a {
-        Answer::Next(_) => Checked::Fine,
-        Answer::Refused(c, p) => Checked::Refused(c, p),
-    }
+    Answer::Next(next, t)
 }
 
 // The same, with no row marked.
-fn check_unmarked(file: &[u8], scopes: usize, symbols: usize, at: usize) -> Checked
-    requires { ⌜ scopes ≤ 9362 ⌝ }
-    ensures { λ r. ⌜ r ≡ treeF (now (file .entry)) symbols at (replicate scopes 0) ⌝ }
+fn check_unmarked(file: &[u8], rows: RowCounts, at: usize) -> Answer
+    requires { ⌜ rows .scopes ≤ 9362 ⌝ }
+    ensures { λ r. ⌜ r ≡ treeF (now (file .entry)) (rows .scopes) (rows .symbols) at (replicate (rows .scopes) 0) ⌝ }
 {
     let mut marks = [0u8; 9362];
-    check_tree(file, &mut marks[..scopes], symbols, at)
+    let scopes = rows.scopes as usize;
+    check_tree(file, &mut marks[..scopes], rows, at)
 }
 
-fn file_refusal(r: Reading) -> Checked
+fn file_refusal(r: Reading) -> Whole
     ensures { λ q. ⌜ q ≡ fileRefusal r ⌝ }
 {
     match r {
-        Reading::Whole(_) => Checked::Fine,
-        Reading::Refused(c, p) => Checked::Refused(c, p),
+        Reading::Whole(_) => Whole::Refused(0, 0),
+        Reading::Refused(c, p) => Whole::Refused(c, p),
     }
 }
 
-fn rows_refused(r: Rows) -> Checked
+fn rows_refused(r: Rows) -> Whole
     ensures { λ q. ⌜ q ≡ fileRows r ⌝ }
 {
     match r {
-        Rows::Read(_, _) => Checked::Fine,
-        Rows::Refused(c, p) => Checked::Refused(c, p),
+        Rows::Read(_, _) => Whole::Refused(0, 0),
+        Rows::Refused(c, p) => Whole::Refused(c, p),
     }
 }
 
-fn check_file(file: &[u8]) -> Checked
-    ensures { λ r. ⌜ r ≡ fileF (now (file .entry)) ⌝ }
+fn run_answer(mode: u16, rows: RowCounts, a: Answer) -> Whole
+    ensures { λ q. ⌜ q ≡ runAnswer mode rows a ⌝ }
 {
-    if 65535 < file.len() {
-        return Checked::Refused(1, 65535);
+    match a {
+        Answer::Next(_, t) => Whole::Accepted(mode, rows, t),
+        Answer::Refused(c, p) => Whole::Refused(c, p),
     }
-    let read = fields::read_field(file, Place::Settings, 0);
-    let Reading::Whole(s) = read else {
-        return file_refusal(read);
-    };
-    if 2 < s.a {
-        return Checked::Refused(5, 0);
-    }
-    if 1 < s.b {
-        return Checked::Refused(5, 0);
-    }
-    let scopes = read_scopes(file, s.next);
+}
+
+// The rows behind the settings, and the tree.
+fn check_rows(file: &[u8], mode: u16, from: usize) -> Whole
+    ensures { λ r. ⌜ r ≡ rowsF (now (file .entry)) mode from ⌝ }
+{
+    let scopes = read_scopes(file, from);
     let Rows::Read(n, at) = scopes else {
         return rows_refused(scopes);
     };
@@ -384,12 +418,53 @@ fn check_file(file: &[u8]) -> Checked
     let Rows::Read(m, tree) = symbols else {
         return rows_refused(symbols);
     };
-    check_unmarked(file, n, m, tree)
+    let rows = RowCounts {
+        scopes: n as u16,
+        symbols: m as u16,
+    };
+    run_answer(mode, rows, check_unmarked(file, rows, tree))
 }
+
+// Checks a whole file: how many rows, and the tally of its tree.
+fn check_whole(file: &[u8]) -> Whole
+    ensures { λ r. ⌜ r ≡ fileF (now (file .entry)) ⌝ }
+{
+    if 65535 < file.len() {
+        return Whole::Refused(1, 65535);
+    }
+    let read = fields::read_field(file, Place::Settings, 0);
+    let Reading::Whole(s) = read else {
+        return file_refusal(read);
+    };
+    if 2 < s.a {
+        return Whole::Refused(5, 0);
+    }
+    if 1 < s.b {
+        return Whole::Refused(5, 0);
+    }
+    check_rows(file, s.a, s.next)
+}
+
+// ---- public
 
 // Checks a tree file: fine, or 01's refusal with its place.
 pub fn check(file: &[u8]) -> Checked
     ensures { λ r. ⌜ r ≡ checkedOf (readFile (now (file .entry))) ⌝ }
 {
-    check_file(file)
+    let r = check_whole(file);
+    match r {
+        Whole::Accepted(_, _, _) => Checked::Fine,
+        Whole::Refused(c, p) => Checked::Refused(c, p),
+    }
+}
+
+// The figures of the lowered file, from the source alone, or 01's refusal with its place: those of reading, and 8.
+pub fn figures(file: &[u8]) -> Figured
+    ensures { λ r. ⌜ r ≡ figuredOf (figuresOf (now (file .entry))) ⌝ }
+{
+    let w = check_whole(file);
+    match w {
+        Whole::Accepted(mode, rows, t) => figures::figures_of(mode, rows.scopes, rows.symbols, t),
+        Whole::Refused(c, p) => Figured::Refused(c, p),
+    }
 }

@@ -5,8 +5,8 @@ use native.Mathlib.Nat.{sub-zero}
 use lib.ListN.{length}
 use borrow.Author.Needs.{needs}
 use Rattle.meaning.specs.Grammar.{placeOf}
-use Rattle.checking.specs.Flat.{listF, recordF, childrenF}
-use Rattle.checking.proofs.Laws.{record-refused, record-deep, record-inside, list-step, list-stop, list-end}
+use Rattle.checking.specs.Flat.{upsF, listF, recordF, childrenF}
+use Rattle.checking.proofs.Laws.{record-refused, record-deep, record-stop, record-fine, list-step, list-stop, list-end}
 use borrow.Fn.Kinds.{In}
 use borrow.Fn.PlainCycle.{Measures, is, falls, and}
 use Rattle.checking.proofs.check_child.Reads as check-child
@@ -27,21 +27,25 @@ use Rattle.rules.proofs.children_of.Reads as children-of-reads
 use Rattle.rules.proofs.place_of.Reads as place-of-reads
 use Rattle.rules.proofs.scope_in.Reads as scope-in-reads
 use Rattle.rules.proofs.scope_below.Reads as scope-below-reads
+use Rattle.tallies.proofs.add_record.Reads as add-record-reads
+use Rattle.tallies.proofs.inserts.Reads as inserts-reads
+use Rattle.tallies.proofs.no_tally.Reads as no-tally-reads
+use Rattle.tallies.proofs.up_in.Reads as up-in-reads
 use Rattle.checking.proofs.+check_child+check_children+check_expression+check_statement.{statement}
 use Rattle.checking.proofs.+check_child+check_children+check_expression+check_statement.Tie.{close}
 
 -- a record hands its children a level less; a list asks for its children, and a child for its record, with the same levels
 abbrev μ-check-child : Measures 2 check-child-kinds.ps ℕ
-μ-check-child κs a = 3 * a .1 .1 .1 .1 .1 .1 .0 + 1
+μ-check-child κs a = 3 * a .1 .1 .1 .1 .1 .1 .1 .1 .0 + 1
 
 abbrev μ-check-children : Measures 2 check-children-kinds.ps ℕ
-μ-check-children κs a = 3 * a .1 .1 .1 .1 .1 .1 .0 + 2
+μ-check-children κs a = 3 * a .1 .1 .1 .1 .1 .1 .1 .0 + 2
 
 abbrev μ-check-expression : Measures 2 check-expression-kinds.ps ℕ
-μ-check-expression κs a = 3 * a .1 .1 .1 .1 .1 .1 .0
+μ-check-expression κs a = 3 * a .1 .1 .1 .1 .1 .1 .1 .1 .0
 
 abbrev μ-check-statement : Measures 2 check-statement-kinds.ps ℕ
-μ-check-statement κs a = 3 * a .1 .1 .1 .1 .1 .1 .0
+μ-check-statement κs a = 3 * a .1 .1 .1 .1 .1 .1 .1 .1 .0
 
 -- what each is given at the measure t, and what a call of it asks below t
 abbrev check-child-at : ℕ → In 2 check-child-kinds.ps
@@ -81,8 +85,12 @@ abbrev check-children-calls : ℕ → check-children-lts.Claims
 check-children-calls t = (
   children-of-reads.Asked,
   children-of-reads.Learnt,
+  no-tally-reads.Asked,
+  no-tally-reads.Learnt,
   place-of-reads.Asked,
   place-of-reads.Learnt,
+  up-in-reads.Asked,
+  up-in-reads.Learnt,
   check-child-below t,
   check-child.Post,
 )
@@ -99,6 +107,10 @@ check-expression-calls t = (
   scope-below-reads.Learnt,
   check-children-below t,
   check-children.Post,
+  inserts-reads.Asked,
+  inserts-reads.Learnt,
+  add-record-reads.Asked,
+  add-record-reads.Learnt,
 )
 
 abbrev check-statement-calls : ℕ → check-statement-lts.Claims
@@ -113,6 +125,10 @@ check-statement-calls t = (
   scope-below-reads.Learnt,
   check-children-below t,
   check-children.Post,
+  inserts-reads.Asked,
+  inserts-reads.Learnt,
+  add-record-reads.Asked,
+  add-record-reads.Learnt,
 )
 
 check-child-returns : (t : ℕ)
@@ -124,26 +140,30 @@ check-child-returns-2 : (t : ℕ)
 check-child-returns-2 t c = c .before .before .check-statement .ensures
 
 abbrev check-children-Inv-loop : check-children-lts.InvT-loop
-check-children-Inv-loop file marks₀ symbols place x cur levels n at₀ k₀ marks at k =
+check-children-Inv-loop file marks₀ rows place up x cur levels n at₀ t₀ k₀ marks at t k =
     (k ≤ n) × (length marks ≡ length marks₀)
-    × (childrenF levels file symbols place x (cur .0) marks₀
-    ≡ listF (λ j a m. recordF levels file symbols (placeOf place x j) (cur .0) a m) (n - k) k at marks)
+    × (childrenF levels file (rows .scopes) (rows .symbols) place up x (cur .0) marks₀
+    ≡ listF
+    (λ j s a m. recordF levels file (rows .scopes) (rows .symbols) (placeOf place x j) (upsF file up x j) (cur .0) s a m)
+    (n - k) k t at marks)
 
 abbrev check-children-μ-loop : check-children-lts.MeasureT-loop
-check-children-μ-loop file marks₀ symbols place x cur levels n at₀ k₀ marks at k = n - k
+check-children-μ-loop file marks₀ rows place up x cur levels n at₀ t₀ k₀ marks at t k = n - k
 
 check-children-loop-holds : (t : ℕ)
     → check-children-lts.Need-loop-holds (check-children-calls t) (check-children-at t) check-children.Post
     check-children-Inv-loop check-children-μ-loop
 unfolding childrenF
-check-children-loop-holds t c = (search needs, refl, rw (c .children-of .ensures, sub-zero))
+check-children-loop-holds t c =
+    let at-children-of = c .before in
+    (search needs, refl, rw (at-children-of .children-of .ensures, c .no-tally .ensures, sub-zero))
 
 check-children-same-length : (t : ℕ)
     → check-children-lts.Need-same-length (check-children-calls t) (check-children-at t) check-children.Post
     check-children-Inv-loop check-children-μ-loop
 check-children-same-length t c =
     let at-check-child = c .before .before .before .before in
-    let at-loop = at-check-child .before .before .before .before in
+    let at-loop = at-check-child .before .before .before .before .before in
     at-check-child .check-child .kept .1 .0 ∙ at-loop .loop .inv .1
 
 check-children-returns : (t : ℕ)
@@ -151,11 +171,13 @@ check-children-returns : (t : ℕ)
     check-children-Inv-loop check-children-μ-loop
 check-children-returns t c =
     let at-check-child = c .before .before .before .before in
-    let at-place-of = at-check-child .before in
-    let at-loop-test = at-place-of .before .before in
+    let at-up-in = at-check-child .before in
+    let at-place-of = at-up-in .before .before in
+    let at-loop-test = at-place-of .before in
     let at-loop = at-loop-test .before in
-    list-stop _ _ _ _ _ _ (at-loop .loop .inv .2) _ _ _ _ (at-loop-test .loop-test .taken)
-    (rw (← at-place-of .place-of .ensures) (at-check-child .check-child .ensures)) (c .enum-told .given .1)
+    list-stop _ _ _ _ _ _ _ (at-loop .loop .inv .2) _ _ _ _ (at-loop-test .loop-test .taken)
+    (rw (← at-place-of .place-of .ensures, ← at-up-in .up-in .ensures) (at-check-child .check-child .ensures))
+    (c .enum-told .given .1)
 
 check-children-loop-again : (t : ℕ)
     → check-children-lts.Need-loop-again (check-children-calls t) (check-children-at t) check-children.Post
@@ -163,13 +185,15 @@ check-children-loop-again : (t : ℕ)
 check-children-loop-again t c =
     let at-a = c .before in
     let at-check-child = at-a .before .before .before .before in
-    let at-place-of = at-check-child .before in
-    let at-loop-test = at-place-of .before .before in
+    let at-up-in = at-check-child .before in
+    let at-place-of = at-up-in .before .before in
+    let at-loop-test = at-place-of .before in
     let at-loop = at-loop-test .before in (
       search needs,
       at-check-child .check-child .kept .1 .0 ∙ at-loop .loop .inv .1,
-      list-step _ _ _ _ _ _ (at-loop .loop .inv .2) _ _ _ (at-loop-test .loop-test .taken)
-          (rw (← at-place-of .place-of .ensures) (at-check-child .check-child .ensures)) (at-a .a .given .1),
+      list-step _ _ _ _ _ _ _ (at-loop .loop .inv .2) _ _ _ _ (at-loop-test .loop-test .taken)
+          (rw (← at-place-of .place-of .ensures, ← at-up-in .up-in .ensures) (at-check-child .check-child .ensures))
+          (at-a .a .given .1),
     )
 
 check-children-returns-2 : (t : ℕ)
@@ -177,14 +201,14 @@ check-children-returns-2 : (t : ℕ)
     check-children-Inv-loop check-children-μ-loop
 check-children-returns-2 t c =
     let at-loop = c .before in
-    list-end _ _ _ _ _ _ (at-loop .loop .inv .2) (c .loop-test .left)
+    list-end _ _ _ _ _ _ _ (at-loop .loop .inv .2) (c .loop-test .left)
 
 check-expression-returns : (t : ℕ)
     → check-expression-lts.Need-returns (check-expression-calls t) (check-expression-at t) check-expression.Post
 check-expression-returns t c =
     let at-enum-told = c .before in
     let at-enter-record = at-enum-told .before .before .before .before in
-    record-refused _ _ _ _ _ _ _ _ _ (at-enter-record .enter-record .ensures) _ _ _ _
+    record-refused _ _ _ _ _ _ _ _ _ _ _ _ (at-enter-record .enter-record .ensures) _ _ _ _
     (at-enum-told .enum-told .given .1) (c .refusal .ensures)
 
 check-expression-returns-2 : (t : ℕ)
@@ -192,28 +216,53 @@ check-expression-returns-2 : (t : ℕ)
 check-expression-returns-2 t c =
     let at-read = c .before .before in
     let at-enter-record = at-read .before .before .before .before in
-    record-deep _ _ _ _ _ _ _ _ _ (at-enter-record .enter-record .ensures) _ (at-read .read .given .1) (c .if1 .taken)
+    record-deep _ _ _ _ _ _ _ _ _ _ _ _ (at-enter-record .enter-record .ensures) _ (at-read .read .given .1) (c .if1 .taken)
 
 check-expression-returns-3 : (t : ℕ)
     → check-expression-lts.Need-returns-3 (check-expression-calls t) (check-expression-at t) check-expression.Post
 check-expression-returns-3 t c =
-    let at-check-children = c .before .before in
-    let at-scope-below = at-check-children .before in
+    let at-check-children = c .before .before .before .before in
+    let at-scope-below = at-check-children .before .before in
     let at-scope-in = at-scope-below .before in
-    let at-if1 = at-scope-in .before .before in
+    let at-if1 = at-scope-in .before in
     let at-read = at-if1 .before .before in
     let at-enter-record = at-read .before .before .before .before in
-    record-inside _ _ _ _ _ _ _ _ _ (at-enter-record .enter-record .ensures) _
+    record-stop _ _ _ _ _ _ _ _ _ _ _ _ (at-enter-record .enter-record .ensures) _
     (at-check-children .check-children .result) _ (at-read .read .given .1) (at-if1 .if1 .left)
     (rw (← at-scope-in .scope-in .ensures, ← at-scope-below .scope-below .ensures)
-    (at-check-children .check-children .ensures))
+    (at-check-children .check-children .ensures)) _ _ (c .enum-told2 .given .1)
+
+check-expression-same-length-4 : (t : ℕ)
+    → check-expression-lts.Need-same-length-4 (check-expression-calls t) (check-expression-at t) check-expression.Post
+check-expression-same-length-4 t c =
+    let at-check-children = c .before .before .before .before .before .before .before in
+    let at-read = at-check-children .before .before .before .before .before .before in
+    let at-enter-record = at-read .before .before .before .before in
+    at-check-children .check-children .kept .1 .0 ∙ at-enter-record .enter-record .kept .1 .0
+
+check-expression-returns-4 : (t : ℕ)
+    → check-expression-lts.Need-returns-4 (check-expression-calls t) (check-expression-at t) check-expression.Post
+check-expression-returns-4 t c =
+    let at-inserts = c .before in
+    let at-inside = at-inserts .before .before in
+    let at-check-children = at-inside .before .before .before .before in
+    let at-scope-below = at-check-children .before .before in
+    let at-scope-in = at-scope-below .before in
+    let at-if1 = at-scope-in .before in
+    let at-read = at-if1 .before .before in
+    let at-enter-record = at-read .before .before .before .before in
+    record-fine _ _ _ _ _ _ _ _ _ _ _ _ (at-enter-record .enter-record .ensures) _
+    (at-check-children .check-children .result) _ (at-read .read .given .1) (at-if1 .if1 .left)
+    (rw (← at-scope-in .scope-in .ensures, ← at-scope-below .scope-below .ensures)
+    (at-check-children .check-children .ensures)) _ _ _ _ (at-inside .inside .given .1) (at-inserts .inserts .ensures)
+    (c .add-record .ensures)
 
 check-statement-returns : (t : ℕ)
     → check-statement-lts.Need-returns (check-statement-calls t) (check-statement-at t) check-statement.Post
 check-statement-returns t c =
     let at-enum-told = c .before in
     let at-enter-record = at-enum-told .before .before .before .before in
-    record-refused _ _ _ _ _ _ _ _ _ (at-enter-record .enter-record .ensures) _ _ _ _
+    record-refused _ _ _ _ _ _ _ _ _ _ _ _ (at-enter-record .enter-record .ensures) _ _ _ _
     (at-enum-told .enum-told .given .1) (c .refusal .ensures)
 
 check-statement-returns-2 : (t : ℕ)
@@ -221,21 +270,46 @@ check-statement-returns-2 : (t : ℕ)
 check-statement-returns-2 t c =
     let at-read = c .before .before in
     let at-enter-record = at-read .before .before .before .before in
-    record-deep _ _ _ _ _ _ _ _ _ (at-enter-record .enter-record .ensures) _ (at-read .read .given .1) (c .if1 .taken)
+    record-deep _ _ _ _ _ _ _ _ _ _ _ _ (at-enter-record .enter-record .ensures) _ (at-read .read .given .1) (c .if1 .taken)
 
 check-statement-returns-3 : (t : ℕ)
     → check-statement-lts.Need-returns-3 (check-statement-calls t) (check-statement-at t) check-statement.Post
 check-statement-returns-3 t c =
-    let at-check-children = c .before .before in
-    let at-scope-below = at-check-children .before in
+    let at-check-children = c .before .before .before .before in
+    let at-scope-below = at-check-children .before .before in
     let at-scope-in = at-scope-below .before in
-    let at-if1 = at-scope-in .before .before in
+    let at-if1 = at-scope-in .before in
     let at-read = at-if1 .before .before in
     let at-enter-record = at-read .before .before .before .before in
-    record-inside _ _ _ _ _ _ _ _ _ (at-enter-record .enter-record .ensures) _
+    record-stop _ _ _ _ _ _ _ _ _ _ _ _ (at-enter-record .enter-record .ensures) _
     (at-check-children .check-children .result) _ (at-read .read .given .1) (at-if1 .if1 .left)
     (rw (← at-scope-in .scope-in .ensures, ← at-scope-below .scope-below .ensures)
-    (at-check-children .check-children .ensures))
+    (at-check-children .check-children .ensures)) _ _ (c .enum-told2 .given .1)
+
+check-statement-same-length-4 : (t : ℕ)
+    → check-statement-lts.Need-same-length-4 (check-statement-calls t) (check-statement-at t) check-statement.Post
+check-statement-same-length-4 t c =
+    let at-check-children = c .before .before .before .before .before .before .before in
+    let at-read = at-check-children .before .before .before .before .before .before in
+    let at-enter-record = at-read .before .before .before .before in
+    at-check-children .check-children .kept .1 .0 ∙ at-enter-record .enter-record .kept .1 .0
+
+check-statement-returns-4 : (t : ℕ)
+    → check-statement-lts.Need-returns-4 (check-statement-calls t) (check-statement-at t) check-statement.Post
+check-statement-returns-4 t c =
+    let at-inserts = c .before in
+    let at-inside = at-inserts .before .before in
+    let at-check-children = at-inside .before .before .before .before in
+    let at-scope-below = at-check-children .before .before in
+    let at-scope-in = at-scope-below .before in
+    let at-if1 = at-scope-in .before in
+    let at-read = at-if1 .before .before in
+    let at-enter-record = at-read .before .before .before .before in
+    record-fine _ _ _ _ _ _ _ _ _ _ _ _ (at-enter-record .enter-record .ensures) _
+    (at-check-children .check-children .result) _ (at-read .read .given .1) (at-if1 .if1 .left)
+    (rw (← at-scope-in .scope-in .ensures, ← at-scope-below .scope-below .ensures)
+    (at-check-children .check-children .ensures)) _ _ _ _ (at-inside .inside .given .1) (at-inserts .inserts .ensures)
+    (c .add-record .ensures)
 
 pub +check-child+check-children+check-expression+check-statement-spec : {M : Type 1} → statement M
 +check-child+check-children+check-expression+check-statement-spec =
@@ -245,18 +319,22 @@ pub +check-child+check-children+check-expression+check-statement-spec : {M : Typ
     (λ c. search needs) (λ c κs. search needs) (λ c κs. search needs) (λ c. search needs)
     (check-child-returns t) (λ c. search needs) (check-child-returns-2 t))
     (λ t. check-children-lts.spec (check-children-calls t) (check-children-at t) check-children.Post
-    check-children-Inv-loop check-children-μ-loop (λ c κs. search needs)
+    check-children-Inv-loop check-children-μ-loop (λ c κs. search needs) (λ c κs. search needs)
     (check-children-loop-holds t) (λ c κs. search needs) (λ c κs. search needs)
-    (λ c. search needs) (λ c. search needs) (check-children-same-length t)
+    (λ c κs. search needs) (λ c. search needs) (λ c. search needs) (check-children-same-length t)
     (check-children-returns t) (λ c. search needs) (λ c. search needs)
     (check-children-loop-again t) (λ c. search needs) (check-children-returns-2 t))
     (λ t. check-expression-lts.spec (check-expression-calls t) (check-expression-at t) check-expression.Post
-    (λ c κs. search needs) (λ c. search needs) (λ c. search needs) (λ c κs. search needs)
-    (λ c. search needs) (check-expression-returns t) (λ c. search needs)
+    (λ c. search needs) (λ c κs. search needs) (λ c. search needs) (λ c. search needs)
+    (λ c κs. search needs) (λ c. search needs) (check-expression-returns t) (λ c. search needs)
     (check-expression-returns-2 t) (λ c κs. search needs) (λ c κs. search needs)
-    (λ c. search needs) (λ c κs. search needs) (λ c. search needs) (check-expression-returns-3 t))
+    (λ c. search needs) (λ c κs. search needs) (λ c. search needs) (λ c. search needs)
+    (λ c. search needs) (check-expression-returns-3 t) (λ c κs. search needs) (λ c κs. search needs)
+    (check-expression-same-length-4 t) (check-expression-returns-4 t))
     (λ t. check-statement-lts.spec (check-statement-calls t) (check-statement-at t) check-statement.Post
-    (λ c κs. search needs) (λ c. search needs) (λ c. search needs) (λ c κs. search needs)
-    (λ c. search needs) (check-statement-returns t) (λ c. search needs)
+    (λ c. search needs) (λ c κs. search needs) (λ c. search needs) (λ c. search needs)
+    (λ c κs. search needs) (λ c. search needs) (check-statement-returns t) (λ c. search needs)
     (check-statement-returns-2 t) (λ c κs. search needs) (λ c κs. search needs)
-    (λ c. search needs) (λ c κs. search needs) (λ c. search needs) (check-statement-returns-3 t))
+    (λ c. search needs) (λ c κs. search needs) (λ c. search needs) (λ c. search needs)
+    (λ c. search needs) (check-statement-returns-3 t) (λ c κs. search needs) (λ c κs. search needs)
+    (check-statement-same-length-4 t) (check-statement-returns-4 t))

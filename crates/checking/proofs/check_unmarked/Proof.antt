@@ -5,19 +5,19 @@ use Rattle.checking.proofs.check_unmarked.Statement.{statement}
 use Rattle.checking.proofs.check_unmarked.Tie as tie
 
 slice-aggregate-check-tree : tie.Need-slice-aggregate-check-tree
-slice-aggregate-check-tree c = zeros-length _ (c .before .before .pre)
+slice-aggregate-check-tree c = zeros-length _ (c .before .before .before .pre)
 
 check-tree-requires : tie.Need-check-tree-requires
-check-tree-requires c κs = zeros-few _ (c .before .before .pre)
+check-tree-requires c κs = zeros-few _ (c .before .before .before .pre)
 
 returns : tie.Need-returns
 returns c =
     let at-check-tree = c .before in
-    let start = at-check-tree .before .before .before in
+    let start = at-check-tree .before .before .before .before in
     rw (← take-zeros _ (start .pre)) (at-check-tree .check-tree .ensures)
 
 pub check-unmarked-spec : {M : Type 1} → statement M
 check-unmarked-spec =
     tie.close
     (tie.spec
-    (λ c. search needs) slice-aggregate-check-tree check-tree-requires returns)
+    (λ c. search needs) (λ c. search needs) slice-aggregate-check-tree check-tree-requires returns)

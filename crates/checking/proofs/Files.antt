@@ -1,0 +1,201 @@
+-- The whole file: what the check computes is what the reader answers.
+-- Assumes nothing.
+use mathlib.Core.Path.{_≡_, refl, sym, ap, subst, _∙_}
+use mathlib.Core.Bool.{Bool, true, false, _&&_, _||_, or-false}
+use mathlib.Core.List.{List, [], _∷_}
+use Prim.Native.Nat.{ℕ, zero, suc, _+_, _*_}
+use native.Mathlib.Omega.{arith}
+use lib.Dec.{eqb, leb}
+use lib.ListN.{length, getD, replicate, length-replicate}
+use Rattle.meaning.specs.Tree.{if_then_else_, Forest}
+use Rattle.meaning.specs.File.{Scope, Symbol, File, numbersOf, fieldBytes}
+use Rattle.meaning.specs.Grammar.{tagsOf, fieldOf, fieldAt, scopeRight, unnamed}
+use Rattle.meaning.specs.Reading.{
+  Outcome,
+  accepted,
+  refused,
+  _>>=_,
+  _>>_,
+  ensure,
+  field,
+  judged,
+  andRows,
+  Records,
+  Counted,
+  rows,
+  scopeAt,
+  symbolAt,
+  readRows,
+  readScopes,
+  readSymbols,
+  scopesIn,
+  symbolsIn,
+  readForest,
+  readFile,
+}
+use Rattle.meaning.specs.declared.Place.the-variants.{Settings, ScopeRow, Program}
+use Rattle.meaning.specs.declared.Field.{Field}
+use Rattle.meaning.specs.declared.Reading.{Reading}
+use Rattle.meaning.specs.declared.Reading.the-variants.{Whole as WholeField, Refused as RefusedField}
+use Rattle.meaning.specs.declared.Rows.{Rows}
+use Rattle.meaning.specs.declared.Rows.the-variants.{Read, Refused as RefusedRows}
+use Rattle.tallies.specs.Tally.{noTally, _⊞_, cap, tallyOf}
+use Rattle.tallies.specs.declared.Tally.{Tally}
+use Rattle.tallies.specs.declared.Up.{Up}
+use Rattle.tallies.specs.declared.Up.the-variants.{Plain}
+use Rattle.checking.specs.declared.Answer.{Answer}
+use Rattle.checking.specs.declared.Answer.the-variants.{Next, Refused as RefusedAnswer}
+use Rattle.checking.specs.declared.RowCounts.{RowCounts}
+use Rattle.checking.specs.declared.Whole.{Whole}
+use Rattle.checking.specs.declared.Whole.the-variants.{Accepted, Refused as RefusedFile}
+use Rattle.checking.specs.Flat.{Past, listF, recordF, runAnswer, endF, answerOf, treeF, byRows, byField, rowsF, fileF}
+use Rattle.checking.proofs.Cap.{none-⊞}
+use Rattle.checking.proofs.Body.{tag-is}
+use Rattle.checking.proofs.Link.{forget, asRead, link-forest}
+
+-- what a file comes to
+abbrev pub tallyIn : File → Tally
+tallyIn f = tallyOf (f .symbols) (λ _. Plain) 0 (f .tree)
+
+abbrev pub wholeOf : Outcome File → Whole
+wholeOf (accepted f) = Accepted (f .mode) (record { scopes = length (f .scopes); symbols = length (f .symbols) }) (cap (tallyIn f))
+wholeOf (refused c p) = RefusedFile c p
+
+-- ---- the rows: their number, and where they end
+
+length-scopes : (f : List ℕ) (n s : ℕ) → length (scopesIn f n s) ≡ n
+unfolding scopesIn
+length-scopes f zero s = refl
+length-scopes f (suc n) s = ap suc (length-scopes f n (suc s))
+
+length-symbols : (f : List ℕ) (n at : ℕ) → length (symbolsIn f n at) ≡ n
+unfolding symbolsIn
+length-symbols f zero at = refl
+length-symbols f (suc n) at = ap suc (length-symbols f n (at + 11))
+
+-- scope rows have 7 bytes each
+abbrev Ends : ℕ → Rows → Type 0
+Ends from (Read k at) = at ≡ from + 7 * k
+Ends from (RefusedRows c p) = Unit {0}
+
+ends-if : (b : Bool) (from : ℕ) (x y : Rows) → Ends from x → Ends from y → Ends from (if b then x else y)
+ends-if true from x y hx hy = hx
+ends-if false from x y hx hy = hy
+
+judged-inv : (test : Field → Bool) (at : ℕ) (d : Reading) (x : Field) → judged test at d ≡ WholeField x → d ≡ WholeField x
+judged-inv test at (WholeField y) x e = go (test y) e
+  where
+    go : (b : Bool) → (if b then WholeField y else RefusedField 5 at) ≡ WholeField x → WholeField y ≡ WholeField x
+    go true e = e
+    go false e = absurd (let z : _≡_ {A = ℕ} 0 1 = cc in omega arith)
+judged-inv test at (RefusedField c p) x e = e
+
+scope-next : (f : List ℕ) (k at : ℕ) (x : Field) → scopeAt f k at ≡ WholeField x → x .next ≡ at + 7
+unfolding scopeAt tagsOf fieldOf fieldBytes numbersOf
+scope-next f k at x e =
+    let w = tag-is f ScopeRow at 41 x (judged-inv (scopeRight k) at (fieldAt f ScopeRow at) x e) refl in
+    ap (λ (y : Field). y .next) (w .2) ∙ (rw (w .0))
+
+ends-field : (d : Reading) (from : ℕ) (g : Field → Rows) → ((x : Field) → d ≡ WholeField x → Ends from (g x)) → Ends from (andRows d g)
+ends-field (WholeField x) from g h = h x refl
+ends-field (RefusedField c p) from g h = tt
+
+rows-end : (again : ℕ → ℕ → Bool) (f : List ℕ) (from n k at : ℕ) → at ≡ from + 7 * k → Ends from (readRows again (scopeAt f) n k at)
+unfolding readRows
+rows-end again f from zero k at e = e
+rows-end again f from (suc n) k at e =
+    ends-if (again k at) from _ _
+    (ends-field (scopeAt f k at) from _ (λ x w.
+    rows-end again f from n (k + 1) (x .next) (omega (arith, scope-next f k at x w))))
+    e
+
+scopes-end : (f : List ℕ) (from n at : ℕ) → readScopes f from ≡ Read n at → at ≡ from + 7 * n
+unfolding readScopes
+scopes-end f from n at e = subst (Ends from) e (rows-end _ f from 9362 0 from (omega arith))
+
+-- ---- the tree
+
+alone : (o : Outcome Past) → o >>= (λ q. accepted (record { next = q .next; marks = q .marks; tally = q .tally })) ≡ o
+alone (accepted q) = refl
+alone (refused c p) = refl
+
+program-is : (f : List ℕ) (scopes syms at : ℕ) (m : List ℕ)
+    → forget (asRead f scopes syms) (λ _. Plain) 0 noTally (readForest 64 f syms (λ _. Program) 0 0 1 at m)
+    ≡ recordF 64 f scopes syms Program Plain 0 noTally at m
+unfolding listF
+program-is f scopes syms at m =
+    link-forest f scopes syms 64 (λ _. Program) (λ _. Plain) 0 1 0 noTally at m ∙ alone (recordF 64 f scopes syms Program Plain 0 noTally at m)
+
+-- 7 and the lowest unnamed row; `g` makes the file
+end-tests : (b₁ b₂ : Bool) (c₁ p₁ c₂ p₂ : ℕ) (g : File) (q : Past) (mode : ℕ) (n : RowCounts)
+    → wholeOf (accepted g) ≡ Accepted mode n (q .tally)
+    → wholeOf (ensure b₁ c₁ p₁ >> (ensure b₂ c₂ p₂ >> accepted g))
+    ≡ runAnswer mode n (answerOf (ensure b₁ c₁ p₁ >> (ensure b₂ c₂ p₂ >> accepted q)))
+end-tests true true c₁ p₁ c₂ p₂ g q mode n e = e
+end-tests true false c₁ p₁ c₂ p₂ g q mode n e = refl
+end-tests false b₂ c₁ p₁ c₂ p₂ g q mode n e = refl
+
+end-is : (f : List ℕ) (n : ℕ) (ys : List Symbol) (o : Outcome Records) (oF : Outcome Past) (g : Records → File) (mode : ℕ) (counts : RowCounts)
+    → forget ys (λ _. Plain) 0 noTally o ≡ oF
+    → ((k : Records) → wholeOf (accepted (g k)) ≡ Accepted mode counts (cap (noTally ⊞ tallyOf ys (λ _. Plain) 0 (k .forest))))
+    → wholeOf
+    (o >>= (λ k.
+    ensure (leb (length f) (k .next)) 7 (k .next)
+    >> (ensure (leb n (unnamed (k .marks))) 5 (7 + 7 * unnamed (k .marks)) >> accepted (g k))))
+    ≡ runAnswer mode counts (answerOf (endF f n oF))
+unfolding endF
+end-is f n ys (accepted k) oF g mode counts e h =
+    end-tests (leb (length f) (k .next)) (leb n (unnamed (k .marks))) 7 (k .next) 5 (7 + 7 * unnamed (k .marks)) (g k)
+    (record { next = k .next; marks = k .marks; tally = cap (noTally ⊞ tallyOf ys (λ _. Plain) 0 (k .forest)) }) mode counts (h k)
+    ∙ ap (λ (q : Outcome Past). runAnswer mode counts (answerOf (endF f n q))) e
+end-is f n ys (refused c p) oF g mode counts e h = ap (λ (q : Outcome Past). runAnswer mode counts (answerOf (endF f n q))) e
+
+-- ---- the steps before the tree
+
+by-size : (b : Bool) (o : Outcome File) (r : Whole) → wholeOf o ≡ r → wholeOf (ensure b 1 65535 >> o) ≡ (if b then r else RefusedFile 1 65535)
+by-size true o r e = e
+by-size false o r e = refl
+
+by-settings : (b₁ b₂ : Bool) (o : Outcome File) (r : Whole) → wholeOf o ≡ r
+    → wholeOf (ensure (b₁ && b₂) 5 0 >> o) ≡ (if b₁ then (if b₂ then r else RefusedFile 5 0) else RefusedFile 5 0)
+by-settings true true o r e = e
+by-settings true false o r e = refl
+by-settings false b₂ o r e = refl
+
+by-field : (d : Reading) (g : Field → Outcome File) (gF : Field → Whole) → ((x : Field) → d ≡ WholeField x → wholeOf (g x) ≡ gF x) → wholeOf (field d >>= g) ≡ byField d gF
+by-field (WholeField x) g gF h = h x refl
+by-field (RefusedField c p) g gF h = refl
+
+by-rows : (d : Rows) (g : Counted → Outcome File) (gF : ℕ → ℕ → Whole)
+    → ((k at : ℕ) → d ≡ Read k at → wholeOf (g (record { number = k; next = at })) ≡ gF k at)
+    → wholeOf (rows d >>= g) ≡ byRows d gF
+by-rows (Read k at) g gF h = h k at refl
+by-rows (RefusedRows c p) g gF h = refl
+
+-- the file that is made of accepted records
+made-is : (f : List ℕ) (mode modul n syms at : ℕ) (k : Records) → at ≡ 7 + 7 * n
+    → wholeOf (accepted (record { mode = mode; isModule = modul; scopes = scopesIn f n 1; symbols = symbolsIn f syms at; tree = k .forest }))
+    ≡ Accepted mode (record { scopes = n; symbols = syms }) (cap (noTally ⊞ tallyOf (asRead f n syms) (λ _. Plain) 0 (k .forest)))
+made-is f mode modul n syms at k e =
+    rw (length-scopes f n 1, length-symbols f syms at, e)
+    (ap (λ (t : Tally). Accepted mode (record { scopes = n; symbols = syms }) (cap t)) (sym (none-⊞ _)))
+
+settings-next : (f : List ℕ) (x : Field) → fieldAt f Settings 0 ≡ WholeField x → x .next ≡ 7
+unfolding tagsOf fieldOf fieldBytes numbersOf
+settings-next f x e =
+    let w = tag-is f Settings 0 40 x e refl in
+    ap (λ (y : Field). y .next) (w .2) ∙ (rw (w .0))
+
+pub whole-is : (f : List ℕ) → wholeOf (readFile f) ≡ fileF f
+unfolding readFile fileF rowsF treeF
+whole-is f =
+    by-size (leb (length f) 65535) _ _ (
+    by-field (fieldAt f Settings 0) _ _ (λ s es.
+    by-settings (leb (s .a) 2) (leb (s .b) 1) _ _ (
+    by-rows (readScopes f (s .next)) _ _ (λ n at en.
+    by-rows (readSymbols f n at) _ _ (λ syms at₂ ey.
+    end-is f n (asRead f n syms) (readForest 64 f syms (λ _. Program) 0 0 1 at₂ (replicate n 0)) _ _ (s .a) (record { scopes = n; symbols = syms })
+    (program-is f n syms at₂ (replicate n 0))
+    (λ k. made-is f (s .a) (s .b) n syms at k (scopes-end f (s .next) n at en ∙ ap (λ (i : ℕ). i + 7 * n) (settings-next f s es)))
+    ∙ ap (λ (j : ℕ). runAnswer (s .a) (record { scopes = n; symbols = syms }) (answerOf (endF f j (recordF 64 f n syms Program Plain 0 noTally at₂ (replicate n 0)))))
+    (sym (length-replicate n 0)))))))
