@@ -56,20 +56,20 @@ use Rattle.totals.specs.Roles.{Lacks, LacksBelow, Regular, clash}
 -- ---- outcomes
 
 -- it holds of what is accepted
-abbrev Holds : {A : Type 0} → (A → Type 0) → Outcome A → Type 0
+abbrev pub Holds : {A : Type 0} → (A → Type 0) → Outcome A → Type 0
 Holds P (accepted a) = P a
 Holds P (refused c p) = Unit {0}
 
-bind : {A B : Type 0} (P : A → Type 0) (Q : B → Type 0) (m : Outcome A) (g : A → Outcome B)
+pub bind : {A B : Type 0} (P : A → Type 0) (Q : B → Type 0) (m : Outcome A) (g : A → Outcome B)
     → Holds P m → ((a : A) → P a → Holds Q (g a)) → Holds Q (m >>= g)
 bind P Q (accepted a) g h k = k a h
 bind P Q (refused c p) g h k = tt
 
-bind-any : {A B : Type 0} (Q : B → Type 0) (m : Outcome A) (g : A → Outcome B) → ((a : A) → Holds Q (g a)) → Holds Q (m >>= g)
+pub bind-any : {A B : Type 0} (Q : B → Type 0) (m : Outcome A) (g : A → Outcome B) → ((a : A) → Holds Q (g a)) → Holds Q (m >>= g)
 bind-any Q (accepted a) g k = k a
 bind-any Q (refused c p) g k = tt
 
-ensured : (b : Bool) (c p : ℕ) → Holds (λ _. b ≡ true) (ensure b c p)
+pub ensured : (b : Bool) (c p : ℕ) → Holds (λ _. b ≡ true) (ensure b c p)
 ensured true c p = refl
 ensured false c p = tt
 
@@ -81,7 +81,7 @@ record Fits (f : List ℕ) (p : Place) (at : ℕ) (x : Field) : Type 0 where
   long : at + 3 ≤ x .next
   ends : x .next ≤ length f
 
-by-tests : (cut a wrong short : Bool) (P : Field → Type 0) (x : Field) (at : ℕ) → (a ≡ true → short ≡ false → P x)
+pub by-tests : (cut a wrong short : Bool) (P : Field → Type 0) (x : Field) (at : ℕ) → (a ≡ true → short ≡ false → P x)
     → Holds P
     (field (if cut then Refused 2 at else if not a then Refused 3 at else if wrong then Refused 4 at else if short then Refused 2 at else Whole x))
 by-tests true a wrong short P x at h = tt
@@ -109,7 +109,7 @@ bars-tag false p t n e y bars = refl
 
 -- ---- places below a record
 
-either : (P : Place → Type 0) (b : Bool) {p q : Place} → P p → P q → P (if b then p else q)
+pub either : (P : Place → Type 0) (b : Bool) {p q : Place} → P p → P q → P (if b then p else q)
 either P true x y = x
 either P false x y = y
 

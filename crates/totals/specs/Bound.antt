@@ -32,7 +32,7 @@ use Rattle.tallies.specs.Tally.{
 }
 use Rattle.totals.specs.Roles.{Seen, other, here, there, seen}
 
-one-most : (b : Bool) → oneIf b ≤ 1
+pub one-most : (b : Bool) → oneIf b ≤ 1
 one-most true = omega arith
 one-most false = omega arith
 
@@ -40,7 +40,7 @@ if-most : (b : Bool) (n : ℕ) → (if b then n else 0) ≤ n
 if-most true n = omega arith
 if-most false n = omega arith
 
-kept-most : (t usings n : ℕ) → itemsKept t usings n ≤ n
+pub kept-most : (t usings n : ℕ) → itemsKept t usings n ≤ n
 unfolding itemsKept
 kept-most t usings n = go (eqb t 1 && eqb usings 0)
   where

@@ -9,3 +9,5 @@ pub mod Total
 pub mod Bound
 -- So it is with every accepted file.
 pub mod Accepted
+-- Its final figures fit 16 bits.
+pub mod Fits
