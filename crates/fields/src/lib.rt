@@ -3,6 +3,7 @@ use meaning::Field;
 use meaning::Place;
 use meaning::Reading;
 ghost use mathlib.Core.Path.{_≡_};
+ghost use mathlib.Core.List.{[], _∷_, _++_};
 ghost use Prim.Native.Nat.{_+_, _≤_};
 ghost use lib.ListN.{getD, length};
 ghost use Rattle.meaning.specs.Tree.{oneOf};
@@ -62,6 +63,61 @@ fn is_expression(tag: u8) -> bool
     }
 }
 
+fn is_program_item(tag: u8) -> bool
+    ensures { λ r. ⌜ r ≡ oneOf (5 ∷ 17 ∷ 18 ∷ 19 ∷ statements) tag ⌝ }
+{
+    match tag {
+        5 | 17 | 18 | 19 => true,
+        _ => is_statement(tag),
+    }
+}
+
+fn is_list_item(tag: u8) -> bool
+    ensures { λ r. ⌜ r ≡ oneOf (5 ∷ statements) tag ⌝ }
+{
+    match tag {
+        5 => true,
+        _ => is_statement(tag),
+    }
+}
+
+fn is_plain_item(tag: u8) -> bool
+    ensures { λ r. ⌜ r ≡ oneOf (statements ++ expressions) tag ⌝ }
+{
+    match tag {
+        24 | 25 | 27 | 28 => true,
+        _ => is_statement(tag),
+    }
+}
+
+// What may stand left in a For or a ForOf.
+fn is_left(tag: u8) -> bool
+    ensures { λ r. ⌜ r ≡ oneOf (5 ∷ expressions) tag ⌝ }
+{
+    match tag {
+        5 => true,
+        _ => is_expression(tag),
+    }
+}
+
+fn is_class_item(tag: u8) -> bool
+    ensures { λ r. ⌜ r ≡ oneOf (16 ∷ expressions) tag ⌝ }
+{
+    match tag {
+        16 => true,
+        _ => is_expression(tag),
+    }
+}
+
+fn is_exported(tag: u8) -> bool
+    ensures { λ r. ⌜ r ≡ oneOf (5 ∷ 13 ∷ 15 ∷ []) tag ⌝ }
+{
+    match tag {
+        5 | 13 | 15 => true,
+        _ => false,
+    }
+}
+
 // Whether a tag may stand at a place.
 pub fn is_allowed(place: Place, tag: u8) -> bool
     ensures { λ r. ⌜ r ≡ allowed place tag ⌝ }
@@ -71,45 +127,24 @@ pub fn is_allowed(place: Place, tag: u8) -> bool
         Place::ScopeRow => tag == 41,
         Place::SymbolRow => tag == 42,
         Place::Program => tag == 1,
-        Place::ProgramItem => match tag {
-            5 | 17 | 18 | 19 => true,
-            _ => is_statement(tag),
-        },
-        Place::ListItem => match tag {
-            5 => true,
-            _ => is_statement(tag),
-        },
+        Place::ProgramItem => is_program_item(tag),
+        Place::ListItem => is_list_item(tag),
         Place::Statement => is_statement(tag),
-        Place::PlainItem => match tag {
-            24 | 25 | 27 | 28 => true,
-            _ => is_statement(tag),
-        },
+        Place::PlainItem => is_plain_item(tag),
         Place::Declarator => tag == 6,
         Place::ForOfDeclarator => tag == 6,
         Place::Name => tag == 26,
-        Place::ForLeft => match tag {
-            5 => true,
-            _ => is_expression(tag),
-        },
-        Place::ForOfLeft => match tag {
-            5 => true,
-            _ => is_expression(tag),
-        },
+        Place::ForLeft => is_left(tag),
+        Place::ForOfLeft => is_left(tag),
         Place::Expression => is_expression(tag),
         Place::SwitchExpression => is_expression(tag),
         Place::Case => tag == 10,
         Place::TryPart => tag == 2,
         Place::Catch => tag == 12,
         Place::Body => tag == 14,
-        Place::ClassItem => match tag {
-            16 => true,
-            _ => is_expression(tag),
-        },
+        Place::ClassItem => is_class_item(tag),
         Place::DefaultExport => is_expression(tag),
-        Place::ExportedDeclaration => match tag {
-            5 | 13 | 15 => true,
-            _ => false,
-        },
+        Place::ExportedDeclaration => is_exported(tag),
         Place::Specifier => tag == 20,
     }
 }

@@ -1,0 +1,23 @@
+-- `fields::is_exported` meets its contract. Assumes nothing.
+use mathlib.Core.Path.{refl}
+use mathlib.Core.Bool.{true, false}
+use mathlib.Core.List.{List, [], _∷_}
+use Prim.Native.Nat.{ℕ}
+use native.Mathlib.Omega.{arith}
+use Rattle.meaning.specs.Tree.{oneOf}
+use Rattle.fields.proofs.Laws.{at-keys, in-range}
+use Rattle.fields.proofs.is_exported.Statement.{statement}
+use Rattle.fields.proofs.is_exported.Tie as tie
+
+abbrev items : List ℕ
+items = 5 ∷ 13 ∷ 15 ∷ []
+
+returns : tie.Need-returns
+returns c = at-keys (λ _. true) (oneOf items) items _ refl (c .match .keys1)
+
+returns-2 : tie.Need-returns-2
+returns-2 c =
+    in-range (λ _. false) (oneOf items) (items ∷ []) 0 256 _ refl (c .match .rest) (omega arith) (omega arith)
+
+pub is-exported-spec : {M : Type 1} → statement M
+is-exported-spec = tie.close (tie.spec returns returns-2)
