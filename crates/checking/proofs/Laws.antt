@@ -26,6 +26,7 @@ use Rattle.tallies.specs.declared.Tally.{Tally}
 use Rattle.tallies.specs.declared.Up.{Up}
 use Rattle.tallies.specs.declared.Up.the-variants.{Plain}
 use Rattle.checking.specs.Flat.{
+  Entered,
   Past,
   entered,
   past,
@@ -35,6 +36,9 @@ use Rattle.checking.specs.Flat.{
   listF,
   recordF,
   childrenF,
+  kidsF,
+  addedF,
+  afterF,
   rowsRefusal,
   answerOf,
   endF,
@@ -43,56 +47,55 @@ use Rattle.checking.specs.Flat.{
 
 -- ---- one record: refused on entering, too deep, refused inside, or fine
 
--- what the children answer, with levels left
-abbrev kidsF : List ℕ → ℕ → ℕ → Place → Up → ℕ → ℕ → ℕ → Field → List ℕ → Outcome Past
-kidsF f scopes syms p u cur at zero x m = refused 6 at
-kidsF f scopes syms p u cur at (suc l) x m = childrenF l f scopes syms p u x (below cur (scopeOf (headOf x))) m
-
--- the record behind its children
-abbrev addedF : List ℕ → ℕ → ℕ → Up → Tally → Field → Past → Outcome Past
-addedF f scopes syms u t x q =
-    accepted (record { next = q .next; marks = q .marks; tally = addF f scopes syms u x t (q .tally) })
-
+-- a record is entered, and then what is left of it
 record-is : (l : ℕ) (f : List ℕ) (scopes syms : ℕ) (p : Place) (u : Up) (cur : ℕ) (t : Tally) (at : ℕ) (m : List ℕ)
-    → recordF l f scopes syms p u cur t at m
-    ≡ enterF f syms p cur at m >>= (λ e.
-    kidsF f scopes syms p u cur at l (e .field) (e .marks) >>= addedF f scopes syms u t (e .field))
-unfolding recordF childrenF
+    → recordF l f scopes syms p u cur t at m ≡ afterF l f scopes syms p u cur t at (enterF f syms p cur at m)
+unfolding recordF childrenF afterF
 record-is zero f scopes syms p u cur t at m = refl
 record-is (suc l) f scopes syms p u cur t at m = refl
 
-module _ (l : ℕ) (f : List ℕ) (scopes syms : ℕ) (p : Place) (u : Up) (cur : ℕ) (t : Tally) (at : ℕ) (m : List ℕ)
-    (d : Reading) (m₁ : List ℕ) (enters : entered d m₁ ≡ enterF f syms p cur at m) where
-  pub record-refused : (c q : ℕ) (a : Answer) (m₂ : List ℕ) → d ≡ RefusedField c q → a ≡ refusalOf d
-      → past a m₂ ≡ recordF l f scopes syms p u cur t at m
-  record-refused c q a m₂ e r =
-      let w : a ≡ RefusedAnswer c q = rw e at r in
-      rw (record-is l f scopes syms p u cur t at m, ← enters, e, w)
+pub record-entered : (l : ℕ) (f : List ℕ) (scopes syms : ℕ) (p : Place) (u : Up) (cur : ℕ) (t : Tally) (at : ℕ) (m : List ℕ)
+    (e : Outcome Entered) (o : Outcome Past) → e ≡ enterF f syms p cur at m → o ≡ afterF l f scopes syms p u cur t at e
+    → o ≡ recordF l f scopes syms p u cur t at m
+record-entered l f scopes syms p u cur t at m e o enters after = rw (record-is l f scopes syms p u cur t at m, ← enters, after)
 
-  pub record-deep : (x : Field) → d ≡ Whole x → l ≡ 0 → refused 6 at ≡ recordF l f scopes syms p u cur t at m
-  record-deep x e z = rw (record-is l f scopes syms p u cur t at m, ← enters, e, z)
+module _ (l : ℕ) (f : List ℕ) (scopes syms : ℕ) (p : Place) (u : Up) (cur : ℕ) (t : Tally) (at : ℕ) (m₁ : List ℕ)
+    (d : Reading) where
+  pub after-refused : (c q : ℕ) (a : Answer) (m₂ : List ℕ) → d ≡ RefusedField c q → a ≡ refusalOf d
+      → past a m₂ ≡ afterF l f scopes syms p u cur t at (entered d m₁)
+  unfolding afterF
+  after-refused c q a m₂ e r =
+      let w : a ≡ RefusedAnswer c q = rw e at r in
+      rw (e, w)
+
+  pub after-deep : (x : Field) → d ≡ Whole x → l ≡ 0
+      → refused 6 at ≡ afterF l f scopes syms p u cur t at (entered d m₁)
+  unfolding afterF
+  after-deep x e z = rw (e, z)
 
   module _ (x : Field) (a : Answer) (m₂ : List ℕ) (is-whole : d ≡ Whole x) (has-level : l ≡ 0 → ⊥)
       (inside : past a m₂ ≡ childrenF (l - 1) f scopes syms p u x (below cur (scopeOf (headOf x))) m₁) where
-    record-inside : recordF l f scopes syms p u cur t at m ≡ past a m₂ >>= addedF f scopes syms u t x
-    record-inside =
+    after-inside : afterF l f scopes syms p u cur t at (entered d m₁) ≡ past a m₂ >>= addedF f scopes syms u t x
+    unfolding afterF
+    after-inside =
         let s : l ≡ suc (l - 1) = omega arith in
-        let k : kidsF f scopes syms p u cur at l x m₁ ≡ past a m₂ =
-        subst (λ (n : ℕ). kidsF f scopes syms p u cur at n x m₁ ≡ past a m₂) (sym s) (sym inside) in
-        rw (record-is l f scopes syms p u cur t at m, ← enters, is-whole, k)
+        let k : kidsF l f scopes syms p u cur at x m₁ ≡ past a m₂ =
+        subst (λ (n : ℕ). kidsF n f scopes syms p u cur at x m₁ ≡ past a m₂) (sym s) (sym inside) in
+        rw (is-whole, k)
 
-    pub record-stop : (c q : ℕ) → a ≡ RefusedAnswer c q → past a m₂ ≡ recordF l f scopes syms p u cur t at m
-    record-stop c q e = rw (record-inside, e)
+    pub after-stop : (c q : ℕ) → a ≡ RefusedAnswer c q
+        → past a m₂ ≡ afterF l f scopes syms p u cur t at (entered d m₁)
+    after-stop c q e = rw (after-inside, e)
 
-    pub record-fine : (q : ℕ) (kids : Tally) (inserted : Bool) (sum : Tally) → a ≡ Next q kids
+    pub after-fine : (q : ℕ) (kids : Tally) (inserted : Bool) (sum : Tally) → a ≡ Next q kids
         → inserted ≡ insertsIn (symbolsIn f syms (7 + 7 * scopes)) u (headOf x)
         → sum ≡ cap (t ⊞ cap (own u inserted (headOf x) (childrenOf x) kids))
-        → past (Next q sum) m₂ ≡ recordF l f scopes syms p u cur t at m
-    record-fine q kids inserted sum e i r =
+        → past (Next q sum) m₂ ≡ afterF l f scopes syms p u cur t at (entered d m₁)
+    after-fine q kids inserted sum e i r =
         let w : sum ≡ addF f scopes syms u x t kids =
         r ∙ ap (λ (b : Bool). cap (t ⊞ cap (own u b (headOf x) (childrenOf x) kids))) i in
         ap (λ (s : Tally). past (Next q s) m₂) w
-        ∙ sym (record-inside ∙ ap (λ (b : Answer). past b m₂ >>= addedF f scopes syms u t x) e)
+        ∙ sym (after-inside ∙ ap (λ (b : Answer). past b m₂ >>= addedF f scopes syms u t x) e)
 
 -- ---- records in a row
 

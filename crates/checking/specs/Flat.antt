@@ -102,6 +102,23 @@ unfoldable pub childrenF : ℕ → List ℕ → ℕ → ℕ → Place → Up →
 childrenF l f scopes syms p u x cur m =
     listF (λ k t a m₁. recordF l f scopes syms (placeOf p x k) (upsF f u x k) cur t a m₁) (childrenOf x) 0 noTally (x .next) m
 
+-- the same with the levels of the record itself
+abbrev pub kidsF : ℕ → List ℕ → ℕ → ℕ → Place → Up → ℕ → ℕ → Field → List ℕ → Outcome Past
+kidsF zero f scopes syms p u cur at x m = refused 6 at
+kidsF (suc l) f scopes syms p u cur at x m = childrenF l f scopes syms p u x (below cur (scopeOf (headOf x))) m
+
+-- a record behind its children
+abbrev pub addedF : List ℕ → ℕ → ℕ → Up → Tally → Field → Past → Outcome Past
+addedF f scopes syms u t x q =
+    accepted (record { next = q .next; marks = q .marks; tally = addF f scopes syms u x t (q .tally) })
+
+-- what is left of recordF when a record was entered
+unfoldable pub afterF : ℕ → List ℕ → ℕ → ℕ → Place → Up → ℕ → Tally → ℕ → Outcome Entered → Outcome Past
+afterF l f scopes syms p u cur t at o = do
+  e ← o
+  q ← kidsF l f scopes syms p u cur at (e .field) (e .marks)
+  addedF f scopes syms u t (e .field) q
+
 -- ---- the whole file
 
 abbrev pub rowsRefusal : Reading → Rows

@@ -17,7 +17,7 @@ ghost use Rattle.meaning.specs.Grammar.{mayName, naming, unnamed};
 ghost use Rattle.meaning.specs.Reading.{scopeAt, symbolAt, readScopes, readSymbols, readFile};
 ghost use Rattle.meaning.specs.Lowering.{figuresOf};
 ghost use Rattle.figures.specs.Figures.{figuredOf};
-ghost use Rattle.checking.specs.Flat.{entered, enterF, refusalOf, past, recordF, childrenF, rowsRefusal, treeF, fileRefusal, fileRows, runAnswer, rowsF, fileF, checkedOf};
+ghost use Rattle.checking.specs.Flat.{entered, enterF, refusalOf, past, recordF, childrenF, afterF, rowsRefusal, treeF, fileRefusal, fileRows, runAnswer, rowsF, fileF, checkedOf};
 
 // The offset behind what was checked and the tally so far, or a refusal's number and place.
 enum Answer {
@@ -103,6 +103,36 @@ fn refusal(r: Reading) -> Answer
 
 // ---- the cycle: a record's children are statements, expressions and parts of them
 
+// What is left of a record when its field was entered: its children and its tally.
+fn check_entered(
+    file: &[u8],
+    marks: &mut [u8],
+    rows: RowCounts,
+    place: Place,
+    up: Up,
+    cur: ScopeId,
+    before: Tally,
+    at: usize,
+    levels: u16,
+    read: Reading,
+) -> Answer
+    ensures { λ r. ⌜ past r (now (marks .exit)) ≡ afterF levels (now (file .entry)) (rows .scopes) (rows .symbols) place up (cur .0) before at (entered read (now (marks .entry))) ⌝ }
+{
+    let Reading::Whole(x) = read else {
+        return refusal(read);
+    };
+    if levels == 0 {
+        return Answer::Refused(6, at);
+    }
+    let below = rules::scope_below(cur, rules::scope_in(x));
+    let inside = check_children(file, marks, rows, place, up, x, below, levels - 1);
+    let Answer::Next(next, kids) = inside else {
+        return inside;
+    };
+    let inserted = tallies::inserts(file, rows.scopes, rows.symbols, up, x);
+    Answer::Next(next, tallies::add_record(before, up, inserted, x, kids))
+}
+
 // A record at a place that is no expression's.
 fn check_statement(
     file: &[u8],
@@ -118,19 +148,7 @@ fn check_statement(
     ensures { λ r. ⌜ past r (now (marks .exit)) ≡ recordF levels (now (file .entry)) (rows .scopes) (rows .symbols) place up (cur .0) before at (now (marks .entry)) ⌝ }
 {
     let read = enter_record(file, marks, rows.symbols as usize, place, cur, at);
-    let Reading::Whole(x) = read else {
-        return refusal(read);
-    };
-    if levels == 0 {
-        return Answer::Refused(6, at);
-    }
-    let below = rules::scope_below(cur, rules::scope_in(x));
-    let inside = check_children(file, marks, rows, place, up, x, below, levels - 1);
-    let Answer::Next(next, kids) = inside else {
-        return inside;
-    };
-    let inserted = tallies::inserts(file, rows.scopes, rows.symbols, up, x);
-    Answer::Next(next, tallies::add_record(before, up, inserted, x, kids))
+    check_entered(file, marks, rows, place, up, cur, before, at, levels, read)
 }
 
 // An expression.
@@ -148,19 +166,7 @@ fn check_expression(
     ensures { λ r. ⌜ past r (now (marks .exit)) ≡ recordF levels (now (file .entry)) (rows .scopes) (rows .symbols) place up (cur .0) before at (now (marks .entry)) ⌝ }
 {
     let read = enter_record(file, marks, rows.symbols as usize, place, cur, at);
-    let Reading::Whole(x) = read else {
-        return refusal(read);
-    };
-    if levels == 0 {
-        return Answer::Refused(6, at);
-    }
-    let below = rules::scope_below(cur, rules::scope_in(x));
-    let inside = check_children(file, marks, rows, place, up, x, below, levels - 1);
-    let Answer::Next(next, kids) = inside else {
-        return inside;
-    };
-    let inserted = tallies::inserts(file, rows.scopes, rows.symbols, up, x);
-    Answer::Next(next, tallies::add_record(before, up, inserted, x, kids))
+    check_entered(file, marks, rows, place, up, cur, before, at, levels, read)
 }
 
 // A child at its place.
@@ -179,6 +185,17 @@ fn check_child(
 {
     match place {
         Place::Expression => check_expression(
+            file,
+            marks,
+            rows,
+            place,
+            up,
+            cur,
+            before,
+            at,
+            levels,
+        ),
+        Place::SwitchExpression => check_expression(
             file,
             marks,
             rows,

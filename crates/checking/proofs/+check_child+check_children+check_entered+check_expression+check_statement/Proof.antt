@@ -6,21 +6,24 @@ use lib.ListN.{length}
 use borrow.Author.Needs.{needs}
 use Rattle.meaning.specs.Grammar.{placeOf}
 use Rattle.checking.specs.Flat.{upsF, listF, recordF, childrenF}
-use Rattle.checking.proofs.Laws.{record-refused, record-deep, record-stop, record-fine, list-step, list-stop, list-end}
+use Rattle.checking.proofs.Laws.{record-entered, after-refused, after-deep, after-stop, after-fine, list-step, list-stop, list-end}
 use borrow.Fn.Kinds.{In}
 use borrow.Fn.PlainCycle.{Measures, is, falls, and}
 use Rattle.checking.proofs.check_child.Reads as check-child
 use Rattle.checking.proofs.check_child.Kinds as check-child-kinds
-use Rattle.checking.proofs.+check_child+check_children+check_expression+check_statement.Lts-check_child as check-child-lts
+use Rattle.checking.proofs.+check_child+check_children+check_entered+check_expression+check_statement.Lts-check_child as check-child-lts
 use Rattle.checking.proofs.check_children.Reads as check-children
 use Rattle.checking.proofs.check_children.Kinds as check-children-kinds
-use Rattle.checking.proofs.+check_child+check_children+check_expression+check_statement.Lts-check_children as check-children-lts
+use Rattle.checking.proofs.+check_child+check_children+check_entered+check_expression+check_statement.Lts-check_children as check-children-lts
+use Rattle.checking.proofs.check_entered.Reads as check-entered
+use Rattle.checking.proofs.check_entered.Kinds as check-entered-kinds
+use Rattle.checking.proofs.+check_child+check_children+check_entered+check_expression+check_statement.Lts-check_entered as check-entered-lts
 use Rattle.checking.proofs.check_expression.Reads as check-expression
 use Rattle.checking.proofs.check_expression.Kinds as check-expression-kinds
-use Rattle.checking.proofs.+check_child+check_children+check_expression+check_statement.Lts-check_expression as check-expression-lts
+use Rattle.checking.proofs.+check_child+check_children+check_entered+check_expression+check_statement.Lts-check_expression as check-expression-lts
 use Rattle.checking.proofs.check_statement.Reads as check-statement
 use Rattle.checking.proofs.check_statement.Kinds as check-statement-kinds
-use Rattle.checking.proofs.+check_child+check_children+check_expression+check_statement.Lts-check_statement as check-statement-lts
+use Rattle.checking.proofs.+check_child+check_children+check_entered+check_expression+check_statement.Lts-check_statement as check-statement-lts
 use Rattle.checking.proofs.enter_record.Reads as enter-record-reads
 use Rattle.checking.proofs.refusal.Reads as refusal-reads
 use Rattle.rules.proofs.children_of.Reads as children-of-reads
@@ -31,21 +34,25 @@ use Rattle.tallies.proofs.add_record.Reads as add-record-reads
 use Rattle.tallies.proofs.inserts.Reads as inserts-reads
 use Rattle.tallies.proofs.no_tally.Reads as no-tally-reads
 use Rattle.tallies.proofs.up_in.Reads as up-in-reads
-use Rattle.checking.proofs.+check_child+check_children+check_expression+check_statement.{statement}
-use Rattle.checking.proofs.+check_child+check_children+check_expression+check_statement.Tie.{close}
+use Rattle.checking.proofs.+check_child+check_children+check_entered+check_expression+check_statement.{statement}
+use Rattle.checking.proofs.+check_child+check_children+check_entered+check_expression+check_statement.Tie.{close}
 
--- a record hands its children a level less; a list asks for its children, and a child for its record, with the same levels
+-- an entered record hands its children a level less; a list asks for its children, a child for its record, and a record for
+-- what is left of it, with the same levels
 abbrev μ-check-child : Measures 2 check-child-kinds.ps ℕ
-μ-check-child κs a = 3 * a .1 .1 .1 .1 .1 .1 .1 .1 .0 + 1
+μ-check-child κs a = 4 * a .1 .1 .1 .1 .1 .1 .1 .1 .0 + 2
 
 abbrev μ-check-children : Measures 2 check-children-kinds.ps ℕ
-μ-check-children κs a = 3 * a .1 .1 .1 .1 .1 .1 .1 .0 + 2
+μ-check-children κs a = 4 * a .1 .1 .1 .1 .1 .1 .1 .0 + 3
+
+abbrev μ-check-entered : Measures 2 check-entered-kinds.ps ℕ
+μ-check-entered κs a = 4 * a .1 .1 .1 .1 .1 .1 .1 .1 .0
 
 abbrev μ-check-expression : Measures 2 check-expression-kinds.ps ℕ
-μ-check-expression κs a = 3 * a .1 .1 .1 .1 .1 .1 .1 .1 .0
+μ-check-expression κs a = 4 * a .1 .1 .1 .1 .1 .1 .1 .1 .0 + 1
 
 abbrev μ-check-statement : Measures 2 check-statement-kinds.ps ℕ
-μ-check-statement κs a = 3 * a .1 .1 .1 .1 .1 .1 .1 .1 .0
+μ-check-statement κs a = 4 * a .1 .1 .1 .1 .1 .1 .1 .1 .0 + 1
 
 -- what each is given at the measure t, and what a call of it asks below t
 abbrev check-child-at : ℕ → In 2 check-child-kinds.ps
@@ -59,6 +66,12 @@ check-children-at t = and 2 check-children-kinds.ps (is 2 check-children-kinds.p
 
 abbrev check-children-below : ℕ → In 2 check-children-kinds.ps
 check-children-below t = and 2 check-children-kinds.ps (falls 2 check-children-kinds.ps _<_ μ-check-children t) check-children.Pre
+
+abbrev check-entered-at : ℕ → In 2 check-entered-kinds.ps
+check-entered-at t = and 2 check-entered-kinds.ps (is 2 check-entered-kinds.ps μ-check-entered t) check-entered.Pre
+
+abbrev check-entered-below : ℕ → In 2 check-entered-kinds.ps
+check-entered-below t = and 2 check-entered-kinds.ps (falls 2 check-entered-kinds.ps _<_ μ-check-entered t) check-entered.Pre
 
 abbrev check-expression-at : ℕ → In 2 check-expression-kinds.ps
 check-expression-at t = and 2 check-expression-kinds.ps (is 2 check-expression-kinds.ps μ-check-expression t) check-expression.Pre
@@ -95,10 +108,8 @@ check-children-calls t = (
   check-child.Post,
 )
 
-abbrev check-expression-calls : ℕ → check-expression-lts.Claims
-check-expression-calls t = (
-  enter-record-reads.Asked,
-  enter-record-reads.Learnt,
+abbrev check-entered-calls : ℕ → check-entered-lts.Claims
+check-entered-calls t = (
   refusal-reads.Asked,
   refusal-reads.Learnt,
   scope-in-reads.Asked,
@@ -113,22 +124,20 @@ check-expression-calls t = (
   add-record-reads.Learnt,
 )
 
+abbrev check-expression-calls : ℕ → check-expression-lts.Claims
+check-expression-calls t = (
+  enter-record-reads.Asked,
+  enter-record-reads.Learnt,
+  check-entered-below t,
+  check-entered.Post,
+)
+
 abbrev check-statement-calls : ℕ → check-statement-lts.Claims
 check-statement-calls t = (
   enter-record-reads.Asked,
   enter-record-reads.Learnt,
-  refusal-reads.Asked,
-  refusal-reads.Learnt,
-  scope-in-reads.Asked,
-  scope-in-reads.Learnt,
-  scope-below-reads.Asked,
-  scope-below-reads.Learnt,
-  check-children-below t,
-  check-children.Post,
-  inserts-reads.Asked,
-  inserts-reads.Learnt,
-  add-record-reads.Asked,
-  add-record-reads.Learnt,
+  check-entered-below t,
+  check-entered.Post,
 )
 
 check-child-returns : (t : ℕ)
@@ -137,7 +146,11 @@ check-child-returns t c = c .before .before .check-expression .ensures
 
 check-child-returns-2 : (t : ℕ)
     → check-child-lts.Need-returns-2 (check-child-calls t) (check-child-at t) check-child.Post
-check-child-returns-2 t c = c .before .before .check-statement .ensures
+check-child-returns-2 t c = c .before .before .check-expression2 .ensures
+
+check-child-returns-3 : (t : ℕ)
+    → check-child-lts.Need-returns-3 (check-child-calls t) (check-child-at t) check-child.Post
+check-child-returns-3 t c = c .before .before .check-statement .ensures
 
 abbrev check-children-Inv-loop : check-children-lts.InvT-loop
 check-children-Inv-loop file marks₀ rows place up x cur levels n at₀ t₀ k₀ marks at t k =
@@ -203,46 +216,34 @@ check-children-returns-2 t c =
     let at-loop = c .before in
     list-end _ _ _ _ _ _ _ (at-loop .loop .inv .2) (c .loop-test .left)
 
-check-expression-returns : (t : ℕ)
-    → check-expression-lts.Need-returns (check-expression-calls t) (check-expression-at t) check-expression.Post
-check-expression-returns t c =
+check-entered-returns : (t : ℕ)
+    → check-entered-lts.Need-returns (check-entered-calls t) (check-entered-at t) check-entered.Post
+check-entered-returns t c =
     let at-enum-told = c .before in
-    let at-enter-record = at-enum-told .before .before .before .before in
-    record-refused _ _ _ _ _ _ _ _ _ _ _ _ (at-enter-record .enter-record .ensures) _ _ _ _
-    (at-enum-told .enum-told .given .1) (c .refusal .ensures)
+    after-refused _ _ _ _ _ _ _ _ _ _ _ _ _ _ _ (at-enum-told .enum-told .given .1) (c .refusal .ensures)
 
-check-expression-returns-2 : (t : ℕ)
-    → check-expression-lts.Need-returns-2 (check-expression-calls t) (check-expression-at t) check-expression.Post
-check-expression-returns-2 t c =
+check-entered-returns-2 : (t : ℕ)
+    → check-entered-lts.Need-returns-2 (check-entered-calls t) (check-entered-at t) check-entered.Post
+check-entered-returns-2 t c =
     let at-read = c .before .before in
-    let at-enter-record = at-read .before .before .before .before in
-    record-deep _ _ _ _ _ _ _ _ _ _ _ _ (at-enter-record .enter-record .ensures) _ (at-read .read .given .1) (c .if1 .taken)
+    after-deep _ _ _ _ _ _ _ _ _ _ _ _ (at-read .read .given .1) (c .if1 .taken)
 
-check-expression-returns-3 : (t : ℕ)
-    → check-expression-lts.Need-returns-3 (check-expression-calls t) (check-expression-at t) check-expression.Post
-check-expression-returns-3 t c =
+check-entered-returns-3 : (t : ℕ)
+    → check-entered-lts.Need-returns-3 (check-entered-calls t) (check-entered-at t) check-entered.Post
+check-entered-returns-3 t c =
     let at-check-children = c .before .before .before .before in
     let at-scope-below = at-check-children .before .before in
     let at-scope-in = at-scope-below .before in
     let at-if1 = at-scope-in .before in
     let at-read = at-if1 .before .before in
-    let at-enter-record = at-read .before .before .before .before in
-    record-stop _ _ _ _ _ _ _ _ _ _ _ _ (at-enter-record .enter-record .ensures) _
-    (at-check-children .check-children .result) _ (at-read .read .given .1) (at-if1 .if1 .left)
+    after-stop _ _ _ _ _ _ _ _ _ _ _ _ (at-check-children .check-children .result) _ (at-read .read .given .1)
+    (at-if1 .if1 .left)
     (rw (← at-scope-in .scope-in .ensures, ← at-scope-below .scope-below .ensures)
     (at-check-children .check-children .ensures)) _ _ (c .enum-told2 .given .1)
 
-check-expression-same-length-4 : (t : ℕ)
-    → check-expression-lts.Need-same-length-4 (check-expression-calls t) (check-expression-at t) check-expression.Post
-check-expression-same-length-4 t c =
-    let at-check-children = c .before .before .before .before .before .before .before in
-    let at-read = at-check-children .before .before .before .before .before .before in
-    let at-enter-record = at-read .before .before .before .before in
-    at-check-children .check-children .kept .1 .0 ∙ at-enter-record .enter-record .kept .1 .0
-
-check-expression-returns-4 : (t : ℕ)
-    → check-expression-lts.Need-returns-4 (check-expression-calls t) (check-expression-at t) check-expression.Post
-check-expression-returns-4 t c =
+check-entered-returns-4 : (t : ℕ)
+    → check-entered-lts.Need-returns-4 (check-entered-calls t) (check-entered-at t) check-entered.Post
+check-entered-returns-4 t c =
     let at-inserts = c .before in
     let at-inside = at-inserts .before .before in
     let at-check-children = at-inside .before .before .before .before in
@@ -250,91 +251,53 @@ check-expression-returns-4 t c =
     let at-scope-in = at-scope-below .before in
     let at-if1 = at-scope-in .before in
     let at-read = at-if1 .before .before in
-    let at-enter-record = at-read .before .before .before .before in
-    record-fine _ _ _ _ _ _ _ _ _ _ _ _ (at-enter-record .enter-record .ensures) _
-    (at-check-children .check-children .result) _ (at-read .read .given .1) (at-if1 .if1 .left)
+    after-fine _ _ _ _ _ _ _ _ _ _ _ _ (at-check-children .check-children .result) _ (at-read .read .given .1)
+    (at-if1 .if1 .left)
     (rw (← at-scope-in .scope-in .ensures, ← at-scope-below .scope-below .ensures)
     (at-check-children .check-children .ensures)) _ _ _ _ (at-inside .inside .given .1) (at-inserts .inserts .ensures)
     (c .add-record .ensures)
+
+check-expression-same-length : (t : ℕ)
+    → check-expression-lts.Need-same-length (check-expression-calls t) (check-expression-at t) check-expression.Post
+check-expression-same-length t c =
+    let at-check-entered = c .before .before in
+    let at-enter-record = at-check-entered .before .before .before .before in
+    at-check-entered .check-entered .kept .1 .0 ∙ at-enter-record .enter-record .kept .1 .0
+
+check-expression-returns : (t : ℕ)
+    → check-expression-lts.Need-returns (check-expression-calls t) (check-expression-at t) check-expression.Post
+check-expression-returns t c =
+    let at-check-entered = c .before .before in
+    let at-enter-record = at-check-entered .before .before .before .before in
+    record-entered _ _ _ _ _ _ _ _ _ _ _ _ (at-enter-record .enter-record .ensures)
+    (at-check-entered .check-entered .ensures)
+
+check-statement-same-length : (t : ℕ)
+    → check-statement-lts.Need-same-length (check-statement-calls t) (check-statement-at t) check-statement.Post
+check-statement-same-length t c =
+    let at-check-entered = c .before .before in
+    let at-enter-record = at-check-entered .before .before .before .before in
+    at-check-entered .check-entered .kept .1 .0 ∙ at-enter-record .enter-record .kept .1 .0
 
 check-statement-returns : (t : ℕ)
     → check-statement-lts.Need-returns (check-statement-calls t) (check-statement-at t) check-statement.Post
 check-statement-returns t c =
-    let at-enum-told = c .before in
-    let at-enter-record = at-enum-told .before .before .before .before in
-    record-refused _ _ _ _ _ _ _ _ _ _ _ _ (at-enter-record .enter-record .ensures) _ _ _ _
-    (at-enum-told .enum-told .given .1) (c .refusal .ensures)
+    let at-check-entered = c .before .before in
+    let at-enter-record = at-check-entered .before .before .before .before in
+    record-entered _ _ _ _ _ _ _ _ _ _ _ _ (at-enter-record .enter-record .ensures)
+    (at-check-entered .check-entered .ensures)
 
-check-statement-returns-2 : (t : ℕ)
-    → check-statement-lts.Need-returns-2 (check-statement-calls t) (check-statement-at t) check-statement.Post
-check-statement-returns-2 t c =
-    let at-read = c .before .before in
-    let at-enter-record = at-read .before .before .before .before in
-    record-deep _ _ _ _ _ _ _ _ _ _ _ _ (at-enter-record .enter-record .ensures) _ (at-read .read .given .1) (c .if1 .taken)
-
-check-statement-returns-3 : (t : ℕ)
-    → check-statement-lts.Need-returns-3 (check-statement-calls t) (check-statement-at t) check-statement.Post
-check-statement-returns-3 t c =
-    let at-check-children = c .before .before .before .before in
-    let at-scope-below = at-check-children .before .before in
-    let at-scope-in = at-scope-below .before in
-    let at-if1 = at-scope-in .before in
-    let at-read = at-if1 .before .before in
-    let at-enter-record = at-read .before .before .before .before in
-    record-stop _ _ _ _ _ _ _ _ _ _ _ _ (at-enter-record .enter-record .ensures) _
-    (at-check-children .check-children .result) _ (at-read .read .given .1) (at-if1 .if1 .left)
-    (rw (← at-scope-in .scope-in .ensures, ← at-scope-below .scope-below .ensures)
-    (at-check-children .check-children .ensures)) _ _ (c .enum-told2 .given .1)
-
-check-statement-same-length-4 : (t : ℕ)
-    → check-statement-lts.Need-same-length-4 (check-statement-calls t) (check-statement-at t) check-statement.Post
-check-statement-same-length-4 t c =
-    let at-check-children = c .before .before .before .before .before .before .before in
-    let at-read = at-check-children .before .before .before .before .before .before in
-    let at-enter-record = at-read .before .before .before .before in
-    at-check-children .check-children .kept .1 .0 ∙ at-enter-record .enter-record .kept .1 .0
-
-check-statement-returns-4 : (t : ℕ)
-    → check-statement-lts.Need-returns-4 (check-statement-calls t) (check-statement-at t) check-statement.Post
-check-statement-returns-4 t c =
-    let at-inserts = c .before in
-    let at-inside = at-inserts .before .before in
-    let at-check-children = at-inside .before .before .before .before in
-    let at-scope-below = at-check-children .before .before in
-    let at-scope-in = at-scope-below .before in
-    let at-if1 = at-scope-in .before in
-    let at-read = at-if1 .before .before in
-    let at-enter-record = at-read .before .before .before .before in
-    record-fine _ _ _ _ _ _ _ _ _ _ _ _ (at-enter-record .enter-record .ensures) _
-    (at-check-children .check-children .result) _ (at-read .read .given .1) (at-if1 .if1 .left)
-    (rw (← at-scope-in .scope-in .ensures, ← at-scope-below .scope-below .ensures)
-    (at-check-children .check-children .ensures)) _ _ _ _ (at-inside .inside .given .1) (at-inserts .inserts .ensures)
-    (c .add-record .ensures)
-
-pub +check-child+check-children+check-expression+check-statement-spec : {M : Type 1} → statement M
-+check-child+check-children+check-expression+check-statement-spec =
+pub +check-child+check-children+check-entered+check-expression+check-statement-spec : {M : Type 1} → statement M
++check-child+check-children+check-entered+check-expression+check-statement-spec =
     close
-    μ-check-child μ-check-children μ-check-expression μ-check-statement
+    μ-check-child μ-check-children μ-check-entered μ-check-expression μ-check-statement
     (λ t. check-child-lts.spec (check-child-calls t) (check-child-at t) check-child.Post
-    (λ c. search needs) (λ c κs. search needs) (λ c κs. search needs) (λ c. search needs)
-    (check-child-returns t) (λ c. search needs) (check-child-returns-2 t))
+    (λ c. search needs) (λ c κs. search needs) (λ c. search needs) (λ c κs. search needs) (λ c κs. search needs) (λ c. search needs) (check-child-returns t) (λ c. search needs) (check-child-returns-2 t) (λ c. search needs) (check-child-returns-3 t))
     (λ t. check-children-lts.spec (check-children-calls t) (check-children-at t) check-children.Post
-    check-children-Inv-loop check-children-μ-loop (λ c κs. search needs) (λ c κs. search needs)
-    (check-children-loop-holds t) (λ c κs. search needs) (λ c κs. search needs)
-    (λ c κs. search needs) (λ c. search needs) (λ c. search needs) (check-children-same-length t)
-    (check-children-returns t) (λ c. search needs) (λ c. search needs)
-    (check-children-loop-again t) (λ c. search needs) (check-children-returns-2 t))
+    check-children-Inv-loop check-children-μ-loop (λ c κs. search needs) (λ c κs. search needs) (check-children-loop-holds t) (λ c κs. search needs) (λ c κs. search needs) (λ c κs. search needs) (λ c. search needs) (λ c. search needs) (check-children-same-length t) (check-children-returns t) (λ c. search needs) (λ c. search needs) (check-children-loop-again t) (λ c. search needs) (check-children-returns-2 t))
+    (λ t. check-entered-lts.spec (check-entered-calls t) (check-entered-at t) check-entered.Post
+    (λ c. search needs) (λ c. search needs) (λ c κs. search needs) (check-entered-returns t) (check-entered-returns-2 t) (λ c κs. search needs) (λ c κs. search needs) (λ c. search needs) (λ c κs. search needs) (λ c. search needs) (λ c. search needs) (λ c. search needs) (check-entered-returns-3 t) (λ c κs. search needs) (λ c κs. search needs) (λ c. search needs) (check-entered-returns-4 t))
     (λ t. check-expression-lts.spec (check-expression-calls t) (check-expression-at t) check-expression.Post
-    (λ c. search needs) (λ c κs. search needs) (λ c. search needs) (λ c. search needs)
-    (λ c κs. search needs) (λ c. search needs) (check-expression-returns t) (λ c. search needs)
-    (check-expression-returns-2 t) (λ c κs. search needs) (λ c κs. search needs)
-    (λ c. search needs) (λ c κs. search needs) (λ c. search needs) (λ c. search needs)
-    (λ c. search needs) (check-expression-returns-3 t) (λ c κs. search needs) (λ c κs. search needs)
-    (check-expression-same-length-4 t) (check-expression-returns-4 t))
+    (λ c. search needs) (λ c κs. search needs) (λ c κs. search needs) (check-expression-same-length t) (check-expression-returns t))
     (λ t. check-statement-lts.spec (check-statement-calls t) (check-statement-at t) check-statement.Post
-    (λ c. search needs) (λ c κs. search needs) (λ c. search needs) (λ c. search needs)
-    (λ c κs. search needs) (λ c. search needs) (check-statement-returns t) (λ c. search needs)
-    (check-statement-returns-2 t) (λ c κs. search needs) (λ c κs. search needs)
-    (λ c. search needs) (λ c κs. search needs) (λ c. search needs) (λ c. search needs)
-    (λ c. search needs) (check-statement-returns-3 t) (λ c κs. search needs) (λ c κs. search needs)
-    (check-statement-same-length-4 t) (check-statement-returns-4 t))
+    (λ c. search needs) (λ c κs. search needs) (λ c κs. search needs) (check-statement-same-length t) (check-statement-returns t))
