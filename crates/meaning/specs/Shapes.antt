@@ -4,11 +4,9 @@ use Prim.Native.Nat.{ℕ}
 use mathlib.Core.Bool.{Bool}
 use Rattle.meaning.specs.Tree.{if_then_else_, hd, Forest, none, more, one, Node, node}
 
+-- `{ list }`
 abbrev pub block : ℕ → Forest → Forest
 block scope list = one (hd 2 scope 0 0) list
-
-abbrev pub name : ℕ → Forest
-name y = one (hd 26 y 0 0) none
 
 -- `var y = e`, `const y = e`, `using y = e`, by kind
 abbrev pub declaration : ℕ → ℕ → Forest → Forest
@@ -34,7 +32,7 @@ keepError ctx y = one (hd 29 0 ctx y) none
 abbrev pub dispose : Bool → ℕ → Forest
 dispose awaited ctx = one (hd 29 (if awaited then 2 else 1) ctx 0) none
 
--- `try { list } catch (y) { caught } finally { last }`: the Block, the Catch and the last Block with their scopes
+-- `catch (y) body`
 abbrev pub catchClause : ℕ → ℕ → Forest → Forest
 catchClause scope y body = one (hd 12 scope 1 0) (more (hd 26 y 0 0) none body)
 
@@ -42,6 +40,7 @@ catchClause scope y body = one (hd 12 scope 1 0) (more (hd 26 y 0 0) none body)
 abbrev pub exportNamed : Forest → Forest
 exportNamed specifiers = one (hd 17 2 0 0) specifiers
 
+-- `y as exported`, before others
 abbrev pub specifier : ℕ → ℕ → Forest → Forest
 specifier y exported rest = more (hd 20 y exported 0) none rest
 
@@ -49,5 +48,6 @@ specifier y exported rest = more (hd 20 y exported 0) none rest
 abbrev pub classExpression : ℕ → ℕ → Forest → Forest
 classExpression scope y items = one (hd 15 1 scope y) items
 
+-- `try { .. } catch (y) { .. } finally { .. }`, of its three parts
 abbrev pub tryStatement : Forest → Node
 tryStatement parts = node (hd 11 3 0 0) parts

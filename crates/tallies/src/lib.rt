@@ -1,5 +1,7 @@
 // What the records of a tree add up to once they are lowered: the figures, found in the source.
 use meaning::Field;
+use meaning::ScopeId;
+use meaning::SymbolId;
 ghost use mathlib.Core.Path.{_≡_};
 ghost use mathlib.Core.Bool.{not, _&&_};
 ghost use mathlib.Core.List.{[], _∷_};
@@ -166,21 +168,21 @@ fn row_number(file: &[u8], at: u32, i: u16, j: u8) -> u16
 }
 
 // Symbol row i binds a name in a scope.
-fn row_binds(file: &[u8], at: u32, i: u16, scope: u16, name: u16) -> bool
-    ensures { λ r. ⌜ r ≡ binds (symbolInRow (now (file .entry)) at i) scope name ⌝ }
+fn row_binds(file: &[u8], at: u32, i: u16, scope: ScopeId, name: u16) -> bool
+    ensures { λ r. ⌜ r ≡ binds (symbolInRow (now (file .entry)) at i) (scope .0) name ⌝ }
 {
     if row_number(file, at, i, 3) != 0 {
         return false;
     }
-    if row_number(file, at, i, 2) != scope {
+    if row_number(file, at, i, 2) != scope.0 {
         return false;
     }
     row_number(file, at, i, 0) == name
 }
 
 // The row before, or row i where it binds the name.
-fn found_at(file: &[u8], at: u32, i: u16, scope: u16, name: u16, found: u32) -> u32
-    ensures { λ r. ⌜ r ≡ (if binds (symbolInRow (now (file .entry)) at i) scope name then i + 1 else found) ⌝ }
+fn found_at(file: &[u8], at: u32, i: u16, scope: ScopeId, name: u16, found: u32) -> u32
+    ensures { λ r. ⌜ r ≡ (if binds (symbolInRow (now (file .entry)) at i) (scope .0) name then i + 1 else found) ⌝ }
 {
     if row_binds(file, at, i, scope, name) {
         return (i as u32) + 1;
@@ -189,8 +191,8 @@ fn found_at(file: &[u8], at: u32, i: u16, scope: u16, name: u16, found: u32) -> 
 }
 
 // The last of so many symbol rows that binds a name in a scope, counted from 1, or 0.
-fn last_binding(file: &[u8], at: u32, symbols: u16, scope: u16, name: u16) -> u32
-    ensures { λ r. ⌜ r ≡ getBinding (symbolsIn (now (file .entry)) symbols at) scope name ⌝ }
+fn last_binding(file: &[u8], at: u32, symbols: u16, scope: ScopeId, name: u16) -> u32
+    ensures { λ r. ⌜ r ≡ getBinding (symbolsIn (now (file .entry)) symbols at) (scope .0) name ⌝ }
 {
     let mut i: u16 = 0;
     let mut found: u32 = 0;
@@ -202,21 +204,21 @@ fn last_binding(file: &[u8], at: u32, symbols: u16, scope: u16, name: u16) -> u3
 }
 
 // Number j of symbol row y, or 0 where there is no such row.
-fn symbol_number(file: &[u8], at: u32, symbols: u16, y: u16, j: u8) -> u16
-    ensures { λ r. ⌜ r ≡ (if isRow symbols y then two (now (file .entry)) (at + 11 * (y - 1) + (3 + 2 * j)) else 0) ⌝ }
+fn symbol_number(file: &[u8], at: u32, symbols: u16, y: SymbolId, j: u8) -> u16
+    ensures { λ r. ⌜ r ≡ (if isRow symbols (y .0) then two (now (file .entry)) (at + 11 * (y .0 - 1) + (3 + 2 * j)) else 0) ⌝ }
 {
-    if y < 1 {
+    if y.0 < 1 {
         return 0;
     }
-    if symbols < y {
+    if symbols < y.0 {
         return 0;
     }
-    row_number(file, at, y - 1, j)
+    row_number(file, at, y.0 - 1, j)
 }
 
 // The scope binds the name of symbol row y.
-fn binds_name(file: &[u8], at: u32, symbols: u16, scope: u16, y: u16) -> bool
-    ensures { λ r. ⌜ r ≡ bindsName (symbolsIn (now (file .entry)) symbols at) scope y ⌝ }
+fn binds_name(file: &[u8], at: u32, symbols: u16, scope: ScopeId, y: SymbolId) -> bool
+    ensures { λ r. ⌜ r ≡ bindsName (symbolsIn (now (file .entry)) symbols at) (scope .0) (y .0) ⌝ }
 {
     if symbol_number(file, at, symbols, y, 3) != 0 {
         return false;
@@ -231,7 +233,7 @@ fn body_inserts(file: &[u8], at: u32, symbols: u16, y: u16, x: Field) -> bool
     if x.tag != 2 {
         return false;
     }
-    !binds_name(file, at, symbols, x.a, y)
+    !binds_name(file, at, symbols, ScopeId(x.a), SymbolId(y))
 }
 
 // Whether a using goes in at index 0 of this record's list.

@@ -51,7 +51,8 @@ use Rattle.tallies.specs.declared.Up.the-variants.{Plain}
 use Rattle.tallies.specs.Tally.{cap, tallyOf, tallyFigures}
 use Rattle.totals.specs.Total.{figuresFrom, figures-are}
 use Rattle.totals.specs.Bound.{tally-cap}
-use Rattle.totals.specs.Roles.{Lacks, LacksBelow, Regular, clash}
+use Rattle.tags.specs.Tags.{clash}
+use Rattle.totals.specs.Roles.{Lacks, LacksBelow, Regular}
 
 -- ---- outcomes
 

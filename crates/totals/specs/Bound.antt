@@ -30,7 +30,7 @@ use Rattle.tallies.specs.Tally.{
   own,
   tallyOf,
 }
-use Rattle.totals.specs.Roles.{Seen, other, here, there, seen}
+use Rattle.tags.specs.Tags.{Seen, other, here, there, seen}
 
 pub one-most : (b : Bool) → oneIf b ≤ 1
 one-most true = omega arith

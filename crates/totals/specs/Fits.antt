@@ -82,7 +82,8 @@ use Rattle.tallies.specs.Tally.{
   tallyOf,
   tallyFigures,
 }
-use Rattle.totals.specs.Roles.{Seen, other, here, there, seen, clash, upOf-all}
+use Rattle.tags.specs.Tags.{Seen, other, here, there, seen, clash}
+use Rattle.totals.specs.Roles.{upOf-all}
 use Rattle.totals.specs.Bound.{one-most, kept-most}
 use Rattle.totals.specs.Total.{figures-are}
 use Rattle.totals.specs.Accepted.{Holds, bind, bind-any, ensured, by-tests, either, accepted-is}

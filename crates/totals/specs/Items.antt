@@ -30,7 +30,8 @@ use Rattle.tallies.specs.declared.Tally.{Tally}
 use Rattle.tallies.specs.declared.Up.{Up}
 use Rattle.tallies.specs.declared.Up.the-variants.{Plain, Part, Item, Default, Exported, ExportedDeclarator, ExportedName, Held, Body}
 use Rattle.tallies.specs.Tally.{upIndex, isUp, upOf, bodyOf, insertsIn, oneIf, isExport, itemsKept, own, tallyOf}
-use Rattle.totals.specs.Roles.{LacksBelow, Regular, Seen, other, here, there, seen, clash, upOf-all, bodyOf-all}
+use Rattle.tags.specs.Tags.{Seen, other, here, there, seen, clash}
+use Rattle.totals.specs.Roles.{LacksBelow, Regular, upOf-all, bodyOf-all}
 use Rattle.totals.specs.Lists.{usings-are}
 use Rattle.totals.specs.Sums.{Same, total-++, total-three, itemFigures, itemsOf, programOwn, no-program, programLines}
 

@@ -17,7 +17,8 @@ use Rattle.tallies.specs.declared.Tally.{Tally}
 use Rattle.tallies.specs.declared.Up.{Up}
 use Rattle.tallies.specs.declared.Up.the-variants.{Plain, Item, Exported, ExportedDeclarator, Held}
 use Rattle.tallies.specs.Tally.{upIndex, isUp, upOf, bodyOf, oneIf, own, tallyOf}
-use Rattle.totals.specs.Roles.{Lacks, Regular, Seen, other, here, there, seen, clash}
+use Rattle.tags.specs.Tags.{Seen, other, here, there, seen, clash}
+use Rattle.totals.specs.Roles.{Lacks, Regular}
 
 -- ---- usings
 

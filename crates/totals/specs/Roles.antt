@@ -1,11 +1,11 @@
 -- The trees spoken of, the tags of records, and the roles of their children.
 -- Assumes nothing.
-use mathlib.Core.Path.{_≡_, refl, sym, subst, _∙_}
-use mathlib.Core.Bool.{Bool, true, false, _&&_, true≢false}
-use mathlib.Core.List.{List, [], _∷_}
+use mathlib.Core.Path.{_≡_, refl, sym, _∙_}
+use mathlib.Core.Bool.{Bool, true, false, _&&_}
+use mathlib.Core.List.{[], _∷_}
 use Prim.Native.Nat.{ℕ}
 use lib.Dec.{eqb}
-use borrow.Author.Tests.{eqb-true}
+use Rattle.tags.specs.Tags.{Seen, other, here, there, clash}
 use Rattle.meaning.specs.Tree.{if_then_else_, oneOf, Forest, none, more}
 use Rattle.meaning.specs.Statements.{isUsing}
 use Rattle.meaning.specs.ForOf.{bindsIdentifier, boundSymbol}
@@ -28,26 +28,6 @@ abbrev pub Regular : Forest → Type 0
 Regular none = Unit {0}
 Regular (more h k r) =
     (eqb (h .tag) 5 ≡ true → Lacks 5 k) × (eqb (h .tag) 1 ≡ true → LacksBelow 1 k) × Regular k × Regular r
-
--- ---- tags
-
--- a number is the first of a list that it is in, or is not in it
-pub data Seen : List ℕ → ℕ → Type 0 where
-  other : {t : ℕ} → Seen [] t
-  here : {t : ℕ} {ts : List ℕ} → Seen (t ∷ ts) t
-  there : {n t : ℕ} {ts : List ℕ} → eqb t n ≡ false → Seen ts t → Seen (n ∷ ts) t
-
-seen-next : (b : Bool) (n t : ℕ) (ts : List ℕ) → eqb t n ≡ b → Seen ts t → Seen (n ∷ ts) t
-seen-next true n t ts e s = subst (λ (x : ℕ). Seen (x ∷ ts) t) (eqb-true t n e) here
-seen-next false n t ts e s = there e s
-
-pub seen : (ts : List ℕ) (t : ℕ) → Seen ts t
-seen [] t = other
-seen (n ∷ ts) t = seen-next (eqb t n) n t ts refl (seen ts t)
-
--- a test does not pass and fail
-pub clash : {b : Bool} → b ≡ false → b ≡ true → ⊥
-clash e d = true≢false (sym d ∙ e)
 
 -- ---- what holds of every role that a record's children can have
 

@@ -61,7 +61,8 @@ use Rattle.tallies.specs.Tally.{
   own,
   tallyOf,
 }
-use Rattle.totals.specs.Roles.{Regular, Seen, other, here, there, seen, no-body, part-below}
+use Rattle.tags.specs.Tags.{Seen, other, here, there, seen}
+use Rattle.totals.specs.Roles.{Regular, no-body, part-below}
 use Rattle.totals.specs.Lists.{Lists, lists}
 use Rattle.totals.specs.Sums.{Same, total-++, total-three, contextFigures, forOfFigures, statementFigures, programOwn, programLines}
 

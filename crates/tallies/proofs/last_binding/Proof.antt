@@ -10,7 +10,7 @@ use Rattle.tallies.proofs.last_binding.Tie as tie
 
 abbrev Inv-loop : tie.InvT-loop
 Inv-loop file at symbols scope name i₀ found₀ i found =
-    (i ≤ symbols) × (getBinding (symbolsIn file symbols at) scope name ≡ bindingFrom file at symbols scope name i found)
+    (i ≤ symbols) × (getBinding (symbolsIn file symbols at) (scope .0) name ≡ bindingFrom file at symbols (scope .0) name i found)
 
 abbrev μ-loop : tie.MeasureT-loop
 μ-loop file at symbols scope name i₀ found₀ i found = symbols - i

@@ -1,0 +1,11 @@
+-- Each visit adds what its lines charge.
+pub mod Rows
+pub mod Loading
+pub mod Trees
+pub mod Charged
+pub mod Made
+pub mod Contexts
+pub mod Parts
+pub mod ForOf
+pub mod Program
+pub mod Enter

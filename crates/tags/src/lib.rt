@@ -1,0 +1,1 @@
+// Telling tags apart in proofs: no code.
