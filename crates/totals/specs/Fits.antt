@@ -91,12 +91,12 @@ use Rattle.totals.specs.Accepted.{Holds, bind, bind-any, ensured, by-tes
 -- ---- what pays
 
 -- the Declarators of a list
-declarators : Forest → ℕ
+unfoldable pub declarators : Forest → ℕ
 declarators none = 0
 declarators (more h k r) = oneIf (eqb (h .tag) 6) + declarators r
 
 -- a Declaration has a Declarator, and 18 one child
-abbrev Sound : Forest → Type 0
+abbrev pub Sound : Forest → Type 0
 Sound none = Unit {0}
 Sound (more h k r) = (oneIf (eqb (h .tag) 5) ≤ declarators k) × (eqb (h .tag) 18 ≡ true → count k ≡ 1) × Sound k × Sound r
 
@@ -500,11 +500,11 @@ symbols-length f (suc n) at = omega (arith, symbols-length f n (at + 11))
 
 -- ---- the file
 
-record Room (g : File) : Type 0 where
-  sound : Sound (g .tree)
-  bytes : 7 + 7 * length (g .scopes) + 11 * length (g .symbols) + recordBytes (g .tree) ≤ 65535
+pub record Room (g : File) : Type 0 where
+  pub sound : Sound (g .tree)
+  pub bytes : 7 + 7 * length (g .scopes) + 11 * length (g .symbols) + recordBytes (g .tree) ≤ 65535
 
-read-room : (f : List ℕ) → Holds Room (readFile f)
+pub read-room : (f : List ℕ) → Holds Room (readFile f)
 unfolding readFile Only allowed tagsOf fieldBytes numbersOf
 read-room f =
     let P : File → Type 0 = Room in

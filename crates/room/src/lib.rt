@@ -1,0 +1,1 @@
+// The walk never outgrows what the source allows: no code.
