@@ -1,4 +1,4 @@
-// Checking a tree file on its bytes.
+// Checking a tree file on its bytes, and the figures of what it is lowered to.
 use figures::Figured;
 use meaning::Field;
 use meaning::Place;
@@ -91,7 +91,7 @@ fn enter_record(
     read
 }
 
-// A refusal handed on.
+// A refusal handed on; it is not called with a field.
 fn refusal(r: Reading) -> Answer
     ensures { λ q. ⌜ q ≡ refusalOf r ⌝ }
 {
