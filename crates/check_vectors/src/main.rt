@@ -1,10 +1,9 @@
-// Replays files with the answers that `check` and `figures` must give. Standard input holds, for each file, its length (two bytes), the
+// Replays files with the answers that `check` and `figures` must give. data/files holds, for each file, its length (two bytes), the
 // number (one byte, 0 for fine) and place (three bytes) of its refusal, the number of the refusal of its figures alone, five figures (three
 // bytes each: records, scopes, symbols, contexts, bytes) and its bytes.
 use checking::Checked;
 use figures::Figured;
 use figures::FinalFigures;
-use libc::STDIN_FILENO;
 use libc::STDOUT_FILENO;
 ghost use Prim.Native.Nat.{_≤_};
 
@@ -110,11 +109,11 @@ fn show(text: &[u8], n: usize) {
 }
 
 // Reads a file of so many bytes into the buffer, and tells whether it agrees.
-fn read_and_compare(buf: &mut [u8], len: usize, head: &[u8; 22]) -> bool {
+fn read_and_compare(fd: i32, buf: &mut [u8], len: usize, head: &[u8; 22]) -> bool {
     if buf.len() < len {
         return false;
     }
-    let n = io::read_full(STDIN_FILENO, &mut buf[..len]);
+    let n = io::read_full(fd, &mut buf[..len]);
     if buf.len() < n {
         return false;
     }
@@ -122,15 +121,15 @@ fn read_and_compare(buf: &mut [u8], len: usize, head: &[u8; 22]) -> bool {
 }
 
 // 0 if there is no file left; else 1, and 1 more if its answers are the ones expected.
-fn next_file(line: usize) -> usize
+fn next_file(fd: i32, line: usize) -> usize
     ensures { λ r. ⌜ r ≤ 2 ⌝ }
 {
     let mut head = [0u8; 22];
-    if io::read_full(STDIN_FILENO, &mut head) < 22 {
+    if io::read_full(fd, &mut head) < 22 {
         return 0;
     }
     let mut buf = io::large_buffer();
-    if read_and_compare(&mut buf, two(head[0], head[1]), &head) {
+    if read_and_compare(fd, &mut buf, two(head[0], head[1]), &head) {
         return 2;
     }
     show(b"differs: file ", line);
@@ -144,11 +143,11 @@ fn report(files: usize, right: usize) {
     io::write_all(STDOUT_FILENO, b"\n");
 }
 
-fn main() {
+fn replay(fd: i32) {
     let mut files: usize = 0;
     let mut right: usize = 0;
     while files < 1000000 {
-        let told = next_file(files);
+        let told = next_file(fd, files);
         if told == 0 {
             break;
         }
@@ -156,4 +155,8 @@ fn main() {
         files += 1;
     }
     report(files, right);
+}
+
+fn main() {
+    replay(os::open_read(b"files"));
 }
