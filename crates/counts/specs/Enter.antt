@@ -1,0 +1,217 @@
+-- What entering and leaving a record does to the visits that are left.
+-- Assumes nothing.
+use mathlib.Core.Path.{_≡_, refl, sym, ap, subst, _∙_}
+use mathlib.Core.Bool.{Bool, true, false, not, _||_, _&&_}
+use mathlib.Core.List.{List, [], _∷_, _++_}
+use Prim.Native.Nat.{ℕ, suc, _+_}
+use lib.Dec.{eqb, ltb}
+use borrow.Author.Tests.{eqb-true}
+use Rattle.meaning.specs.Tree.{if_then_else_, oneOf, Head, hd, Forest, none, more, one, count, Node, node, _&_}
+use Rattle.meaning.specs.File.{Symbol}
+use Rattle.meaning.specs.Scoping.{Store, return}
+use Rattle.meaning.specs.Statements.{isUsing, anyUsing, createTryStmt}
+use Rattle.meaning.specs.Contexts.{
+  anyPartUsing,
+  anyCaseUsing,
+  forList,
+  transformBlockStatement,
+  enterFunctionBody,
+  exitStaticBlock,
+  enterTryStatement,
+  transformForStatement,
+  transformSwitchStatement,
+}
+use Rattle.meaning.specs.ForOf.{bindsIdentifier, boundSymbol, bindsName, enterForOfStatement}
+use Rattle.meaning.specs.Program.{enterProgram}
+use Rattle.meaning.specs.Walk.{isStaticBlock, Act, keep, forOfAct, actOf, enterAs, leave}
+use Rattle.meaning.specs.Charges.{Line, ofStaticBlock, initializers, wraps, contextLines}
+use Rattle.meaning.specs.VisitCharges.{standing, enterLines, visitsAs, visitsIn}
+use Rattle.tags.specs.Tags.{Seen, other, here, there, seen, clash, and-left}
+use Rattle.growth.specs.ForOf.{Named}
+use Rattle.growth.specs.Program.{Exports}
+use Rattle.growth.specs.Enter.{NamedLeft, Proper}
+use Rattle.counts.specs.Visits.{spread}
+use Rattle.counts.specs.TakenUp.{Alone}
+use Rattle.counts.specs.Tries.{Opens, block-opens, body-opens, for-opens, switch-opens, try-opens}
+use Rattle.counts.specs.ForOf.{insert-opens, wrap-opens}
+use Rattle.counts.specs.Program.{Kinds, program-opens}
+
+pub and-right : (a b : Bool) → (a && b) ≡ true → b ≡ true
+and-right true b e = e
+and-right false b e = absurd (clash refl e)
+
+-- ---- what a record must be
+
+-- the using of a ForOf begins with a Name, and is not recorded
+abbrev pub Left : Forest → Type 0
+Left none = Unit {0}
+Left (more h k r) = (isUsing h && bindsIdentifier k) ≡ true → Named k × (oneOf (3 ∷ 4 ∷ []) (h .a) ≡ true)
+
+-- The exports of a Program with a using have one child each, and its usings are not recorded; a ForOf's left side is as said; a Label has one child.
+pub record Fit (h : Head) (k : Forest) : Type 0 where
+  pub items : eqb (h .tag) 1 ≡ true → anyUsing k ≡ true → Exports k × Kinds k
+  pub side : eqb (h .tag) 8 ≡ true → Left k
+  pub label : eqb (h .tag) 4 ≡ true → Alone k
+
+named-left : (k : Forest) → Left k → NamedLeft k
+named-left none p = tt
+named-left (more h k r) p = λ e. p e .0
+
+pub proper : (h : Head) (k : Forest) → Fit h k → Proper h k
+proper h k p = ((λ e u. p .items e u .0), (λ e. named-left k (p .side e)))
+
+-- ---- lists that count alike
+
+abbrev pub Alike : Forest → Forest → Type 0
+Alike f g = (count f ≡ count g) × (anyUsing f ≡ anyUsing g) × (wraps f ≡ wraps g) × (initializers f ≡ initializers g)
+
+pub alike-& : (d f g : Forest) → Alike f g → Alike (d & f) (d & g)
+unfolding _&_ count anyUsing wraps initializers
+alike-& none f g e = e
+alike-& (more h k r) f g e =
+    let i = alike-& r f g e in (
+      ap suc (i .0),
+      ap (λ (b : Bool). isUsing h || b) (i .1),
+      ap (λ (n : ℕ). (if isUsing h then initializers k else 0) + n) (i .2),
+      ap (λ (n : ℕ). (if eqb (h .tag) 6 && ltb (h .b) (count k) then 1 else 0) + n) (i .3),
+    )
+
+-- a record's children change, and count alike
+pub alike-below : (h : Head) (f g r : Forest) → Alike f g → Alike (more h f r) (more h g r)
+unfolding count anyUsing wraps initializers
+alike-below h f g r e = (
+  refl,
+  refl,
+  ap (λ (n : ℕ). (if isUsing h then n else 0) + wraps r) (e .3),
+  ap (λ (n : ℕ). (if eqb (h .tag) 6 && ltb (h .b) n then 1 else 0) + initializers r) (e .0),
+)
+
+-- neither a using nor a Declarator
+abbrev Plain : Head → Type 0
+Plain h = (isUsing h ≡ false) × (eqb (h .tag) 6 ≡ false)
+
+alike-head : (h h′ : Head) (k k′ r : Forest) → Plain h → Plain h′ → Alike (more h k r) (more h′ k′ r)
+unfolding count anyUsing wraps initializers
+alike-head h h′ k k′ r p q = (refl, rw (p .0, q .0), rw (p .0, q .0), rw (p .1, q .1))
+
+-- ---- leaving a StaticBlock
+
+-- its own charge is due behind its children
+abbrev pub leaveThen : Bool → Forest → List (List Line) → List (List Line)
+leaveThen b list xs = if b then contextLines ofStaticBlock list ∷ xs else xs
+
+left-if : (b : Bool) (h : Head) (k r : Forest) (st : Store) → h .tag ≡ 16
+    → let e = (if b then exitStaticBlock h k else return (node h k)) st in
+    Alike (more h k r) (more (e .0 .head) (e .0 .children) r)
+unfolding exitStaticBlock isUsing
+left-if true h k r st e = alike-head h _ k _ r (ap (λ (t : ℕ). isUsing (hd t (h .a) (h .b) (h .c))) e, ap (λ (t : ℕ). eqb t 6) e) (refl, refl)
+left-if false h k r st e = (refl, refl, refl, refl)
+
+pub left-alike : (h : Head) (k r : Forest) (st : Store) → isStaticBlock h ≡ true
+    → let e = leave h k st in
+    Alike (more h k r) (more (e .0 .head) (e .0 .children) r)
+unfolding leave
+left-alike h k r st e = left-if (anyUsing k) h k r st (eqb-true (h .tag) 16 e)
+
+-- ---- entering
+
+-- The visits to a record are the one that enters it, and those behind it; beside others it counts alike.
+pub record Enters (ys : List Symbol) (a : Act) (h : Head) (k : Forest) (e : Node × Store) : Type 0 where
+  pub visits : (xs : List (List Line))
+      → spread ys (visitsAs a h k) k xs
+      ≡ enterLines a h k ∷ (visitsIn ys (e .0 .children) standing ++ leaveThen (isStaticBlock (e .0 .head)) (e .0 .children) xs)
+  pub alike : (r : Forest) → Alike (more h k r) (more (e .0 .head) (e .0 .children) r)
+
+module _ (ys : List Symbol) where
+  leave-if : (b : Bool) (l : List Line) (xs : List (List Line)) → (if b then l ∷ [] else []) ++ xs ≡ (if b then l ∷ xs else xs)
+  leave-if true l xs = refl
+  leave-if false l xs = refl
+
+  changed : {a : Act} {h : Head} {k : Forest} {e : Node × Store} → Opens ys a h k e → Plain h → Plain (e .0 .head)
+      → isStaticBlock (e .0 .head) ≡ false → Enters ys a h k e
+  changed {a} {h} {k} {e} o p q s =
+      record {
+        visits =
+            λ xs. o xs
+            ∙ ap (λ (b : Bool). enterLines a h k ∷ (visitsIn ys (e .0 .children) standing ++ leaveThen b (e .0 .children) xs)) (sym s);
+        alike = λ r. alike-head h (e .0 .head) k (e .0 .children) r p q;
+      }
+
+  module _ (cur hoist : ℕ) (h : Head) (k : Forest) (st : Store) where
+    abbrev By : Act → Type 0
+    By a = Enters ys a h k (enterAs a cur hoist h k st)
+
+    kept : By keep
+    unfolding enterAs visitsAs enterLines
+    kept =
+        record {
+          visits =
+              λ xs. ap (λ (v : List (List Line)). [] ∷ (visitsIn ys k standing ++ v))
+              (leave-if (isStaticBlock h) (contextLines ofStaticBlock k) xs);
+          alike = λ r. (refl, refl, refl, refl);
+        }
+
+    by-if : (b : Bool) {x y : Act} → (b ≡ true → By x) → By y → By (if b then x else y)
+    by-if true p q = p refl
+    by-if false p q = q
+
+  for-of : (cur hoist a b c : ℕ) (k : Forest) (st : Store) → Left k → By cur hoist (hd 8 a b c) k st (forOfAct ys k)
+  unfolding forOfAct enterAs enterForOfStatement isUsing
+  for-of cur hoist a b c none st p = kept cur hoist (hd 8 a b c) none st
+  for-of cur hoist a b c (more h₁ k₁ none) st p = kept cur hoist (hd 8 a b c) (one h₁ k₁) st
+  for-of cur hoist a b c (more h₁ k₁ (more h₂ k₂ none)) st p = kept cur hoist (hd 8 a b c) (more h₁ k₁ (one h₂ k₂)) st
+  for-of cur hoist a b c (more h₁ k₁ (more h₂ k₂ (more h₃ k₃ r))) st p =
+      let h = hd 8 a b c in
+      let k = more h₁ k₁ (more h₂ k₂ (more h₃ k₃ r)) in
+      by-if cur hoist h k st (isUsing h₁ && bindsIdentifier k₁)
+      (λ e.
+      let u = and-left (isUsing h₁) (bindsIdentifier k₁) e in
+      let i = and-right (isUsing h₁) (bindsIdentifier k₁) e in
+      by-if cur hoist h k st (eqb (h₃ .tag) 2 && not (bindsName ys (h₃ .a) (boundSymbol k₁)))
+      (λ d.
+      let two = eqb-true (h₃ .tag) 2 (and-left (eqb (h₃ .tag) 2) (not (bindsName ys (h₃ .a) (boundSymbol k₁))) d) in
+      changed (insert-opens ys h h₁ k₁ h₂ k₂ h₃ k₃ r st u i (p e .0) (p e .1) two) (refl, refl) (refl, refl) refl)
+      (changed (wrap-opens ys h h₁ k₁ h₂ k₂ h₃ k₃ r st u i (p e .0) (p e .1)) (refl, refl) (refl, refl) refl))
+      (kept cur hoist h k st)
+
+  -- by the tag
+  entered-as : {t : ℕ} (cur hoist a b c : ℕ) (k : Forest) (st : Store) → Fit (hd t a b c) k → Seen (1 ∷ 2 ∷ 4 ∷ 7 ∷ 8 ∷ 9 ∷ 11 ∷ 14 ∷ []) t
+      → By cur hoist (hd t a b c) k st (actOf ys (hd t a b c) k)
+  unfolding actOf enterAs isUsing enterProgram transformBlockStatement transformForStatement transformSwitchStatement enterTryStatement enterFunctionBody createTryStmt forList
+  entered-as cur hoist a b c k st p here =
+      let h = hd 1 a b c in
+      by-if cur hoist h k st (anyUsing k)
+      (λ u. changed (program-opens ys h k st (p .items refl u .0) (p .items refl u .1) u) (refl, refl) (refl, refl) refl)
+      (kept cur hoist h k st)
+  entered-as cur hoist a b c k st p (there e₁ here) =
+      let h = hd 2 a b c in
+      by-if cur hoist h k st (anyUsing k) (λ u. changed (block-opens ys cur hoist h k st) (refl, refl) (refl, refl) refl) (kept cur hoist h k st)
+  entered-as cur hoist a b c k st p (there e₁ (there e₂ here)) =
+      let h = hd 4 a b c in
+      by-if cur hoist h k st (anyUsing (forList k))
+      (λ u. changed (for-opens ys cur hoist h k st refl (p .label) u) (refl, refl) (refl, refl) refl)
+      (kept cur hoist h k st)
+  entered-as cur hoist a b c k st p (there e₁ (there e₂ (there e₄ here))) =
+      let h = hd 7 a b c in
+      by-if cur hoist h k st (anyUsing k)
+      (λ u. changed (for-opens ys cur hoist h k st refl (p .label) u) (refl, refl) (refl, refl) refl)
+      (kept cur hoist h k st)
+  entered-as cur hoist a b c k st p (there e₁ (there e₂ (there e₄ (there e₇ here)))) = for-of cur hoist a b c k st (p .side refl)
+  entered-as cur hoist a b c k st p (there e₁ (there e₂ (there e₄ (there e₇ (there e₈ here))))) =
+      let h = hd 9 a b c in
+      by-if cur hoist h k st (anyCaseUsing k) (λ u. changed (switch-opens ys cur a b c k st) (refl, refl) (refl, refl) refl) (kept cur hoist h k st)
+  entered-as cur hoist a b c k st p (there e₁ (there e₂ (there e₄ (there e₇ (there e₈ (there e₉ here)))))) =
+      let h = hd 11 a b c in
+      by-if cur hoist h k st (anyPartUsing k) (λ u. changed (try-opens ys cur hoist h k st) (refl, refl) (refl, refl) refl) (kept cur hoist h k st)
+  entered-as cur hoist a b c k st p (there e₁ (there e₂ (there e₄ (there e₇ (there e₈ (there e₉ (there e₁₁ here))))))) =
+      let h = hd 14 a b c in
+      by-if cur hoist h k st (anyUsing k) (λ u. changed (body-opens ys cur hoist h k st) (refl, refl) (refl, refl) refl) (kept cur hoist h k st)
+  entered-as {t} cur hoist a b c k st p (there e₁ (there e₂ (there e₄ (there e₇ (there e₈ (there e₉ (there e₁₁ (there e₁₄ other)))))))) =
+      let h = hd t a b c in
+      let none-of : actOf ys h k ≡ keep = rw (e₁, e₂, e₄, e₇, e₈, e₉, e₁₁, e₁₄) in
+      subst (λ (x : Act). By cur hoist h k st x) (sym none-of) (kept cur hoist h k st)
+
+  pub enters : (cur hoist : ℕ) (h : Head) (k : Forest) (st : Store) → Fit h k
+      → Enters ys (actOf ys h k) h k (enterAs (actOf ys h k) cur hoist h k st)
+  enters cur hoist h k st p =
+      entered-as cur hoist (h .a) (h .b) (h .c) k st p (seen (1 ∷ 2 ∷ 4 ∷ 7 ∷ 8 ∷ 9 ∷ 11 ∷ 14 ∷ []) (h .tag))
