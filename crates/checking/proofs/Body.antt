@@ -231,9 +231,6 @@ bound-is h (more h₁ k₁ r₁) r = refl
 identifierOf : Forest → Up
 identifierOf t = if bindsIdentifier t then Body (boundSymbol t) else Plain
 
-identifierAt : List ℕ → ℕ → Up
-identifierAt f at = if eqb (two f (at + 3)) 0 then Body (two f (at + 12)) else Plain
-
 -- a list of one record
 one-first : (l : ℕ) (f : List ℕ) (syms : ℕ) (place : ℕ → Place) (cur n at : ℕ) (m : List ℕ) (k : Records) (p : Place)
     → n ≡ 1 → place 0 ≡ p → readForest l f syms place cur 0 n at m ≡ accepted k → First f syms p at (k .forest)
