@@ -1,0 +1,27 @@
+-- `scoping::moves` meets its contract. Assumes nothing.
+use Rattle.scoping.specs.Changes.{movesF}
+use borrow.Author.Needs.{needs}
+use Rattle.scoping.proofs.moves.Statement.{statement}
+use Rattle.scoping.proofs.moves.Tie as tie
+
+returns : tie.Need-returns
+unfolding movesF
+returns c = 
+    let at-is-block-scoped = c in
+    let at-get = at-is-block-scoped .before in
+    let at-if1 = at-get .before in
+    let at-is-bound = at-if1 .before in
+    rw (← at-is-bound .is-bound .ensures, at-if1 .if1 .taken, ← at-get .get .ensures, ← at-is-block-scoped .is-block-scoped .ensures)
+
+returns-2 : tie.Need-returns-2
+unfolding movesF
+returns-2 c = 
+    let at-if1 = c in
+    let at-is-bound = at-if1 .before in
+    rw (← at-is-bound .is-bound .ensures, at-if1 .if1 .left)
+
+pub moves-spec : {M : Type 1} → statement M
+moves-spec =
+    tie.close
+    (tie.spec
+    (λ c κs. search needs) (λ c. search needs) (λ c. search needs) (λ c κs. search needs) (λ c κs. search needs) returns returns-2)

@@ -1,0 +1,83 @@
+-- Changes of the scope and symbol rows.
+-- Assumes nothing.
+use mathlib.Core.List.{List}
+use mathlib.Core.Bool.{Bool, _&&_}
+use Prim.Native.Nat.{ℕ, suc, _+_, _*_, _%_}
+use lib.ListN.{getD, set}
+use Rattle.meaning.specs.Tree.{if_then_else_}
+use Rattle.meaning.specs.Scoping.{isBound}
+use Rattle.tables.specs.Table.{capped}
+use Rattle.tables.specs.Loops.{turns}
+use Rattle.scoping.specs.Rows.{withScope, withSymbol, scopeNumber, setScopeF, setSymbolF, symbolAt, symbolsF, blockScoped}
+use Rattle.scoping.specs.declared.Ctx.{Ctx}
+
+-- a table of scope or symbol rows with the counters
+pub record ScopeRows : Type 0 where
+  pub t : List ℕ
+  pub ctx : Ctx
+
+abbrev pub inScopes : List ℕ → Ctx → ScopeRows
+inScopes t x = record { t = t; ctx = x }
+
+pub record SymbolRows : Type 0 where
+  pub t : List ℕ
+  pub ctx : Ctx
+
+abbrev pub inSymbols : List ℕ → Ctx → SymbolRows
+inSymbols t x = record { t = t; ctx = x }
+
+-- ---- scopes
+
+unfoldable pub createChildScopeF : ScopeRows → ℕ → ℕ → ScopeRows
+createChildScopeF q parent flags =
+    let at = q .ctx .scopes * 2 in
+    inScopes
+    (set (set (q .t) at parent) (at + 1) (capped flags (scopeNumber (q .t) (q .ctx .scopes) parent 1 % 2)))
+    (withScope (q .ctx))
+
+unfoldable pub changeScopeParentF : ScopeRows → ℕ → ℕ → List ℕ
+changeScopeParentF q s parent = setScopeF (q .t) (q .ctx .scopes) s 0 parent
+
+unfoldable pub setScopeFlagsF : ScopeRows → ℕ → ℕ → List ℕ
+setScopeFlagsF q s flags = setScopeF (q .t) (q .ctx .scopes) s 1 flags
+
+unfoldable pub insertScopeBetweenF : ScopeRows → ℕ → ℕ → ScopeRows
+insertScopeBetweenF q s flags =
+    let q₁ = createChildScopeF q (scopeNumber (q .t) (q .ctx .scopes) s 0) flags in
+    inScopes (changeScopeParentF q₁ s (q₁ .ctx .scopes)) (q₁ .ctx)
+
+-- ---- symbols
+
+unfoldable pub createSymbolF : SymbolRows → ℕ → ℕ → ℕ → ℕ → SymbolRows
+createSymbolF q name flags scope made =
+    let at = q .ctx .symbols * 5 in
+    inSymbols (set (set (set (set (q .t) at name) (at + 1) flags) (at + 2) scope) (at + 3) made) (withSymbol (q .ctx))
+
+unfoldable pub moveBindingF : SymbolRows → ℕ → ℕ → List ℕ
+moveBindingF q y scope = setSymbolF (q .t) (q .ctx .symbols) y 2 scope
+
+unfoldable pub setSymbolFlagsF : SymbolRows → ℕ → ℕ → List ℕ
+setSymbolFlagsF q y flags = setSymbolF (q .t) (q .ctx .symbols) y 1 flags
+
+-- the row after i others is bound in the scope, block-scoped or as a class; it moves
+unfoldable pub movesF : SymbolRows → ℕ → ℕ → Bool
+movesF q from i =
+    isBound (symbolsF (q .t) 2 (q .ctx .symbols) 0) from (capped i 1) (symbolAt (q .t) 2 i)
+    && blockScoped (getD (q .t) (i * 5 + 1) 0)
+
+unfoldable pub moveBoundF : SymbolRows → ℕ → ℕ → ℕ → List ℕ
+moveBoundF q from to i = if movesF q from i then moveBindingF q (capped i 1) to else q .t
+
+-- rows on the way, the next one being the row after `at` others
+pub record Moving : Type 0 where
+  pub t : List ℕ
+  pub at : ℕ
+
+abbrev pub moving : List ℕ → ℕ → Moving
+moving t at = record { t = t; at = at }
+
+unfoldable pub moveOne : Ctx → ℕ → ℕ → Moving → Moving
+moveOne x from to s = moving (moveBoundF (inSymbols (s .t) x) from to (s .at)) (s .at + 1)
+
+unfoldable pub moveBlockScopedF : SymbolRows → ℕ → ℕ → List ℕ
+moveBlockScopedF q from to = turns (q .ctx .symbols) (moveOne (q .ctx) from to) (moving (q .t) 0) .t

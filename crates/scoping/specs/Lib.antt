@@ -1,0 +1,3 @@
+-- Scope and symbol rows in tables.
+pub mod Rows
+pub mod Changes

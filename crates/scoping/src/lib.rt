@@ -1,0 +1,318 @@
+// Scope and symbol rows in lent tables: what the Rust calls `ctx.scoping()`.
+//
+// A scope row takes two numbers, parent and flags; a symbol row five: name, flags, scope, made, and the scope that was read. Rows are
+// numbered from 1, new ones come behind the others, and the tables are 0 behind the last row.
+use meaning::ScopeId;
+use meaning::SymbolId;
+ghost use mathlib.Core.Path.{_≡_};
+ghost use Rattle.meaning.specs.Tree.{if_then_else_};
+ghost use Rattle.meaning.specs.Scoping.{binds, getBinding, findBinding, isBound};
+ghost use Rattle.meaning.specs.ForOf.{bindsName};
+ghost use Rattle.tables.specs.Table.{capped};
+ghost use Rattle.scoping.specs.Rows.{withScope, withSymbol, withContext, withHelper, scopeNumber, symbolNumber, setScopeF, setSymbolF, symbolAt, symbolsF, storeF, blockScoped};
+ghost use Rattle.scoping.specs.Changes.{inScopes, inSymbols, createChildScopeF, changeScopeParentF, setScopeFlagsF, insertScopeBetweenF, createSymbolF, moveBindingF, setSymbolFlagsF, movesF, moveBoundF, moveBlockScopedF};
+
+// The settings (mode, and 1 for a module), how many rows there are and how many symbol rows were read, the runtime helper's symbol or 0, and the contexts made.
+pub struct Ctx {
+    pub mode: u16,
+    pub esm: u16,
+    pub scopes: u16,
+    pub symbols: u16,
+    pub read: u16,
+    pub helper: SymbolId,
+    pub contexts: u16,
+}
+
+impl Ctx {
+    pub fn new_scope(mut self) -> Self
+        ensures { λ r. ⌜ r ≡ withScope self ⌝ }
+    {
+        self.scopes = tables::plus(self.scopes, 1);
+        self
+    }
+
+    pub fn new_symbol(mut self) -> Self
+        ensures { λ r. ⌜ r ≡ withSymbol self ⌝ }
+    {
+        self.symbols = tables::plus(self.symbols, 1);
+        self
+    }
+
+    pub fn new_context(mut self) -> Self
+        ensures { λ r. ⌜ r ≡ withContext self ⌝ }
+    {
+        self.contexts = tables::plus(self.contexts, 1);
+        self
+    }
+
+    pub fn with_helper(mut self, y: SymbolId) -> Self
+        ensures { λ r. ⌜ r ≡ withHelper self (y .0) ⌝ }
+    {
+        self.helper = y;
+        self
+    }
+}
+
+// ---- numbers of rows
+
+// A number of one of the first `count` scope rows, or 0 if there is no such row.
+pub fn scope_number(scopes: &[u16], count: u16, s: ScopeId, f: u16) -> u16
+    ensures { λ r. ⌜ r ≡ scopeNumber (now (scopes .entry)) count (s .0) f ⌝ }
+{
+    let n = s.0;
+    if n == 0 {
+        return 0;
+    }
+    if n <= count {
+        tables::get(scopes, ((n - 1) as usize) * 2 + (f as usize))
+    } else {
+        0
+    }
+}
+
+// Stores a number of a scope row; if there are fewer rows nothing happens.
+fn put_scope(scopes: &mut [u16], count: u16, s: ScopeId, f: u16, v: u16)
+    ensures { λ _. ⌜ now (scopes .exit) ≡ setScopeF (now (scopes .entry)) count (s .0) f v ⌝ }
+{
+    let n = s.0;
+    if n == 0 {
+        return;
+    }
+    if n <= count {
+        tables::put(scopes, ((n - 1) as usize) * 2 + (f as usize), v);
+    }
+}
+
+pub fn symbol_number(symbols: &[u16], count: u16, y: SymbolId, f: u16) -> u16
+    ensures { λ r. ⌜ r ≡ symbolNumber (now (symbols .entry)) count (y .0) f ⌝ }
+{
+    let n = y.0;
+    if n == 0 {
+        return 0;
+    }
+    if n <= count {
+        tables::get(symbols, ((n - 1) as usize) * 5 + (f as usize))
+    } else {
+        0
+    }
+}
+
+fn put_symbol(symbols: &mut [u16], count: u16, y: SymbolId, f: u16, v: u16)
+    ensures { λ _. ⌜ now (symbols .exit) ≡ setSymbolF (now (symbols .entry)) count (y .0) f v ⌝ }
+{
+    let n = y.0;
+    if n == 0 {
+        return;
+    }
+    if n <= count {
+        tables::put(symbols, ((n - 1) as usize) * 5 + (f as usize), v);
+    }
+}
+
+// ---- scopes
+
+// `create_child_scope`: a new scope takes strict from its parent besides its flags.
+pub fn create_child_scope(scopes: &mut [u16], ctx: Ctx, parent: ScopeId, flags: u16) -> Ctx
+    ensures { λ r. ⌜ inScopes (now (scopes .exit)) r ≡ createChildScopeF (inScopes (now (scopes .entry)) ctx) (parent .0) flags ⌝ }
+{
+    let at = (ctx.scopes as usize) * 2;
+    let strict = scope_number(scopes, ctx.scopes, parent, 1) % 2;
+    tables::put(scopes, at, parent.0);
+    tables::put(scopes, at + 1, tables::plus(flags, strict));
+    ctx.new_scope()
+}
+
+// `change_scope_parent_id`
+pub fn change_scope_parent(scopes: &mut [u16], ctx: Ctx, s: ScopeId, parent: ScopeId)
+    ensures { λ _. ⌜ now (scopes .exit) ≡ changeScopeParentF (inScopes (now (scopes .entry)) ctx) (s .0) (parent .0) ⌝ }
+{
+    put_scope(scopes, ctx.scopes, s, 0, parent.0);
+}
+
+// `scope_flags_mut`
+pub fn set_scope_flags(scopes: &mut [u16], ctx: Ctx, s: ScopeId, flags: u16)
+    ensures { λ _. ⌜ now (scopes .exit) ≡ setScopeFlagsF (inScopes (now (scopes .entry)) ctx) (s .0) flags ⌝ }
+{
+    put_scope(scopes, ctx.scopes, s, 1, flags);
+}
+
+// `insert_scope_between`: a new scope above a scope, below the one that it was below.
+pub fn insert_scope_between(scopes: &mut [u16], ctx: Ctx, s: ScopeId, flags: u16) -> Ctx
+    ensures { λ r. ⌜ inScopes (now (scopes .exit)) r ≡ insertScopeBetweenF (inScopes (now (scopes .entry)) ctx) (s .0) flags ⌝ }
+{
+    let parent = ScopeId(scope_number(scopes, ctx.scopes, s, 0));
+    let made = create_child_scope(scopes, ctx, parent, flags);
+    change_scope_parent(scopes, made, s, ScopeId(made.scopes));
+    made
+}
+
+// ---- symbols
+
+pub fn create_symbol(
+    symbols: &mut [u16],
+    ctx: Ctx,
+    name: u16,
+    flags: u16,
+    scope: ScopeId,
+    made: u16,
+) -> Ctx
+    ensures { λ r. ⌜ inSymbols (now (symbols .exit)) r ≡ createSymbolF (inSymbols (now (symbols .entry)) ctx) name flags (scope .0) made ⌝ }
+{
+    let at = (ctx.symbols as usize) * 5;
+    tables::put(symbols, at, name);
+    tables::put(symbols, at + 1, flags);
+    tables::put(symbols, at + 2, scope.0);
+    tables::put(symbols, at + 3, made);
+    ctx.new_symbol()
+}
+
+// `move_binding_by_symbol_id`
+pub fn move_binding(symbols: &mut [u16], ctx: Ctx, y: SymbolId, scope: ScopeId)
+    ensures { λ _. ⌜ now (symbols .exit) ≡ moveBindingF (inSymbols (now (symbols .entry)) ctx) (y .0) (scope .0) ⌝ }
+{
+    put_symbol(symbols, ctx.symbols, y, 2, scope.0);
+}
+
+// `symbol_flags_mut`
+pub fn set_symbol_flags(symbols: &mut [u16], ctx: Ctx, y: SymbolId, flags: u16)
+    ensures { λ _. ⌜ now (symbols .exit) ≡ setSymbolFlagsF (inSymbols (now (symbols .entry)) ctx) (y .0) flags ⌝ }
+{
+    put_symbol(symbols, ctx.symbols, y, 1, flags);
+}
+
+// ---- bindings
+
+// The row after i others binds the name in the scope; column f has the scope.
+fn binds_at(symbols: &[u16], i: u16, f: u16, scope: ScopeId, name: u16) -> bool
+    ensures { λ r. ⌜ r ≡ binds (symbolAt (now (symbols .entry)) f i) (scope .0) name ⌝ }
+{
+    let at = (i as usize) * 5;
+    if tables::get(symbols, at + 3) != 0 {
+        return false;
+    }
+    if tables::get(symbols, at + (f as usize)) != scope.0 {
+        return false;
+    }
+    tables::get(symbols, at) == name
+}
+
+// The row after i others if it binds the name, or what was found before.
+fn found_at(
+    symbols: &[u16],
+    i: u16,
+    f: u16,
+    scope: ScopeId,
+    name: u16,
+    found: u16,
+) -> u16
+    ensures { λ r. ⌜ r ≡ (if binds (symbolAt (now (symbols .entry)) f i) (scope .0) name then capped i 1 else found) ⌝ }
+{
+    if binds_at(symbols, i, f, scope, name) {
+        return tables::plus(i, 1);
+    }
+    found
+}
+
+// `get_binding`: the last of `count` rows that binds the name, or 0; column f has the scope.
+pub fn get_binding(symbols: &[u16], count: u16, f: u16, scope: ScopeId, name: u16) -> SymbolId
+    ensures { λ r. ⌜ r .0 ≡ getBinding (symbolsF (now (symbols .entry)) f count 0) (scope .0) name ⌝ }
+{
+    let mut i: u16 = 0;
+    let mut found: u16 = 0;
+    while i < count {
+        found = found_at(symbols, i, f, scope, name, found);
+        i += 1;
+    }
+    SymbolId(found)
+}
+
+// `find_binding`: the name seen from a scope, or 0.
+pub fn find_binding(scopes: &[u16], symbols: &[u16], ctx: Ctx, from: ScopeId, name: u16) -> SymbolId
+    ensures { λ r. ⌜ r .0 ≡ findBinding (ctx .scopes) (storeF (now (scopes .entry)) (now (symbols .entry)) ctx) (from .0) name ⌝ }
+{
+    let count = ctx.scopes;
+    let mut scope = from.0;
+    let mut k: u16 = 0;
+    while k < count {
+        let here = get_binding(symbols, ctx.symbols, 2, ScopeId(scope), name);
+        if here.0 != 0 {
+            return here;
+        }
+        if scope == 0 {
+            return SymbolId(0);
+        }
+        scope = scope_number(scopes, count, ScopeId(scope), 0);
+        k += 1;
+    }
+    SymbolId(0)
+}
+
+// The scope binds the symbol's name, by the symbol rows as read.
+pub fn binds_name(symbols: &[u16], ctx: Ctx, scope: ScopeId, y: SymbolId) -> bool
+    ensures { λ r. ⌜ r ≡ bindsName (symbolsF (now (symbols .entry)) 4 (ctx .read) 0) (scope .0) (y .0) ⌝ }
+{
+    if symbol_number(symbols, ctx.read, y, 3) != 0 {
+        return false;
+    }
+    let name = symbol_number(symbols, ctx.read, y, 0);
+    let found = get_binding(symbols, ctx.read, 4, scope, name);
+    found.0 != 0
+}
+
+// ---- what a scope binds
+
+fn is_block_scoped(flags: u16) -> bool
+    ensures { λ r. ⌜ r ≡ blockScoped flags ⌝ }
+{
+    if flags / 2 % 2 == 1 {
+        return true;
+    }
+    flags / 8 % 2 == 1
+}
+
+// The row after i others is bound in the scope: a unique name, or the last row of its name.
+fn is_bound(symbols: &[u16], ctx: Ctx, scope: ScopeId, i: u16) -> bool
+    ensures { λ r. ⌜ r ≡ isBound (symbolsF (now (symbols .entry)) 2 (ctx .symbols) 0) (scope .0) (capped i 1) (symbolAt (now (symbols .entry)) 2 i) ⌝ }
+{
+    let at = (i as usize) * 5;
+    if tables::get(symbols, at + 2) != scope.0 {
+        return false;
+    }
+    if tables::get(symbols, at + 3) != 0 {
+        return true;
+    }
+    let name = tables::get(symbols, at);
+    let last = get_binding(symbols, ctx.symbols, 2, scope, name);
+    last.0 == tables::plus(i, 1)
+}
+
+// The row after i others is bound in the scope, block-scoped or as a class.
+fn moves(symbols: &[u16], ctx: Ctx, from: ScopeId, i: u16) -> bool
+    ensures { λ r. ⌜ r ≡ movesF (inSymbols (now (symbols .entry)) ctx) (from .0) i ⌝ }
+{
+    if is_bound(symbols, ctx, from, i) {
+        return is_block_scoped(tables::get(symbols, (i as usize) * 5 + 1));
+    }
+    false
+}
+
+// Such a row moves.
+fn move_bound(symbols: &mut [u16], ctx: Ctx, from: ScopeId, to: ScopeId, i: u16)
+    ensures { λ _. ⌜ now (symbols .exit) ≡ moveBoundF (inSymbols (now (symbols .entry)) ctx) (from .0) (to .0) i ⌝ }
+{
+    if moves(symbols, ctx, from, i) {
+        move_binding(symbols, ctx, SymbolId(tables::plus(i, 1)), to);
+    }
+}
+
+// All such rows.
+pub fn move_block_scoped(symbols: &mut [u16], ctx: Ctx, from: ScopeId, to: ScopeId)
+    ensures { λ _. ⌜ now (symbols .exit) ≡ moveBlockScopedF (inSymbols (now (symbols .entry)) ctx) (from .0) (to .0) ⌝ }
+{
+    let count = ctx.symbols;
+    let mut i: u16 = 0;
+    while i < count {
+        move_bound(symbols, ctx, from, to, i);
+        i += 1;
+    }
+}

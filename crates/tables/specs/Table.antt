@@ -1,0 +1,67 @@
+-- The record table as a list of numbers, seven to a row. Places are counted by the rows before them.
+-- Assumes nothing.
+use mathlib.Core.List.{List}
+use mathlib.Core.Bool.{Bool}
+use Prim.Native.Nat.{ℕ, _+_, _*_, _-_, min}
+use lib.ListN.{getD, set}
+use lib.Dec.{eqb}
+use Rattle.tables.specs.Loops.{until}
+use Rattle.tables.specs.declared.Row.{Row}
+
+-- the sum, at most the largest number
+unfoldable pub capped : ℕ → ℕ → ℕ
+capped x k = min (x + k) 65535
+
+-- column f of the row after i others, or 0 past the end
+unfoldable pub columnF : List ℕ → ℕ → ℕ → ℕ
+columnF t i f = getD t (i * 7 + f) 0
+
+unfoldable pub rowF : List ℕ → ℕ → Row
+rowF t i =
+    record {
+      tag = columnF t i 0;
+      a = columnF t i 1;
+      b = columnF t i 2;
+      c = columnF t i 3;
+      n = columnF t i 4;
+      up = columnF t i 5;
+      left = columnF t i 6;
+    }
+
+unfoldable pub setColumnF : List ℕ → ℕ → ℕ → ℕ → List ℕ
+setColumnF t i f v = set t (i * 7 + f) v
+
+unfoldable pub setRowF : List ℕ → ℕ → Row → List ℕ
+setRowF t i r =
+    let t₀ = setColumnF t i 0 (r .tag) in
+    let t₁ = setColumnF t₀ i 1 (r .a) in
+    let t₂ = setColumnF t₁ i 2 (r .b) in
+    let t₃ = setColumnF t₂ i 3 (r .c) in
+    let t₄ = setColumnF t₃ i 4 (r .n) in
+    let t₅ = setColumnF t₄ i 5 (r .up) in
+    setColumnF t₅ i 6 (r .left)
+
+-- a row that is not open
+abbrev pub madeF : ℕ → ℕ → ℕ → ℕ → ℕ → Row
+madeF t a b c n = record { tag = t; a = a; b = b; c = c; n = n; up = 0; left = 0 }
+
+-- one place is cleared, and a row is stored at another
+unfoldable pub moveRowF : List ℕ → ℕ → ℕ → Row → List ℕ
+moveRowF t from to r = setRowF (setRowF t from (madeF 0 0 0 0 0)) to r
+
+-- the last row of c subtrees after a row
+pub record Skipping : Type 0 where
+  pub at : ℕ
+  pub pending : ℕ
+
+abbrev pub skipping : ℕ → ℕ → Skipping
+skipping at c = record { at = at; pending = c }
+
+abbrev pub skipped : Skipping → Bool
+skipped s = eqb (s .pending) 0
+
+unfoldable pub skipOne : List ℕ → Skipping → Skipping
+skipOne t s = skipping (s .at + 1) (s .pending - 1 + columnF t (s .at) 4)
+
+unfoldable pub endF : List ℕ → ℕ → ℕ → ℕ
+endF t at c = until (65535 - at) skipped (skipOne t) (skipping at c) .at

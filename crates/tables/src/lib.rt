@@ -1,0 +1,226 @@
+// Lent tables of 16-bit numbers, read and written without a limit, and the records of a tree streamed through the free rows of their table.
+//
+// A record takes seven numbers: tag, a, b, c, n, and two for the walk, `up` and `left`. The record table is a gap buffer:
+//
+//     visited rows | free rows, all 0 | rows still to visit
+//
+// A pass reads at the right end of the free rows and writes at their left end, so that a made row takes a free one and no row behind the
+// list that is rewritten moves. A row is named by the number of rows up to it, from 1 on; a place between rows by the row before it.
+use meaning::RecordId;
+ghost use mathlib.Core.Path.{_≡_};
+ghost use Prim.Native.Nat.{_-_};
+ghost use lib.ListN.{getD, set};
+ghost use Rattle.tables.specs.Table.{capped, columnF, rowF, setColumnF, setRowF, madeF, moveRowF, endF};
+ghost use Rattle.tables.specs.Stream.{buf, emitF, passAsF, passF, copyF, backF, takeBackF};
+
+pub struct Row {
+    pub tag: u16,
+    pub a: u16,
+    pub b: u16,
+    pub c: u16,
+    pub n: u16,
+    pub up: u16,
+    pub left: u16,
+}
+
+// The last row read and the last row written.
+pub struct Cursor {
+    pub read: RecordId,
+    pub written: RecordId,
+}
+
+// ---- numbers
+
+// The number at a place, or 0 past the end.
+pub fn get(table: &[u16], at: usize) -> u16
+    ensures { λ r. ⌜ r ≡ getD (now (table .entry)) at 0 ⌝ }
+{
+    if at < table.len() { table[at] } else { 0 }
+}
+
+// Stores a number; past the end nothing happens.
+pub fn put(table: &mut [u16], at: usize, v: u16)
+    ensures { λ _. ⌜ now (table .exit) ≡ set (now (table .entry)) at v ⌝ }
+{
+    if at < table.len() {
+        table[at] = v;
+    }
+}
+
+// The sum, or the largest number where it does not fit.
+pub fn plus(x: u16, k: u16) -> u16
+    ensures { λ r. ⌜ r ≡ capped x k ⌝ }
+{
+    if k <= 65535 - x { x + k } else { 65535 }
+}
+
+// The difference, or 0.
+pub fn minus(x: u16, k: u16) -> u16
+    ensures { λ r. ⌜ r ≡ x - k ⌝ }
+{
+    if k <= x { x - k } else { 0 }
+}
+
+// ---- rows
+
+// A column of the row after another.
+pub fn column(records: &[u16], after: RecordId, f: u16) -> u16
+    ensures { λ r. ⌜ r ≡ columnF (now (records .entry)) (after .0) f ⌝ }
+{
+    get(records, (after.0 as usize) * 7 + (f as usize))
+}
+
+pub fn put_column(records: &mut [u16], after: RecordId, f: u16, v: u16)
+    ensures { λ _. ⌜ now (records .exit) ≡ setColumnF (now (records .entry)) (after .0) f v ⌝ }
+{
+    put(records, (after.0 as usize) * 7 + (f as usize), v);
+}
+
+// The row after another.
+pub fn row_after(records: &[u16], after: RecordId) -> Row
+    ensures { λ r. ⌜ r ≡ rowF (now (records .entry)) (after .0) ⌝ }
+{
+    Row {
+        tag: column(records, after, 0),
+        a: column(records, after, 1),
+        b: column(records, after, 2),
+        c: column(records, after, 3),
+        n: column(records, after, 4),
+        up: column(records, after, 5),
+        left: column(records, after, 6),
+    }
+}
+
+pub fn put_row(records: &mut [u16], after: RecordId, r: Row)
+    ensures { λ _. ⌜ now (records .exit) ≡ setRowF (now (records .entry)) (after .0) r ⌝ }
+{
+    put_column(records, after, 0, r.tag);
+    put_column(records, after, 1, r.a);
+    put_column(records, after, 2, r.b);
+    put_column(records, after, 3, r.c);
+    put_column(records, after, 4, r.n);
+    put_column(records, after, 5, r.up);
+    put_column(records, after, 6, r.left);
+}
+
+// A row that is not open.
+pub fn made(tag: u16, a: u16, b: u16, c: u16, n: u16) -> Row
+    ensures { λ r. ⌜ r ≡ madeF tag a b c n ⌝ }
+{
+    Row {
+        tag,
+        a,
+        b,
+        c,
+        n,
+        up: 0,
+        left: 0,
+    }
+}
+
+// Clears the row after one place and stores a row after another.
+pub fn move_row(records: &mut [u16], from: RecordId, to: RecordId, r: Row)
+    ensures { λ _. ⌜ now (records .exit) ≡ moveRowF (now (records .entry)) (from .0) (to .0) r ⌝ }
+{
+    put_row(records, from, made(0, 0, 0, 0, 0));
+    put_row(records, to, r);
+}
+
+// The row after `count` subtrees, as the last of theirs.
+pub fn end_after(records: &[u16], after: RecordId, count: u16) -> RecordId
+    ensures { λ r. ⌜ r .0 ≡ endF (now (records .entry)) (after .0) count ⌝ }
+{
+    let mut at = after.0;
+    let mut pending = count as usize;
+    while at < 65535 {
+        if pending == 0 {
+            break;
+        }
+        pending = pending - 1 + (column(records, RecordId(at), 4) as usize);
+        at += 1;
+    }
+    RecordId(at)
+}
+
+// ---- streaming
+
+// A new row.
+pub fn emit(records: &mut [u16], q: Cursor, r: Row) -> Cursor
+    ensures { λ o. ⌜ buf (now (records .exit)) o ≡ emitF (buf (now (records .entry)) q) r ⌝ }
+{
+    let read = q.read;
+    put_row(records, q.written, r);
+    Cursor {
+        read,
+        written: RecordId(plus(q.written.0, 1)),
+    }
+}
+
+// A row in the place of the next one.
+pub fn pass_as(records: &mut [u16], q: Cursor, r: Row) -> Cursor
+    ensures { λ o. ⌜ buf (now (records .exit)) o ≡ passAsF (buf (now (records .entry)) q) r ⌝ }
+{
+    move_row(records, q.read, q.written, r);
+    Cursor {
+        read: RecordId(plus(q.read.0, 1)),
+        written: RecordId(plus(q.written.0, 1)),
+    }
+}
+
+// The next row.
+pub fn pass(records: &mut [u16], q: Cursor) -> Cursor
+    ensures { λ o. ⌜ buf (now (records .exit)) o ≡ passF (buf (now (records .entry)) q) ⌝ }
+{
+    let r = row_after(records, q.read);
+    pass_as(records, q, r)
+}
+
+// Whole subtrees, `count` of them.
+pub fn copy(records: &mut [u16], q: Cursor, count: u16) -> Cursor
+    ensures { λ o. ⌜ buf (now (records .exit)) o ≡ copyF (buf (now (records .entry)) q) count ⌝ }
+{
+    let mut read = q.read.0;
+    let mut written = q.written.0;
+    let mut pending = count as usize;
+    while read < 65535 {
+        if pending == 0 {
+            break;
+        }
+        let r = row_after(records, RecordId(read));
+        move_row(records, RecordId(read), RecordId(written), r);
+        read += 1;
+        written = plus(written, 1);
+        pending = pending - 1 + (r.n as usize);
+    }
+    Cursor {
+        read: RecordId(read),
+        written: RecordId(written),
+    }
+}
+
+// The last row written goes behind the free rows again.
+pub fn back(records: &mut [u16], q: Cursor) -> Cursor
+    ensures { λ o. ⌜ buf (now (records .exit)) o ≡ backF (buf (now (records .entry)) q) ⌝ }
+{
+    let from = RecordId(minus(q.written.0, 1));
+    let to = RecordId(minus(q.read.0, 1));
+    let r = row_after(records, from);
+    move_row(records, from, to, r);
+    Cursor {
+        read: to,
+        written: from,
+    }
+}
+
+// The last `n` of them.
+pub fn take_back(records: &mut [u16], start: Cursor, n: u16) -> Cursor
+    ensures { λ o. ⌜ buf (now (records .exit)) o ≡ takeBackF n (buf (now (records .entry)) start) ⌝ }
+{
+    let mut q = start;
+    let mut k: u16 = 0;
+    while k < n {
+        q = back(records, q);
+        k += 1;
+    }
+    q
+}
