@@ -5,3 +5,9 @@ pub mod Contexts
 pub mod Rewrites
 pub mod Visits
 pub mod Fits
+-- Nor do the numbers in its records and rows.
+pub mod Numbers
+pub mod NumbersContexts
+pub mod NumbersProgram
+pub mod NumbersVisits
+pub mod NumbersFit
