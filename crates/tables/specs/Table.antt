@@ -5,6 +5,7 @@ use mathlib.Core.Bool.{Bool}
 use Prim.Native.Nat.{ℕ, _+_, _*_, _-_, min}
 use lib.ListN.{getD, set}
 use lib.Dec.{eqb}
+use Rattle.meaning.specs.Tree.{Head, hd}
 use Rattle.tables.specs.Loops.{until}
 use Rattle.tables.specs.declared.Row.{Row}
 
@@ -44,6 +45,9 @@ setRowF t i r =
 -- a row that is not open
 abbrev pub madeF : ℕ → ℕ → ℕ → ℕ → ℕ → Row
 madeF t a b c n = record { tag = t; a = a; b = b; c = c; n = n; up = 0; left = 0 }
+
+abbrev pub headF : Row → Head
+headF r = hd (r .tag) (r .a) (r .b) (r .c)
 
 -- one place is cleared, and a row is stored at another
 unfoldable pub moveRowF : List ℕ → ℕ → ℕ → Row → List ℕ

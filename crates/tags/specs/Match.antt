@@ -1,4 +1,5 @@
--- The last arm of a match on a number. Assumes nothing.
+-- The last arm of a match on a number.
+-- Assumes nothing.
 use mathlib.Core.Path.{_≡_, sym, _∙_}
 use mathlib.Core.Bool.{false}
 use mathlib.Core.List.{List, [], _∷_}

@@ -1,0 +1,1 @@
+// What streaming through the gap does to the rows of a tree. No code.

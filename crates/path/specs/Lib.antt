@@ -1,0 +1,2 @@
+-- Where the walk stands.
+pub mod Path

@@ -1,0 +1,2 @@
+-- Where 01's walk stands, held in tables.
+pub mod Spots
