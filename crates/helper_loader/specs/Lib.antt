@@ -1,0 +1,2 @@
+-- `helper_load` on tables.
+pub mod Load

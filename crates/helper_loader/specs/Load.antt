@@ -1,0 +1,36 @@
+-- `helper_load` on tables.
+-- Assumes nothing.
+use mathlib.Core.List.{List}
+use Prim.Native.Nat.{ℕ}
+use lib.Dec.{eqb}
+use Rattle.meaning.specs.Tree.{if_then_else_}
+use Rattle.meaning.specs.Scoping.{findBinding}
+use Rattle.scoping.specs.Rows.{withHelper, storeF}
+use Rattle.scoping.specs.Changes.{SymbolRows, inSymbols, createSymbolF}
+use Rattle.scoping.specs.declared.Ctx.{Ctx}
+use Rattle.helper_loader.specs.declared.Loaded.{Loaded}
+
+-- the symbol rows, and what was loaded
+pub record Loading : Type 0 where
+  pub t : List ℕ
+  pub loaded : Loaded
+
+abbrev pub loading : List ℕ → Loaded → Loading
+loading t x = record { t = t; loaded = x }
+
+unfoldable pub makeHelperF : SymbolRows → SymbolRows
+makeHelperF q =
+    let q₁ = createSymbolF q 5 (if eqb (q .ctx .esm) 1 then 32 else 1) 1 1 in
+    inSymbols (q₁ .t) (withHelper (q₁ .ctx) (q₁ .ctx .symbols))
+
+unfoldable pub loadRuntimeF : SymbolRows → SymbolRows
+loadRuntimeF q = if eqb (q .ctx .helper .0) 0 then makeHelperF q else q
+
+abbrev pub loadedF : Ctx → ℕ → ℕ → Loaded
+loadedF x form y = record { ctx = x; form = form; symbol = record { 0 = y } }
+
+unfoldable pub helperLoadF : List ℕ → SymbolRows → ℕ → Loading
+helperLoadF ss q cur =
+    let r = loadRuntimeF q in
+    let y = findBinding (q .ctx .scopes) (storeF ss (q .t) (q .ctx)) cur 1 in
+    if eqb (q .ctx .mode) 0 then loading (r .t) (loadedF (r .ctx) 0 (r .ctx .helper .0)) else loading (q .t) (loadedF (q .ctx) 1 y)

@@ -1,0 +1,65 @@
+// `helper_load` (src/common/helper_loader.rs).
+use meaning::ScopeId;
+use meaning::SymbolId;
+use scoping::Ctx;
+ghost use mathlib.Core.Path.{_≡_};
+ghost use lib.Dec.{eqb};
+ghost use Rattle.meaning.specs.Tree.{if_then_else_};
+ghost use Rattle.scoping.specs.Changes.{inSymbols};
+ghost use Rattle.helper_loader.specs.Load.{loading, makeHelperF, loadRuntimeF, helperLoadF};
+
+// The counters, and the form and the symbol of a Load.
+pub struct Loaded {
+    pub ctx: Ctx,
+    pub form: u16,
+    pub symbol: SymbolId,
+}
+
+// An import in a module, a var elsewhere.
+fn helper_flags(esm: u16) -> u16
+    ensures { λ r. ⌜ r ≡ (if eqb esm 1 then 32 else 1) ⌝ }
+{
+    if esm == 1 { 32 } else { 1 }
+}
+
+// One symbol on `usingCtx` in scope 1.
+fn make_helper(symbols: &mut [u16], ctx: Ctx) -> Ctx
+    ensures { λ r. ⌜ inSymbols (now (symbols .exit)) r ≡ makeHelperF (inSymbols (now (symbols .entry)) ctx) ⌝ }
+{
+    let flags = helper_flags(ctx.esm);
+    let made = scoping::create_symbol(symbols, ctx, 5, flags, ScopeId(1), 1);
+    made.with_helper(SymbolId(made.symbols))
+}
+
+// Runtime: the first load makes the helper's symbol, later ones read it.
+fn load_runtime(symbols: &mut [u16], ctx: Ctx) -> Ctx
+    ensures { λ r. ⌜ inSymbols (now (symbols .exit)) r ≡ loadRuntimeF (inSymbols (now (symbols .entry)) ctx) ⌝ }
+{
+    if ctx.helper.0 == 0 {
+        make_helper(symbols, ctx)
+    } else {
+        ctx
+    }
+}
+
+// External: the symbol of `babelHelpers` seen from the current scope, or 0.
+pub fn helper_load(scopes: &[u16], symbols: &mut [u16], ctx: Ctx, cur: ScopeId) -> Loaded
+    ensures { λ r. ⌜ loading (now (symbols .exit)) r ≡ helperLoadF (now (scopes .entry)) (inSymbols (now (symbols .entry)) ctx) (cur .0) ⌝ }
+{
+    if ctx.mode == 0 {
+        let loaded = load_runtime(symbols, ctx);
+        let symbol = loaded.helper;
+        Loaded {
+            ctx: loaded,
+            form: 0,
+            symbol,
+        }
+    } else {
+        let symbol = scoping::find_binding(scopes, symbols, ctx, cur, 1);
+        Loaded {
+            ctx,
+            form: 1,
+            symbol,
+        }
+    }
+}
