@@ -1,0 +1,28 @@
+-- `statements::write_finally_block` meets its contract. Assumes nothing.
+use Rattle.statements.specs.Try.{finallyBlockF}
+use mathlib.Core.Path.{_∙_}
+use borrow.Author.Needs.{needs}
+use Rattle.statements.proofs.write_finally_block.Statement.{statement}
+use Rattle.statements.proofs.write_finally_block.Tie as tie
+
+same-length : tie.Need-same-length
+same-length c = 
+    let at-emit2 = c .before .before in
+    let at-emit = at-emit2 .before .before .before .before .before in
+    at-emit2 .emit2 .kept .0 ∙ at-emit .emit .kept .0
+
+returns : tie.Need-returns
+unfolding finallyBlockF
+returns c = 
+    let at-emit2 = c .before .before in
+    let at-made2 = at-emit2 .before in
+    let at-emit = at-made2 .before .before .before .before in
+    let at-made = at-emit .before in
+    let at-plus = at-made .before in
+    rw (← at-plus .plus .ensures, ← at-made .made .ensures, ← at-emit .emit .ensures, ← at-made2 .made2 .ensures, ← at-emit2 .emit2 .ensures)
+
+pub write-finally-block-spec : {M : Type 1} → statement M
+write-finally-block-spec =
+    tie.close
+    (tie.spec
+    (λ c κs. search needs) (λ c κs. search needs) (λ c κs. search needs) (λ c κs. search needs) (λ c κs. search needs) same-length returns)
