@@ -1,0 +1,17 @@
+-- `creation::load_context` meets its contract. Assumes nothing.
+use Rattle.creation.specs.Creation.{loadContextF}
+use borrow.Author.Needs.{needs}
+use Rattle.creation.proofs.load_context.Statement.{statement}
+use Rattle.creation.proofs.load_context.Tie as tie
+
+returns : tie.Need-returns
+unfolding loadContextF
+returns c = 
+    let at-helper-load = c .before .before .before .before in
+    rw (← at-helper-load .helper-load .ensures)
+
+pub load-context-spec : {M : Type 1} → statement M
+load-context-spec =
+    tie.close
+    (tie.spec
+    (λ c κs. search needs) (λ c. search needs) returns)

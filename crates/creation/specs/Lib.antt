@@ -1,0 +1,3 @@
+-- The scopes and symbols that a context makes.
+pub mod Scopes
+pub mod Creation

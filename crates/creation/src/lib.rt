@@ -1,0 +1,185 @@
+// The scopes and symbols that a context makes.
+use meaning::RecordId;
+use meaning::ScopeId;
+use meaning::SymbolId;
+use scoping::Ctx;
+use statements::Parts;
+ghost use mathlib.Core.Path.{_≡_};
+ghost use Rattle.scoping.specs.Changes.{inScopes, inSymbols};
+ghost use Rattle.creation.specs.Scopes.{passing, moveScopeF, isPassedF, moveScopesF, insertScopeBelowF};
+ghost use Rattle.creation.specs.Creation.{inRows, transforming, creating, makeContextF, loadContextF, transformStatementsF, createCatchClauseF, createTryStmtF};
+
+// The counters, the context's symbol, and the form and the symbol of its Load.
+pub struct Transformed {
+    pub ctx: Ctx,
+    pub context: SymbolId,
+    pub form: u16,
+    pub load: SymbolId,
+}
+
+// The counters, and the numbers of a Try's rows.
+pub struct Created {
+    pub ctx: Ctx,
+    pub parts: Parts,
+}
+
+// The last row looked at, how many records beside each other are still to be looked at, and how many to be passed over before.
+pub struct Passing {
+    pub at: u16,
+    pub pending: u16,
+    pub skip: u16,
+}
+
+// ---- scopes
+
+// The next record: its scope gets the parent, and its children are passed over; a record without a scope is entered.
+fn move_scope(records: &[u16], scopes: &mut [u16], ctx: Ctx, s: Passing, parent: ScopeId) -> Passing
+    ensures { λ r. ⌜ passing (now (scopes .exit)) r ≡ moveScopeF (now (records .entry)) ctx (parent .0) (passing (now (scopes .entry)) s) ⌝ }
+{
+    let r = tables::row_after(records, RecordId(s.at));
+    let at = tables::plus(s.at, 1);
+    if s.skip != 0 {
+        return Passing {
+            at,
+            pending: s.pending,
+            skip: tables::plus(tables::minus(s.skip, 1), r.n),
+        };
+    }
+    let pending = tables::minus(s.pending, 1);
+    let scope = path::scope_of(r);
+    if scope.0 == 0 {
+        return Passing {
+            at,
+            pending: tables::plus(pending, r.n),
+            skip: 0,
+        };
+    }
+    scoping::change_scope_parent(scopes, ctx, scope, parent);
+    Passing {
+        at,
+        pending,
+        skip: r.n,
+    }
+}
+
+fn is_passed(s: Passing) -> bool
+    ensures { λ r. ⌜ r ≡ isPassedF s ⌝ }
+{
+    if s.pending != 0 {
+        return false;
+    }
+    s.skip == 0
+}
+
+// The outermost scopes of `n` records after a row get a parent.
+fn move_scopes(records: &[u16], scopes: &mut [u16], ctx: Ctx, after: RecordId, n: u16, parent: ScopeId)
+    ensures { λ _. ⌜ now (scopes .exit) ≡ moveScopesF (now (records .entry)) (inScopes (now (scopes .entry)) ctx) (after .0) n (parent .0) ⌝ }
+{
+    let mut s = Passing {
+        at: after.0,
+        pending: n,
+        skip: 0,
+    };
+    let mut k: u16 = 0;
+    while k < 65535 {
+        if is_passed(s) {
+            break;
+        }
+        s = move_scope(records, scopes, ctx, s, parent);
+        k += 1;
+    }
+}
+
+// `insert_scope_below_statements`: a new scope below a scope, above `n` records after a row.
+pub fn insert_scope_below(
+    records: &[u16],
+    scopes: &mut [u16],
+    ctx: Ctx,
+    scope: ScopeId,
+    after: RecordId,
+    n: u16,
+) -> Ctx
+    ensures { λ r. ⌜ inScopes (now (scopes .exit)) r ≡ insertScopeBelowF (now (records .entry)) (inScopes (now (scopes .entry)) ctx) (scope .0) (after .0) n ⌝ }
+{
+    let made = scoping::create_child_scope(scopes, ctx, scope, 0);
+    move_scopes(records, scopes, made, after, n, ScopeId(made.scopes));
+    made
+}
+
+// ---- the context
+
+// Its symbol, on `usingCtx`.
+pub fn make_context(symbols: &mut [u16], ctx: Ctx, scope: ScopeId) -> Ctx
+    ensures { λ r. ⌜ inSymbols (now (symbols .exit)) r ≡ makeContextF (inSymbols (now (symbols .entry)) ctx) (scope .0) ⌝ }
+{
+    let made = scoping::create_symbol(symbols, ctx, 5, 1, scope, 1);
+    made.new_context()
+}
+
+// The helper for a context that is made.
+pub fn load_context(scopes: &[u16], symbols: &mut [u16], ctx: Ctx, context: SymbolId, cur: ScopeId) -> Transformed
+    ensures { λ r. ⌜ transforming (now (symbols .exit)) r ≡ loadContextF (now (scopes .entry)) (inSymbols (now (symbols .entry)) ctx) (context .0) (cur .0) ⌝ }
+{
+    let loaded = helper_loader::helper_load(scopes, symbols, ctx, cur);
+    let next = loaded.ctx;
+    let load = loaded.symbol;
+    Transformed {
+        ctx: next,
+        context,
+        form: loaded.form,
+        load,
+    }
+}
+
+// `transform_statements`: the context's symbol in the hoist scope, and the helper.
+pub fn transform_statements(
+    scopes: &[u16],
+    symbols: &mut [u16],
+    ctx: Ctx,
+    cur: ScopeId,
+    hoist: ScopeId,
+) -> Transformed
+    ensures { λ r. ⌜ transforming (now (symbols .exit)) r ≡ transformStatementsF (now (scopes .entry)) (inSymbols (now (symbols .entry)) ctx) (cur .0) (hoist .0) ⌝ }
+{
+    let made = make_context(symbols, ctx, hoist);
+    load_context(scopes, symbols, made, SymbolId(made.symbols), cur)
+}
+
+// ---- the Try
+
+// `create_catch_clause`: the Catch's scope, that of its body, and `_`.
+fn create_catch_clause(scopes: &mut [u16], symbols: &mut [u16], ctx: Ctx, parent: ScopeId) -> Ctx
+    ensures { λ r. ⌜ inRows (now (scopes .exit)) (now (symbols .exit)) r ≡ createCatchClauseF (inRows (now (scopes .entry)) (now (symbols .entry)) ctx) (parent .0) ⌝ }
+{
+    let caught = scoping::create_child_scope(scopes, ctx, parent, 2);
+    let body = scoping::create_child_scope(scopes, caught, ScopeId(caught.scopes), 0);
+    scoping::create_symbol(symbols, body, 2, 17, ScopeId(body.scopes), 0)
+}
+
+// `create_try_stmt`: the Catch and the last Block below the scope `parent`.
+pub fn create_try_stmt(
+    scopes: &mut [u16],
+    symbols: &mut [u16],
+    t: Transformed,
+    parent: ScopeId,
+    awaits: u16,
+) -> Created
+    ensures { λ r. ⌜ creating (now (scopes .exit)) (now (symbols .exit)) r ≡ createTryStmtF (now (scopes .entry)) (now (symbols .entry)) t (parent .0) awaits ⌝ }
+{
+    let before = t.ctx;
+    let context = t.context;
+    let load = t.load;
+    let caught = create_catch_clause(scopes, symbols, before, parent);
+    let parts = Parts {
+        context,
+        form: t.form,
+        load,
+        scope: ScopeId(tables::plus(before.scopes, 1)),
+        error: SymbolId(caught.symbols),
+        step: statements::step_form(awaits),
+    };
+    Created {
+        ctx: scoping::create_child_scope(scopes, caught, parent, 0),
+        parts,
+    }
+}
