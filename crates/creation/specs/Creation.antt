@@ -52,6 +52,9 @@ loadContextF ss q context cur =
 unfoldable pub transformStatementsF : List ℕ → SymbolRows → ℕ → ℕ → Transforming
 transformStatementsF ss q cur hoist = let q₁ = makeContextF q hoist in loadContextF ss q₁ (q₁ .ctx .symbols) cur
 
+unfoldable pub withCtxF : Transformed → Ctx → Transformed
+withCtxF t x = record { ctx = x; context = t .context; form = t .form; load = t .load }
+
 -- ---- the Try
 
 unfoldable pub createCatchClauseF : InRows → ℕ → InRows

@@ -7,7 +7,7 @@ use statements::Parts;
 ghost use mathlib.Core.Path.{_≡_};
 ghost use Rattle.scoping.specs.Changes.{inScopes, inSymbols};
 ghost use Rattle.creation.specs.Scopes.{passing, moveScopeF, isPassedF, moveScopesF, insertScopeBelowF};
-ghost use Rattle.creation.specs.Creation.{inRows, transforming, creating, makeContextF, loadContextF, transformStatementsF, createCatchClauseF, createTryStmtF};
+ghost use Rattle.creation.specs.Creation.{inRows, transforming, creating, makeContextF, loadContextF, transformStatementsF, withCtxF, createCatchClauseF, createTryStmtF};
 
 // The counters, the context's symbol, and the form and the symbol of its Load.
 pub struct Transformed {
@@ -15,6 +15,15 @@ pub struct Transformed {
     pub context: SymbolId,
     pub form: u16,
     pub load: SymbolId,
+}
+
+impl Transformed {
+    pub fn with_ctx(mut self, ctx: Ctx) -> Self
+        ensures { λ r. ⌜ r ≡ withCtxF self ctx ⌝ }
+    {
+        self.ctx = ctx;
+        self
+    }
 }
 
 // The counters, and the numbers of a Try's rows.

@@ -31,8 +31,28 @@ steppedF w =
 unfoldable pub withInnerF : Walk → ℕ → Walk
 withInnerF w n = record { visited = w .visited; gap = w .gap; end = w .end; inner = record { 0 = n }; ctx = w .ctx }
 
+unfoldable pub withCursorF : Walk → ℕ → ℕ → Walk
+withCursorF w read written =
+    record {
+      visited = record { 0 = written };
+      gap = record { 0 = read };
+      end = w .end;
+      inner = w .inner;
+      ctx = w .ctx;
+    }
+
 unfoldable pub withCtxF : Walk → Ctx → Walk
 withCtxF w x = record { visited = w .visited; gap = w .gap; end = w .end; inner = w .inner; ctx = x }
+
+-- the lent tables and the walk
+pub record Tables : Type 0 where
+  pub records : List ℕ
+  pub scopes : List ℕ
+  pub symbols : List ℕ
+  pub walk : Walk
+
+abbrev pub tables : List ℕ → List ℕ → List ℕ → Walk → Tables
+tables r s y w = record { records = r; scopes = s; symbols = y; walk = w }
 
 -- the record table and the walk; the record table and an open row
 pub record OnRecords : Type 0 where

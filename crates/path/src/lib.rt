@@ -5,12 +5,13 @@
 use meaning::RecordId;
 use meaning::ScopeId;
 use scoping::Ctx;
+use tables::Cursor;
 use tables::Row;
 ghost use mathlib.Core.Path.{_≡_};
 ghost use Rattle.meaning.specs.Grammar.{scopeOf};
 ghost use Rattle.tables.specs.Loops.{until};
 ghost use Rattle.tables.specs.Table.{headF};
-ghost use Rattle.path.specs.Path.{onRecords, openRows, chargedF, steppedF, withInnerF, withCtxF, scopeAtF, hasScopeF, upF, currentScopeF, isHoistF, hoistScopeF, closeF, staysF, settleF, countDownF, openRowF, enterF};
+ghost use Rattle.path.specs.Path.{onRecords, openRows, chargedF, steppedF, withInnerF, withCursorF, withCtxF, scopeAtF, hasScopeF, upF, currentScopeF, isHoistF, hoistScopeF, closeF, staysF, settleF, countDownF, openRowF, enterF};
 
 // The last row visited, the last free row, the last row in use, the innermost open row or 0, and the counters.
 pub struct Walk {
@@ -47,6 +48,17 @@ impl Walk {
         ensures { λ r. ⌜ r ≡ withInnerF self (inner .0) ⌝ }
     {
         self.inner = inner;
+        self
+    }
+
+    // What a cursor has written is visited.
+    pub fn with_cursor(mut self, q: Cursor) -> Self
+        ensures { λ r. ⌜ r ≡ withCursorF self (q .read .0) (q .written .0) ⌝ }
+    {
+        let gap = q.read;
+        let visited = q.written;
+        self.visited = visited;
+        self.gap = gap;
         self
     }
 

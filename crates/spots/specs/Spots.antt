@@ -1,12 +1,12 @@
 -- Where 01's walk stands, held in tables.
 -- Assumes nothing.
 use mathlib.Core.List.{List, [], _∷_, _++_}
-use Prim.Native.Nat.{ℕ, zero, suc, _+_}
+use Prim.Native.Nat.{ℕ, suc, _+_}
 use lib.ListN.{length}
-use Rattle.meaning.specs.Tree.{Head, Forest, none, more, count}
-use Rattle.meaning.specs.Scoping.{Store}
+use Rattle.meaning.specs.Tree.{Head, more, count}
 use Rattle.meaning.specs.Walk.{Crumb, crumb, Spot, at, leaving, over, storeAt}
 use Rattle.tables.specs.declared.Row.{Row}
+use Rattle.path.specs.Path.{Tables, tables}
 use Rattle.path.specs.declared.Walk.{Walk}
 use Rattle.gap.specs.Cells.{table, free, rowsOf}
 use Rattle.store.specs.Held.{scopeCells, symbolCells, ctxOf}
@@ -17,8 +17,8 @@ use Rattle.store.specs.Held.{scopeCells, symbolCells, ctxOf}
 abbrev pub openLine : Head → ℕ → ℕ → ℕ → Row
 openLine h n around left = record { tag = h .tag; a = h .a; b = h .b; c = h .c; n = n; up = around; left = left }
 
--- The rows of the open records and of what is done before each, from the outermost on. The innermost has n children, `left` of them still to
--- be entered. Its row is the last of these, so their number is its number.
+-- The rows of the open records and of what is done before each, from the outermost on. The innermost has n children, `left` of them still
+-- to be entered. Its row is the last of these, so their number is its number.
 unfoldable pub openRowsOf : List Crumb → ℕ → ℕ → List Row
 openRowsOf [] n left = []
 openRowsOf (crumb h before after ∷ path) n left =
@@ -53,16 +53,6 @@ pub record Rest : Type 0 where
   pub records : List ℕ
   pub scopes : List ℕ
   pub symbols : List ℕ
-
--- the lent tables and the walk
-pub record Tables : Type 0 where
-  pub records : List ℕ
-  pub scopes : List ℕ
-  pub symbols : List ℕ
-  pub walk : Walk
-
-abbrev pub tables : List ℕ → List ℕ → List ℕ → Walk → Tables
-tables r s y w = record { records = r; scopes = s; symbols = y; walk = w }
 
 -- with g free rows
 unfoldable pub walkAt : Spot → ℕ → Walk
