@@ -8,6 +8,7 @@ ghost use mathlib.Core.Path.{_≡_};
 ghost use Rattle.scoping.specs.Changes.{inScopes, inSymbols};
 ghost use Rattle.creation.specs.Scopes.{passing, moveScopeF, isPassedF, moveScopesF, insertScopeBelowF};
 ghost use Rattle.creation.specs.Creation.{inRows, transforming, creating, makeContextF, loadContextF, transformStatementsF, withCtxF, createCatchClauseF, createTryStmtF};
+ghost use Rattle.creation.specs.Kinds.{forBlockF, forBodyF, forStaticBlockF, forTryPartF, forLoopF, forSwitchF};
 
 // The counters, the context's symbol, and the form and the symbol of its Load.
 pub struct Transformed {
@@ -191,4 +192,116 @@ pub fn create_try_stmt(
         ctx: scoping::create_child_scope(scopes, caught, parent, 0),
         parts,
     }
+}
+
+// ---- by what the context is made for
+
+// A Block statement.
+pub fn for_block(
+    scopes: &mut [u16],
+    symbols: &mut [u16],
+    ctx: Ctx,
+    cur: ScopeId,
+    hoist: ScopeId,
+    awaits: u16,
+) -> Created
+    ensures { λ r. ⌜ creating (now (scopes .exit)) (now (symbols .exit)) r ≡ forBlockF (inRows (now (scopes .entry)) (now (symbols .entry)) ctx) (cur .0) (hoist .0) awaits ⌝ }
+{
+    let t = transform_statements(scopes, symbols, ctx, cur, hoist);
+    create_try_stmt(scopes, symbols, t, cur, awaits)
+}
+
+// A function body: a new scope below the function's takes the list, `n` records after a row, and what the function's scope binds block-scoped
+// or as a class.
+pub fn for_body(
+    records: &[u16],
+    scopes: &mut [u16],
+    symbols: &mut [u16],
+    ctx: Ctx,
+    cur: ScopeId,
+    hoist: ScopeId,
+    after: RecordId,
+    n: u16,
+    awaits: u16,
+) -> Created
+    ensures { λ r. ⌜ creating (now (scopes .exit)) (now (symbols .exit)) r ≡ forBodyF (now (records .entry)) (inRows (now (scopes .entry)) (now (symbols .entry)) ctx) (cur .0) (hoist .0) (after .0) n awaits ⌝ }
+{
+    let t = transform_statements(scopes, symbols, ctx, cur, hoist);
+    let x = insert_scope_below(records, scopes, t.ctx, cur, after, n);
+    scoping::move_block_scoped(symbols, x, cur, ScopeId(x.scopes));
+    create_try_stmt(scopes, symbols, t.with_ctx(x), cur, awaits)
+}
+
+// A static block: a new scope above its old one, which is strict and no static block any more.
+pub fn for_static_block(
+    scopes: &mut [u16],
+    symbols: &mut [u16],
+    ctx: Ctx,
+    old: ScopeId,
+    awaits: u16,
+) -> Created
+    ensures { λ r. ⌜ creating (now (scopes .exit)) (now (symbols .exit)) r ≡ forStaticBlockF (inRows (now (scopes .entry)) (now (symbols .entry)) ctx) (old .0) awaits ⌝ }
+{
+    let t = transform_statements(scopes, symbols, ctx, old, old);
+    let x = scoping::insert_scope_between(scopes, t.ctx, old, 4);
+    let scope = ScopeId(x.scopes);
+    scoping::move_binding(symbols, x, t.context, scope);
+    scoping::set_scope_flags(scopes, x, old, 1);
+    create_try_stmt(scopes, symbols, t.with_ctx(x), scope, awaits)
+}
+
+// A try part: a new scope above its old one; its context moves to the hoist scope.
+pub fn for_try_part(
+    scopes: &mut [u16],
+    symbols: &mut [u16],
+    ctx: Ctx,
+    cur: ScopeId,
+    hoist: ScopeId,
+    old: ScopeId,
+    awaits: u16,
+) -> Created
+    ensures { λ r. ⌜ creating (now (scopes .exit)) (now (symbols .exit)) r ≡ forTryPartF (inRows (now (scopes .entry)) (now (symbols .entry)) ctx) (cur .0) (hoist .0) (old .0) awaits ⌝ }
+{
+    let t = transform_statements(scopes, symbols, ctx, cur, old);
+    let x = scoping::insert_scope_between(scopes, t.ctx, old, 0);
+    let c = create_try_stmt(scopes, symbols, t.with_ctx(x), ScopeId(x.scopes), awaits);
+    scoping::move_binding(symbols, c.ctx, t.context, hoist);
+    c
+}
+
+// A For with its Labels, the record after a row: a new scope above it.
+pub fn for_loop(
+    records: &[u16],
+    scopes: &mut [u16],
+    symbols: &mut [u16],
+    ctx: Ctx,
+    cur: ScopeId,
+    hoist: ScopeId,
+    after: RecordId,
+    awaits: u16,
+) -> Created
+    ensures { λ r. ⌜ creating (now (scopes .exit)) (now (symbols .exit)) r ≡ forLoopF (now (records .entry)) (inRows (now (scopes .entry)) (now (symbols .entry)) ctx) (cur .0) (hoist .0) (after .0) awaits ⌝ }
+{
+    let made = make_context(symbols, ctx, hoist);
+    let x = insert_scope_below(records, scopes, made, cur, after, 1);
+    let t = load_context(scopes, symbols, x, SymbolId(made.symbols), cur);
+    create_try_stmt(scopes, symbols, t, cur, awaits)
+}
+
+// A Switch: the context is bound in the current scope; a new scope above the Switch's.
+pub fn for_switch(
+    scopes: &mut [u16],
+    symbols: &mut [u16],
+    ctx: Ctx,
+    cur: ScopeId,
+    old: ScopeId,
+    awaits: u16,
+) -> Created
+    ensures { λ r. ⌜ creating (now (scopes .exit)) (now (symbols .exit)) r ≡ forSwitchF (inRows (now (scopes .entry)) (now (symbols .entry)) ctx) (cur .0) (old .0) awaits ⌝ }
+{
+    let made = make_context(symbols, ctx, cur);
+    let x = scoping::create_child_scope(scopes, made, cur, 0);
+    scoping::change_scope_parent(scopes, x, old, ScopeId(x.scopes));
+    let t = load_context(scopes, symbols, x, SymbolId(made.symbols), cur);
+    create_try_stmt(scopes, symbols, t, cur, awaits)
 }

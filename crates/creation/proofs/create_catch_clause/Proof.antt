@@ -11,6 +11,11 @@ same-length c =
     let at-create-child-scope = at-create-child-scope2 .before .before .before .before in
     at-create-child-scope2 .create-child-scope2 .kept .0 ∙ at-create-child-scope .create-child-scope .kept .0
 
+same-length-2 : tie.Need-same-length-2
+same-length-2 c = 
+    let at-create-symbol = c .before .before in
+    at-create-symbol .create-symbol .kept .0
+
 returns : tie.Need-returns
 unfolding createCatchClauseF
 returns c = 
@@ -23,4 +28,4 @@ pub create-catch-clause-spec : {M : Type 1} → statement M
 create-catch-clause-spec =
     tie.close
     (tie.spec
-    (λ c κs. search needs) (λ c κs. search needs) (λ c κs. search needs) same-length (λ c. search needs) returns)
+    (λ c κs. search needs) (λ c κs. search needs) (λ c κs. search needs) same-length same-length-2 returns)

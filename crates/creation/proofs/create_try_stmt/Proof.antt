@@ -11,6 +11,11 @@ same-length c =
     let at-create-catch-clause = at-create-child-scope .before .before .before .before .before .before .before .before in
     at-create-child-scope .create-child-scope .kept .0 ∙ at-create-catch-clause .create-catch-clause .kept .0
 
+same-length-2 : tie.Need-same-length-2
+same-length-2 c = 
+    let at-create-catch-clause = c .before .before .before .before .before .before .before .before .before .before in
+    at-create-catch-clause .create-catch-clause .kept .1 .0
+
 returns : tie.Need-returns
 unfolding createTryStmtF
 returns c = 
@@ -24,4 +29,4 @@ pub create-try-stmt-spec : {M : Type 1} → statement M
 create-try-stmt-spec =
     tie.close
     (tie.spec
-    (λ c κs. search needs) (λ c κs. search needs) (λ c κs. search needs) (λ c κs. search needs) same-length (λ c. search needs) returns)
+    (λ c κs. search needs) (λ c κs. search needs) (λ c κs. search needs) (λ c κs. search needs) same-length same-length-2 returns)

@@ -27,6 +27,11 @@ returns-2 c =
     let at-row-after = at-plus .before in
     rw (← at-row-after .row-after .ensures, ← at-plus .plus .ensures, eq-eqb _ _ (at-if1 .if1 .left), ← at-minus2 .minus2 .ensures, ← at-scope-of .scope-of .ensures, eq-eqb _ _ (at-if2 .if2 .taken), ← at-plus3 .plus3 .ensures)
 
+same-length : tie.Need-same-length
+same-length c = 
+    let at-change-scope-parent = c .before .before in
+    at-change-scope-parent .change-scope-parent .kept .0
+
 returns-3 : tie.Need-returns-3
 unfolding moveScopeF
 returns-3 c = 
@@ -43,4 +48,4 @@ pub move-scope-spec : {M : Type 1} → statement M
 move-scope-spec =
     tie.close
     (tie.spec
-    (λ c κs. search needs) (λ c κs. search needs) (λ c κs. search needs) (λ c κs. search needs) returns (λ c κs. search needs) (λ c κs. search needs) (λ c κs. search needs) returns-2 (λ c κs. search needs) (λ c. search needs) returns-3)
+    (λ c κs. search needs) (λ c κs. search needs) (λ c κs. search needs) (λ c κs. search needs) returns (λ c κs. search needs) (λ c κs. search needs) (λ c κs. search needs) returns-2 (λ c κs. search needs) same-length returns-3)

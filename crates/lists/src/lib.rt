@@ -1,0 +1,1 @@
+// What taking up a list does to the rows of a tree. No code.
