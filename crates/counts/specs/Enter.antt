@@ -47,11 +47,18 @@ abbrev pub Left : Forest → Type 0
 Left none = Unit {0}
 Left (more h k r) = (isUsing h && bindsIdentifier k) ≡ true → Named k × (oneOf (3 ∷ 4 ∷ []) (h .a) ≡ true)
 
--- The exports of a Program with a using have one child each, and its usings are not recorded; a ForOf's left side is as said; a Label has one child.
+-- none of the records of a list has this tag
+abbrev pub Lacks : ℕ → Forest → Type 0
+Lacks t none = Unit {0}
+Lacks t (more h k r) = (eqb (h .tag) t ≡ false) × Lacks t r
+
+-- The exports of a Program with a using have one child each, and its usings are not recorded; a ForOf's left side is as said; a Label
+-- has one child; a Catch has no Catch among its children.
 pub record Fit (h : Head) (k : Forest) : Type 0 where
   pub items : eqb (h .tag) 1 ≡ true → anyUsing k ≡ true → Exports k × Kinds k
   pub side : eqb (h .tag) 8 ≡ true → Left k
   pub label : eqb (h .tag) 4 ≡ true → Alone k
+  pub handler : eqb (h .tag) 12 ≡ true → Lacks 12 k
 
 named-left : (k : Forest) → Left k → NamedLeft k
 named-left none p = tt

@@ -45,7 +45,7 @@ use Rattle.growth.specs.Enter.{entered}
 use Rattle.counts.specs.Visits.{++-nil, &-none, &-assoc}
 use Rattle.counts.specs.Enter.{Fit, proper}
 use Rattle.counts.specs.Fits.{Fits}
-use Rattle.counts.specs.Pending.{Pending, ready, pending-settle, pending-visit}
+use Rattle.counts.specs.Pending.{Pending, ready, pending-start, pending-visit}
 use Rattle.counts.specs.Left.{rest, left, due, left-settle, Ready, visit-step}
 
 -- ---- the tree and the store at a spot
@@ -253,11 +253,10 @@ start-figures f = omega (arith, whole-settled [] none (f .tree) (storeOf f))
 -- After k visits the figures are those read and the first k charges, the helper's among them.
 pub after : (k : ℕ) (f : File) → Fits (f .tree)
     → figuresAt (visits k (start f)) ≡ figuresIn f ⊕ total (joined (take k (visitCharges f)))
-unfolding start
 after k f p =
     figures-same _ _
     (omega (
       arith,
       start-figures f,
-      rw (start-dues k f) at (sums k (start f) (pending-settle [] none (f .tree) (storeOf f) p tt)),
+      rw (start-dues k f) at (sums k (start f) (pending-start f p)),
     ))

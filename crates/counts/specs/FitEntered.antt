@@ -21,7 +21,7 @@ use Rattle.meaning.specs.Scoping.{
   moveBindings,
   blockScopedIn,
 }
-use Rattle.meaning.specs.Shapes.{declaration, read}
+use Rattle.meaning.specs.Shapes.{read}
 use Rattle.meaning.specs.HelperLoader.{helperLoad}
 use Rattle.meaning.specs.Statements.{
   isUsing,
@@ -93,8 +93,8 @@ use Rattle.meaning.specs.Walk.{
   enter,
 }
 use Rattle.tags.specs.Tags.{Seen, other, here, there, seen, clash, and-left}
-use Rattle.counts.specs.Enter.{Fit, and-right}
-use Rattle.counts.specs.Fits.{Fits, easy, fits-&, list-fits, cases-fit, loop-fits, declared-fits, try-fits}
+use Rattle.counts.specs.Enter.{Lacks, Fit, and-right}
+use Rattle.counts.specs.Fits.{Fits, easy, catch-fit, fits-&, list-fits, cases-fit, loop-fits, declared-fits, try-fits}
 
 -- ---- contexts
 
@@ -112,7 +112,7 @@ body-fits cur hoist k st p =
     let l = helperLoad cur (c .1) in
     let s = insertScopeBelow cur k (l .1) in
     let m = moveBindings (blockScopedIn (s .1 .symbols) cur (s .1 .symbols) 1) (s .0) (s .1) in (
-      easy refl refl refl,
+      easy refl,
       try-fits (s .0) (takeUp false (c .0) false k) (c .0) cur (c .0) cur (anyAwaitUsing k) (c .1) (m .1) (list-fits k false (c .0) false p),
       tt,
     )
@@ -136,7 +136,7 @@ switch-fits cur a b d k st p =
     let q = changeScopeParent (h .a) (s .0) (s .1) in
     let l = helperLoad cur (q .1) in
     try-fits (s .0) (one h (takeUpCases (c .0) false k)) (c .0) cur (c .0) cur (anyCaseAwaitUsing k) (q .1) (l .1)
-    (easy refl refl refl, cases-fit k (c .0) false p, tt)
+    (easy refl, cases-fit k (c .0) false p, tt)
 
 -- ---- the parts of a Try
 
@@ -147,15 +147,28 @@ block-part true cur hoist a b d k r st o p q =
     let c = makeContext a st in
     let l = helperLoad cur (c .1) in
     let s = insertScopeBetween a 0 (l .1) in (
-      easy refl refl refl,
+      easy refl,
       (
-        easy refl refl refl,
+        easy refl,
         try-fits a (takeUp false (c .0) false k) (c .0) cur (c .0) (s .0) (anyAwaitUsing k) (c .1) (s .1) (list-fits k false (c .0) false p),
         tt,
       ),
       q,
     )
 block-part false cur hoist a b c k r st o p q = (o, p, q)
+
+-- A part that is no Catch does not become one.
+part-lacks : (u : Bool) (cur hoist : ℕ) (h : Head) (k r : Forest) (st : Store) → eqb (h .tag) 12 ≡ false → Lacks 12 r
+    → Lacks 12 (single (((if u then transformTryBlock cur hoist h k else return (node h k)) st) .0) & r)
+unfolding transformTryBlock _&_
+part-lacks true cur hoist h k r st e q = (refl, q)
+part-lacks false cur hoist h k r st e q = (e, q)
+
+parts-lack : (f : Forest) (cur hoist : ℕ) (st : Store) → Lacks 12 f → Lacks 12 ((transformTryParts cur hoist f st) .0)
+unfolding transformTryParts
+parts-lack none cur hoist st p = tt
+parts-lack (more h k r) cur hoist st p =
+    rw (p .0) (part-lacks (eqb (h .tag) 2 && anyUsing k) cur hoist h k _ st (p .0) (parts-lack r cur hoist _ (p .1)))
 
 -- neither a Catch nor a Block
 other-part : (x y u : Bool) (h : Head) (k r : Forest) (catches blocks : Change Node) (st : Store) → x ≡ false → y ≡ false → Fits (more h k r)
@@ -166,7 +179,7 @@ other-part false true u h k r catches blocks st e d p = absurd (clash d refl)
 other-part false false u h k r catches blocks st e d p = p
 
 one-part : {t : ℕ} (cur hoist a b c : ℕ) (k r : Forest) (inside : Change Forest) (st : Store) → Seen (12 ∷ 2 ∷ []) t → Fit (hd t a b c) k → Fits k
-    → Fits ((inside st) .0) → Fits r
+    → (Lacks 12 k → Lacks 12 ((inside st) .0)) → Fits ((inside st) .0) → Fits r
     → let h = hd t a b c in
     Fits
     (single
@@ -176,9 +189,9 @@ one-part : {t : ℕ} (cur hoist a b c : ℕ) (k r : Forest) (inside : Change For
     st) .0)
     & r)
 unfolding transformHandler _&_
-one-part cur hoist a b c k r inside st here o p i q = (easy refl refl refl, i, q)
-one-part cur hoist a b c k r inside st (there e₁₂ here) o p i q = block-part (anyUsing k) cur hoist a b c k r st o p q
-one-part {t} cur hoist a b c k r inside st (there e₁₂ (there e₂ other)) o p i q =
+one-part cur hoist a b c k r inside st here o p l i q = (catch-fit (l (o .handler refl)), i, q)
+one-part cur hoist a b c k r inside st (there e₁₂ here) o p l i q = block-part (anyUsing k) cur hoist a b c k r st o p q
+one-part {t} cur hoist a b c k r inside st (there e₁₂ (there e₂ other)) o p l i q =
     let h = hd t a b c in
     other-part (eqb t 12) (eqb t 2) (anyUsing k) h k r (transformHandler h k inside) (transformTryBlock cur hoist h k) st e₁₂ e₂ (o, p, q)
 
@@ -187,13 +200,11 @@ unfolding transformTryParts
 parts-fit none cur hoist st p = tt
 parts-fit (more h k r) cur hoist st p =
     one-part cur hoist (h .a) (h .b) (h .c) k _ (transformTryParts cur hoist k) st (seen (12 ∷ 2 ∷ []) (h .tag)) (p .0) (p .1)
+    (parts-lack k cur hoist st)
     (parts-fit k cur hoist st (p .1))
     (parts-fit r cur hoist _ (p .2))
 
 -- ---- ForOf
-
-tagged : (h : Head) (k : Forest) (n : ℕ) → h .tag ≡ n → eqb n 1 ≡ false → eqb n 8 ≡ false → eqb n 4 ≡ false → Fit h k
-tagged h k n e p q r = easy (rw e p) (rw e q) (rw e r)
 
 rebind-fits : (y : ℕ) (k : Forest) → bindsIdentifier k ≡ true → Fits k → Fits (rebind y k)
 unfolding rebind bindsIdentifier
@@ -201,7 +212,7 @@ rebind-fits y none e p = tt
 rebind-fits y (more h none r) e p = p
 rebind-fits y (more h (more h₁ k₁ r₁) r) e p =
     let six = eqb-true (h .tag) 6 (and-left (eqb (h .tag) 6) (eqb (h .a) 0) e) in
-    (tagged h (more (hd 26 y 0 0) k₁ r₁) 6 six refl refl refl, (easy refl refl refl, p .1 .1, p .1 .2), p .2)
+    (easy (rw six), (easy refl, p .1 .1, p .1 .2), p .2)
 
 module _ (h h₁ : Head) (k₁ : Forest) (h₂ : Head) (k₂ : Forest) (h₃ : Head) (k₃ r : Forest) (st : Store) (b : bindsIdentifier k₁ ≡ true) where
   abbrev sides : Forest
@@ -212,14 +223,14 @@ module _ (h h₁ : Head) (k₁ : Forest) (h₂ : Head) (k₂ : Forest) (h₃ : H
   insert-fits e p =
       let t = (createSymbol (symbolIn st (boundSymbol k₁) .name) 6 (h .a) 1 st) .0 in
       let q = p .2 .2 in (
-        easy refl refl refl,
+        easy refl,
         rebind-fits t k₁ b (p .1),
         (
           p .2 .0,
           p .2 .1,
           (
-            tagged h₃ (declaration (h₁ .a) (boundSymbol k₁) (read t) & k₃) 2 e refl refl refl,
-            declared-fits (h₁ .a) (boundSymbol k₁) (read t) k₃ (easy refl refl refl, tt, tt) (q .1),
+            easy (rw e),
+            declared-fits (h₁ .a) (boundSymbol k₁) (read t) k₃ (easy refl, tt, tt) (q .1),
             q .2,
           ),
         ),
@@ -230,14 +241,14 @@ module _ (h h₁ : Head) (k₁ : Forest) (h₂ : Head) (k₂ : Forest) (h₃ : H
   wrap-fits p =
       let t = (createSymbol (symbolIn st (boundSymbol k₁) .name) 6 (h .a) 1 st) .0 in
       let q = p .2 .2 in (
-        easy refl refl refl,
+        easy refl,
         rebind-fits t k₁ b (p .1),
         (
           p .2 .0,
           p .2 .1,
           (
-            easy refl refl refl,
-            declared-fits (h₁ .a) (boundSymbol k₁) (read t) (one h₃ k₃) (easy refl refl refl, tt, tt) (q .0, q .1, tt),
+            easy refl,
+            declared-fits (h₁ .a) (boundSymbol k₁) (read t) (one h₃ k₃) (easy refl, tt, tt) (q .0, q .1, tt),
             q .2,
           ),
         ),
@@ -255,22 +266,22 @@ either false x y st p q = q
 
 class-fits : (h : Head) (k : Forest) (st : Store) → Fits k → Fits ((transformClassDecl h k st) .0)
 unfolding transformClassDecl
-class-fits h k st p = (easy refl refl refl, (easy refl refl refl, (easy refl refl refl, tt, (easy refl refl refl, p, tt)), tt), tt)
+class-fits h k st p = (easy refl, (easy refl, (easy refl, tt, (easy refl, p, tt)), tt), tt)
 
 specifiers-fit : (st : Store) (names : List ℕ) → Fits (specifiers st names)
 unfolding specifiers
 specifiers-fit st [] = tt
-specifiers-fit st (y ∷ names) = (easy refl refl refl, tt, specifiers-fit st names)
+specifiers-fit st (y ∷ names) = (easy refl, tt, specifiers-fit st names)
 
 expression-fits : (b : Bool) (h : Head) (k : Forest) → Fit h k → Fit (if b then hd 15 1 (h .b) (h .c) else h) k
-expression-fits true h k o = easy refl refl refl
+expression-fits true h k o = easy refl
 expression-fits false h k o = o
 
 value-fits : (h : Head) (k : Forest) (st : Store) → Fit h k → Fits k → FitSplit (defaultValue h k st)
 unfolding defaultValue asExpression
 value-fits h k st o p = (
-  (easy refl refl refl, (easy refl refl refl, tt, tt), tt),
-  (easy refl refl refl, (easy refl refl refl, (easy refl refl refl, tt, (expression-fits (eqb (h .tag) 15) h k o, p, tt)), tt), tt),
+  (easy refl, (easy refl, tt, tt), tt),
+  (easy refl, (easy refl, (easy refl, tt, (expression-fits (eqb (h .tag) 15) h k o, p, tt)), tt), tt),
 )
 
 default-fits : (h : Head) (k : Forest) (st : Store) → Fit h k → Fits k → FitSplit (defaultItem h k st)
@@ -279,7 +290,7 @@ default-fits h none st o p = ((o, p, tt), tt)
 default-fits h (more h₁ k₁ r₁) st o p =
     either (keepsDefault h₁) (return (split (one h (more h₁ k₁ r₁)) none)) _ st ((o, p, tt), tt)
     (either (eqb (h₁ .tag) 15 && eqb (h₁ .a) 0 && not (eqb (h₁ .c) 0)) (defaultClass h₁ k₁) (defaultValue h₁ k₁) st
-    ((easy refl refl refl, (easy refl refl refl, tt, tt), tt), class-fits h₁ k₁ st (p .1))
+    ((easy refl, (easy refl, tt, tt), tt), class-fits h₁ k₁ st (p .1))
     (value-fits h₁ k₁ st (p .0) (p .1)))
 
 exported-fits : (h : Head) (k : Forest) (st : Store) → Fit h k → Fits k → FitSplit (exportedItem h k st)
@@ -287,9 +298,9 @@ unfolding exportedItem exportedClass exportedDeclaration
 exported-fits h none st o p = ((o, p, tt), tt)
 exported-fits h (more h₁ k₁ r₁) st o p =
     either (eqb (h₁ .tag) 15) (exportedClass h₁ k₁) _ st
-    ((easy refl refl refl, (easy refl refl refl, tt, tt), tt), class-fits h₁ k₁ st (p .1))
+    ((easy refl, (easy refl, tt, tt), tt), class-fits h₁ k₁ st (p .1))
     (either (eqb (h₁ .tag) 5) (exportedDeclaration k₁) (return (split (one h (more h₁ k₁ r₁)) none)) st
-    ((easy refl refl refl, specifiers-fit _ (boundNames k₁), tt), (easy refl refl refl, p .1, tt))
+    ((easy refl, specifiers-fit _ (boundNames k₁), tt), (easy refl, p .1, tt))
     ((o, p, tt), tt))
 
 item-fits : (h : Head) (k : Forest) (st : Store) → Fit h k → Fits k → FitSplit (programItem h k st)
@@ -300,7 +311,7 @@ item-fits h k st o p =
     (either (eqb (h .tag) 19) (exportedItem h k) _ st (exported-fits h k st o p)
     (either (eqb (h .tag) 15) _ _ st (tt, class-fits h k st p)
     (either (eqb (h .tag) 5) (topLevelDeclaration h k) (return (split none (one h k))) st
-    (tt, (easy refl refl refl, p, tt))
+    (tt, (easy refl, p, tt))
     (tt, (o, p, tt))))))
 
 items-fit : (f : Forest) (st : Store) → Fits f → FitSplit (programItems f st)
@@ -318,7 +329,7 @@ unfolding enterProgram
 program-fits h k st p =
     let s = programItems k st in
     let i = items-fit k st p in
-    fits-& (s .0 .kept) (one _ (s .0 .moved)) (i .0) (easy refl refl refl, i .1, tt)
+    fits-& (s .0 .kept) (one _ (s .0 .moved)) (i .0) (easy refl, i .1, tt)
 
 -- ---- any record
 

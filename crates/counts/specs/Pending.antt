@@ -3,7 +3,9 @@
 use mathlib.Core.Path.{_≡_, refl}
 use mathlib.Core.Bool.{Bool, true, false}
 use mathlib.Core.List.{List, [], _∷_}
+use Prim.Native.Nat.{ℕ, zero, suc}
 use Rattle.meaning.specs.Tree.{if_then_else_, Head, Forest, none, more, one, single, _&_}
+use Rattle.meaning.specs.File.{File}
 use Rattle.meaning.specs.Scoping.{Store}
 use Rattle.meaning.specs.Walk.{
   isStaticBlock,
@@ -19,6 +21,9 @@ use Rattle.meaning.specs.Walk.{
   hoistScope,
   settle,
   visit,
+  visits,
+  storeOf,
+  start,
 }
 use Rattle.counts.specs.Left.{Ready}
 use Rattle.counts.specs.Fits.{Fits}
@@ -46,7 +51,7 @@ pending-if : (b : Bool) (h : Head) (d d₀ r₀ : Forest) (p : List Crumb) (st :
 pending-if true h d d₀ r₀ p st e q o i = (e, q, o)
 pending-if false h d d₀ r₀ p st e q o i = i
 
-pub pending-settle : (p : List Crumb) (d f : Forest) (st : Store) → Fits f → FitsBehind p → Pending (settle d f p st)
+pending-settle : (p : List Crumb) (d f : Forest) (st : Store) → Fits f → FitsBehind p → Pending (settle d f p st)
 unfolding settle
 pending-settle [] d none st q o = tt
 pending-settle [] d (more h k r) st q o = (q, o)
@@ -65,3 +70,22 @@ pending-visit (at d h k r p st) q =
 pending-visit (leaving k h d r p st) q =
     let e = leave h k st in
     pending-settle p (d & single (e .0)) r (e .1) (q .1) (q .2)
+
+-- ---- a file
+
+pub pending-start : (f : File) → Fits (f .tree) → Pending (start f)
+unfolding start
+pending-start f q = pending-settle [] none (f .tree) (storeOf f) q tt
+
+pending-visits : (k : ℕ) (s : Spot) → Pending s → Pending (visits k s)
+unfolding visits
+pending-visits zero s q = q
+pending-visits (suc k) s q = pending-visits k (visit s) (pending-visit s q)
+
+-- At every spot of the walk of a fit file, what is still to be visited is fit.
+pub spot-fits : (k : ℕ) (f : File) → Fits (f .tree) → Pending (visits k (start f))
+spot-fits k f q = pending-visits k (start f) (pending-start f q)
+
+-- So the record that is entered next is fit.
+pub next-fit : (k : ℕ) (f : File) → Fits (f .tree) → Ready (visits k (start f))
+next-fit k f q = ready (visits k (start f)) (spot-fits k f q)

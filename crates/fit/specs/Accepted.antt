@@ -28,7 +28,8 @@ use Rattle.counts.specs.Program.{Kinds}
 use Rattle.counts.specs.Enter.{and-right, Left}
 use Rattle.counts.specs.Fits.{Fits}
 use Rattle.counts.specs.Figures.{joined, after}
-use Rattle.fit.specs.Placed.{ReadAs, Placed, accepted-placed}
+use Rattle.fit.specs.Placed.{ReadAs, same-tag, Placed, accepted-placed}
+use Rattle.fit.specs.Barred.{no-catch}
 
 -- ---- a field
 
@@ -70,14 +71,10 @@ own-kind a b c d next (there e other) u = absurd (clash (rw e) u)
 -- ---- a record read
 
 module _ {syms : ℕ} {p : Place} {x : Field} {h : Head} {k : Forest} (q : ReadAs syms p x h k) where
-  pub same-tag : h .tag ≡ x .tag
-  unfolding headOf
-  same-tag = ap (λ (v : Head). v .tag) (q .head)
-
   has-one : oneOf (4 ∷ 18 ∷ 19 ∷ []) (h .tag) ≡ true → count k ≡ 1
   has-one e =
       q .children
-      ∙ one-child p syms (x .a) (x .b) (x .c) (x .d) (x .next) (seen (4 ∷ 18 ∷ 19 ∷ []) (x .tag)) (rw same-tag at e) (q .numbers)
+      ∙ one-child p syms (x .a) (x .b) (x .c) (x .d) (x .next) (seen (4 ∷ 18 ∷ 19 ∷ []) (x .tag)) (rw (same-tag q) at e) (q .numbers)
 
   using-kind : isUsing h ≡ true → oneOf (3 ∷ 4 ∷ []) (h .a) ≡ true
   using-kind u =
@@ -131,6 +128,7 @@ module _ (syms : ℕ) where
           items = λ e u. (exports k inside 0 (q .2), kinds k inside 0 (q .2));
           side = λ e. left k inside 0 (q .2);
           label = λ e. alone k inside 0 (q .2) (has-one (q .1) (rw e));
+          handler = λ e. no-catch (q .1) (q .2) (rw (eqb-true (h .tag) 12 e));
         },
         fits k inside 0 (q .2),
         fits r place (suc i) (q .3),

@@ -36,7 +36,7 @@ use Rattle.meaning.specs.Walk.{
 use Rattle.meaning.specs.Charges.{Line}
 use Rattle.meaning.specs.VisitCharges.{standing, visitsAs, visitsStanding, visitsOf, visitsIn, anyContext, addHelper, visitCharges}
 use Rattle.counts.specs.Visits.{++-nil, spread}
-use Rattle.counts.specs.Pending.{Pending, ready, pending-settle, pending-visit}
+use Rattle.counts.specs.Pending.{Pending, ready, pending-start, pending-visit}
 use Rattle.counts.specs.Left.{rest, left, due, left-settle, visit-step}
 use Rattle.fit.specs.Accepted.{accepted-fit}
 
@@ -94,7 +94,4 @@ start-length f =
 
 -- After k visits the walk of an accepted file is over if it has at most k charges, and is not over if it has more.
 pub walk-ends : (b : List ℕ) (f : File) (k : ℕ) → readFile b ≡ accepted f → isOver (visits k (start f)) ≡ leb (length (visitCharges f)) k
-unfolding start
-walk-ends b f k e =
-    ended k (start f) (pending-settle [] none (f .tree) (storeOf f) (accepted-fit b f e) tt)
-    ∙ ap (λ (n : ℕ). leb n k) (start-length f)
+walk-ends b f k e = ended k (start f) (pending-start f (accepted-fit b f e)) ∙ ap (λ (n : ℕ). leb n k) (start-length f)

@@ -1,5 +1,6 @@
 -- Accepted files are fit, and their walk comes to the final figures.
 pub mod Placed
+pub mod Barred
 pub mod Accepted
 pub mod Ends
 pub mod Orderly

@@ -49,6 +49,10 @@ pub record ReadAs (syms : ℕ) (p : Place) (x : Field) (h : Head) (k : Forest) :
   pub numbers : right p syms x ≡ true
   pub children : count k ≡ childrenOf x
 
+pub same-tag : {syms : ℕ} {p : Place} {x : Field} {h : Head} {k : Forest} → ReadAs syms p x h k → h .tag ≡ x .tag
+unfolding headOf
+same-tag q = ap (λ (v : Head). v .tag) (q .head)
+
 -- records beside each other, each in its place, from child i on
 abbrev pub Placed : ℕ → (ℕ → Place) → ℕ → Forest → Type 0
 Placed syms place i none = Unit {0}
