@@ -1,0 +1,3 @@
+-- The statements and bodies that get a context, on tables.
+pub mod Lists
+pub mod Tries
