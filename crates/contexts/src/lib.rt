@@ -17,7 +17,7 @@ ghost use Rattle.contexts.specs.Lists.{listScope, blockRowsF, wrappedRow
 ghost use Rattle.contexts.specs.Tries.{parting, transformTryBlockF, isPartF, transformPartF, transformPartsF, partRowsF, planPartF, planPartsF, planChildF, planTryF, ifBlockF, blockScopeF, lastBlockScopeF, naming, moveNameF, moveNamesF, transformHandlerF, transformChildF, transformChildrenF, enterTryStatementF};
 
 // The scope made last before the Catch's.
-fn list_scope(p: Parts) -> ScopeId
+pub fn list_scope(p: Parts) -> ScopeId
     ensures { λ r. ⌜ r .0 ≡ listScope p ⌝ }
 {
     ScopeId(tables::minus(p.scope.0, 1))
