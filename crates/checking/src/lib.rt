@@ -303,7 +303,7 @@ fn more_symbols(file: &[u8], at: usize) -> bool
     fields::byte(file, at) == 42
 }
 
-fn read_scopes(file: &[u8], from: usize) -> Rows
+pub fn read_scopes(file: &[u8], from: usize) -> Rows
     ensures { λ r. ⌜ r ≡ readScopes (now (file .entry)) from ⌝ }
 {
     let mut k: usize = 0;
@@ -322,7 +322,7 @@ fn read_scopes(file: &[u8], from: usize) -> Rows
     Rows::Read(k, at)
 }
 
-fn read_symbols(file: &[u8], scopes: usize, from: usize) -> Rows
+pub fn read_symbols(file: &[u8], scopes: usize, from: usize) -> Rows
     ensures { λ r. ⌜ r ≡ readSymbols (now (file .entry)) scopes from ⌝ }
 {
     let mut k: usize = 0;

@@ -1,0 +1,70 @@
+-- The turns of the loops.
+-- Assumes nothing.
+use mathlib.Core.Path.{_≡_, sym, ap, _∙_}
+use mathlib.Core.Bool.{Bool, true, false, or-false}
+use mathlib.Core.List.{List, [], _∷_}
+use Prim.Native.Nat.{ℕ, _+_, _*_, _-_, _≤_, _<_}
+use native.Mathlib.Numerals.{add-one}
+use native.Mathlib.Omega.{arith}
+use lib.ListN.{length, getD, take, set, replicate, replicate-append-replicate}
+use lib.Seq.{take-all, take-suc-set}
+use lib.Dec.{eqb}
+use borrow.Author.Tests.{ne-eqb, le-leb, lt-leb}
+use Rattle.meaning.specs.Tree.{if_then_else_, oneOf}
+use Rattle.meaning.specs.File.{numbersOf, hasChildren, fieldBytes}
+use Rattle.meaning.specs.Grammar.{fieldOf}
+use Rattle.meaning.specs.declared.Field.{Field}
+use Rattle.tables.specs.Loops.{turns, until, next-turn, go-on}
+use Rattle.tables.specs.Table.{setRowF}
+use Rattle.tables.specs.declared.Row.{Row}
+use Rattle.start.specs.Flat.{recordF, Counting, counting, counted, countOne, Filling, filling, nextRecord}
+
+-- ---- clearing
+
+pub clear-turn : (t : List ℕ) (i : ℕ) → take i t ≡ replicate i 0 → i < length t → take (i + 1) (set t i 0) ≡ replicate (i + 1) 0
+clear-turn t i e h = rw (add-one i, take-suc-set t i 0 h, e) (rw (add-one i) at (replicate-append-replicate {A = ℕ} i 1 0))
+
+pub clear-last : (t₀ t : List ℕ) (i : ℕ) → take i t ≡ replicate i 0 → length t ≡ length t₀ → i ≡ length t₀ → t ≡ replicate (length t₀) 0
+clear-last t₀ t i e l d = sym (take-all i t (omega arith)) ∙ (e ∙ ap (λ (k : ℕ). replicate k 0) d)
+
+-- ---- the offset behind a field
+
+most : (b : Bool) (x y : ℕ) → x ≤ 4 → y ≤ 4 → (if b then x else y) ≤ 4
+most true x y h l = h
+most false x y h l = l
+
+numbers-most : (t : ℕ) → numbersOf t ≤ 4
+unfolding numbersOf
+numbers-most t =
+    most (oneOf (14 ∷ 18 ∷ 19 ∷ 25 ∷ 26 ∷ []) t) 1 _ (omega arith)
+    (most (oneOf (1 ∷ 2 ∷ 4 ∷ 5 ∷ 7 ∷ 9 ∷ 10 ∷ 11 ∷ 16 ∷ 20 ∷ 24 ∷ 28 ∷ 40 ∷ 41 ∷ []) t) 2 _ (omega arith)
+    (most (oneOf (3 ∷ 6 ∷ 8 ∷ 17 ∷ 27 ∷ 29 ∷ []) t) 3 _ (omega arith)
+    (most (oneOf (12 ∷ 13 ∷ 15 ∷ 42 ∷ []) t) 4 0 (omega arith) (omega arith))))
+
+pub next-most : (f : List ℕ) (at n : ℕ) (x : Field) → x ≡ fieldOf f at → at ≤ 65535 + 11 * n → x .next ≤ 65535 + 11 * (n + 1)
+unfolding fieldOf fieldBytes
+next-most f at n x e h = rw e (omega (arith, numbers-most (getD f at 0)))
+
+-- ---- records with children
+
+pub first-tags : (t : ℕ) → (t ≡ 0 → ⊥) → t ≤ 19 → true ≡ hasChildren t
+unfolding hasChildren
+first-tags t n h = rw (le-leb 1 t (omega (arith, n)), le-leb t 19 h)
+
+pub last-tags : (t : ℕ) → 19 < t → (t ≡ 24 → ⊥) → eqb t 27 ≡ hasChildren t
+unfolding hasChildren
+last-tags t h n = rw (le-leb 1 t (omega arith), lt-leb t 19 h, ne-eqb t 24 n, or-false)
+
+-- ---- records
+
+pub count-turn : (r : Counting) (f : List ℕ) (at n : ℕ) (x : Field)
+    → r ≡ until (65535 - n) (counted f) (countOne f) (counting at n) → n < 65535 → at < length f → x ≡ fieldOf f at
+    → r ≡ until (65535 - (n + 1)) (counted f) (countOne f) (counting (x .next) (n + 1))
+unfolding countOne
+count-turn r f at n x e h l d = rw d (go-on 65535 n (counted f) (countOne f) r (counting at n) e h (lt-leb (length f) at l))
+
+pub fill-turn : (r : Filling) (f t t′ : List ℕ) (end at k : ℕ) (x : Field) (row : Row)
+    → r ≡ turns (end - k) (nextRecord f) (filling t at k) → k < end → x ≡ fieldOf f at → row ≡ recordF x → t′ ≡ setRowF t k row
+    → r ≡ turns (end - (k + 1)) (nextRecord f) (filling t′ (x .next) (k + 1))
+unfolding nextRecord
+fill-turn r f t t′ end at k x row e h ex er et = rw (et, er, ex) (next-turn end k (nextRecord f) r (filling t at k) e h)

@@ -1,0 +1,28 @@
+-- `start::own_numbers` meets its contract. Assumes nothing.
+use Rattle.meaning.specs.File.{ownNumbers}
+use borrow.Author.Needs.{needs}
+use Rattle.start.proofs.own_numbers.Statement.{statement}
+use Rattle.start.proofs.own_numbers.Tie as tie
+
+returns : tie.Need-returns
+unfolding ownNumbers
+returns c =
+    let at-minus = c in
+    let at-if1 = at-minus .before in
+    let at-has-children = at-if1 .before in
+    let at-numbers-of = at-has-children .before in
+    rw (← at-numbers-of .numbers-of .ensures, ← at-has-children .has-children .ensures, at-if1 .if1 .taken, ← at-minus .minus .ensures)
+
+returns-2 : tie.Need-returns-2
+unfolding ownNumbers
+returns-2 c =
+    let at-if1 = c in
+    let at-has-children = at-if1 .before in
+    let at-numbers-of = at-has-children .before in
+    rw (← at-numbers-of .numbers-of .ensures, ← at-has-children .has-children .ensures, at-if1 .if1 .left)
+
+pub own-numbers-spec : {M : Type 1} → statement M
+own-numbers-spec =
+    tie.close
+    (tie.spec
+    (λ c κs. search needs) (λ c. search needs) (λ c κs. search needs) (λ c κs. search needs) returns returns-2)

@@ -1,0 +1,3 @@
+-- What start answers and leaves in the tables; and what the code of this crate computes.
+pub mod Start
+pub mod Flat
