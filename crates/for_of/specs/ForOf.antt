@@ -1,0 +1,108 @@
+-- `enter_for_of_statement` on tables.
+-- Assumes nothing.
+use mathlib.Core.List.{List}
+use mathlib.Core.Bool.{Bool, true, false, not, _&&_}
+use Prim.Native.Nat.{ℕ, _-_}
+use lib.Dec.{eqb, ltb}
+use Rattle.meaning.specs.Tree.{if_then_else_}
+use Rattle.meaning.specs.Statements.{isUsing}
+use Rattle.meaning.specs.ForOf.{bindsName}
+use Rattle.tables.specs.Table.{capped, columnF, rowF, madeF, headF, endF}
+use Rattle.tables.specs.Stream.{Buf, emitF, passAsF, passF, copyF}
+use Rattle.tables.specs.declared.Row.{Row}
+use Rattle.scoping.specs.Rows.{symbolNumber, symbolsF}
+use Rattle.scoping.specs.Changes.{SymbolRows, inScopes, inSymbols, createSymbolF, moveBindingF}
+use Rattle.statements.specs.Try.{declareF}
+use Rattle.creation.specs.Scopes.{insertScopeBelowF}
+use Rattle.path.specs.Path.{Tables, tables, chargedF, withCtxF}
+
+-- ---- what is done
+
+-- a Declarator that binds an identifier
+unfoldable pub isIdentifierF : Row → Bool
+isIdentifierF r = eqb (r .tag) 6 && eqb (r .a) 0
+
+-- the ForOf after a row has a using of an identifier on its left side
+unfoldable pub takesUsingF : List ℕ → ℕ → Bool
+takesUsingF t after =
+    let r = rowF t (capped after 1) in
+    if ltb (columnF t after 4) 3 then false
+    else if eqb (r .n) 0 then false
+    else isUsing (headF r) && isIdentifierF (rowF t (capped after 2))
+
+unfoldable pub usingSymbolF : List ℕ → ℕ → ℕ
+usingSymbolF t after = columnF t (capped after 3) 1
+
+-- the row before the body
+unfoldable pub bodyAfterF : List ℕ → ℕ → ℕ
+bodyAfterF t after = endF t (capped after 1) 2
+
+-- the body is a Block that does not bind the using's name, by the symbol rows as read
+unfoldable pub insertsF : List ℕ → SymbolRows → ℕ → Bool
+insertsF t q after =
+    let r = rowF t (bodyAfterF t after) in
+    eqb (r .tag) 2 && not (bindsName (symbolsF (q .t) 4 (q .ctx .read) 0) (r .a) (usingSymbolF t after))
+
+-- ---- rows
+
+unfoldable pub makeTempF : SymbolRows → ℕ → ℕ → SymbolRows
+makeTempF q y scope = createSymbolF q (symbolNumber (q .t) (q .ctx .symbols) y 0) 6 scope 1
+
+-- the ForOf up to its body
+unfoldable pub leftRowsF : ℕ → Buf → Buf
+leftRowsF temp b =
+    let b₁ = passF b in
+    let declarators = columnF (b₁ .t) (b₁ .read) 4 in
+    let b₂ = passAsF b₁ (madeF 5 2 0 0 declarators) in
+    let m = columnF (b₂ .t) (b₂ .read) 4 in
+    let b₃ = passF b₂ in
+    let below = columnF (b₃ .t) (b₃ .read) 4 in
+    let b₄ = passAsF b₃ (madeF 26 temp 0 0 below) in
+    copyF b₄ (capped (capped below (m - 1)) declarators)
+
+-- `using x = _x`
+unfoldable pub usingRowsF : ℕ → ℕ → ℕ → Buf → Buf
+usingRowsF kind y temp b = emitF (declareF kind y b) (madeF 25 temp 0 0 0)
+
+unfoldable pub insertRowsF : ℕ → ℕ → ℕ → Buf → Buf
+insertRowsF kind y temp b =
+    let b₁ = leftRowsF temp b in
+    let r = rowF (b₁ .t) (b₁ .read) in
+    let b₂ = passAsF b₁ (madeF (r .tag) (r .a) (r .b) (r .c) (capped (r .n) 1)) in
+    usingRowsF kind y temp b₂
+
+unfoldable pub wrapRowsF : ℕ → ℕ → ℕ → ℕ → Buf → Buf
+wrapRowsF kind y temp scope b =
+    let b₁ = leftRowsF temp b in
+    let b₂ = emitF b₁ (madeF 2 scope 0 0 2) in
+    usingRowsF kind y temp b₂
+
+-- ---- the ForOf
+
+unfoldable pub insertUsingF : Tables → Tables
+insertUsingF q =
+    let w = q .walk in
+    let read = w .gap .0 in
+    let y = usingSymbolF (q .records) read in
+    let kind = columnF (q .records) (capped read 1) 1 in
+    let s = makeTempF (inSymbols (q .symbols) (w .ctx)) y (columnF (q .records) read 1) in
+    let ys = moveBindingF s y (columnF (q .records) (bodyAfterF (q .records) read) 1) in
+    let v = chargedF w 4 in
+    let b = insertRowsF kind y (s .ctx .symbols) (record { t = q .records; read = read; written = v .gap .0 }) in
+    tables (b .t) (q .scopes) ys (withCtxF v (s .ctx))
+
+unfoldable pub wrapBodyF : Tables → Tables
+wrapBodyF q =
+    let w = q .walk in
+    let read = w .gap .0 in
+    let y = usingSymbolF (q .records) read in
+    let kind = columnF (q .records) (capped read 1) 1 in
+    let scope = columnF (q .records) read 1 in
+    let s = makeTempF (inSymbols (q .symbols) (w .ctx)) y scope in
+    let c = insertScopeBelowF (q .records) (inScopes (q .scopes) (s .ctx)) scope (bodyAfterF (q .records) read) 1 in
+    let ys = moveBindingF (inSymbols (s .t) (c .ctx)) y (c .ctx .scopes) in
+    let v = chargedF w 5 in
+    let b =
+        wrapRowsF kind y (s .ctx .symbols) (c .ctx .scopes) (record { t = q .records; read = read; written = v .gap .0 })
+    in
+    tables (b .t) (c .t) ys (withCtxF v (c .ctx))

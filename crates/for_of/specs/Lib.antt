@@ -1,0 +1,2 @@
+-- `enter_for_of_statement` on tables.
+pub mod ForOf
