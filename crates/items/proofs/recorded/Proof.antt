@@ -1,0 +1,27 @@
+-- `items::recorded` meets its contract. Assumes nothing.
+use Rattle.items.specs.Items.{recordedF}
+use borrow.Author.Needs.{needs}
+use Rattle.items.proofs.recorded.Statement.{statement}
+use Rattle.items.proofs.recorded.Tie as tie
+
+returns : tie.Need-returns
+unfolding recordedF
+returns c = 
+    let at-made = c in
+    let at-if1 = at-made .before in
+    let at-is-using = at-if1 .before in
+    rw (← at-is-using .is-using .ensures, at-if1 .if1 .taken, ← at-made .made .ensures)
+
+returns-2 : tie.Need-returns-2
+unfolding recordedF
+returns-2 c = 
+    let at-made2 = c in
+    let at-if1 = at-made2 .before in
+    let at-is-using = at-if1 .before in
+    rw (← at-is-using .is-using .ensures, at-if1 .if1 .left, ← at-made2 .made2 .ensures)
+
+pub recorded-spec : {M : Type 1} → statement M
+recorded-spec =
+    tie.close
+    (tie.spec
+    (λ c κs. search needs) (λ c κs. search needs) (λ c κs. search needs) returns returns-2)

@@ -1,0 +1,27 @@
+-- `items::write_value` meets its contract. Assumes nothing.
+use Rattle.items.specs.Items.{valueRowsF}
+use mathlib.Core.Path.{_∙_}
+use borrow.Author.Needs.{needs}
+use Rattle.items.proofs.write_value.Statement.{statement}
+use Rattle.items.proofs.write_value.Tie as tie
+
+same-length : tie.Need-same-length
+same-length c = 
+    let at-copy = c .before .before in
+    let at-pass-as = at-copy .before .before .before .before in
+    let at-declare = at-pass-as .before .before .before .before in
+    at-copy .copy .kept .0 ∙ at-pass-as .pass-as .kept .0 ∙ at-declare .declare .kept .0
+
+returns : tie.Need-returns
+unfolding valueRowsF
+returns c = 
+    let at-copy = c .before .before in
+    let at-pass-as = at-copy .before .before .before .before in
+    let at-declare = at-pass-as .before .before .before .before in
+    rw (← at-declare .declare .ensures, ← at-pass-as .pass-as .ensures, ← at-copy .copy .ensures)
+
+pub write-value-spec : {M : Type 1} → statement M
+write-value-spec =
+    tie.close
+    (tie.spec
+    (λ c κs. search needs) (λ c κs. search needs) (λ c κs. search needs) same-length returns)
