@@ -1,0 +1,82 @@
+-- What the items of a Program come to, counted first.
+-- Assumes nothing.
+use mathlib.Core.List.{List}
+use Prim.Native.Nat.{ℕ}
+use Rattle.tables.specs.Loops.{turns}
+use Rattle.tables.specs.Table.{capped, columnF, endF}
+use Rattle.items.specs.Kinds.{itemF}
+use Rattle.items.specs.Names.{countNamesF}
+use Rattle.items.specs.declared.Item.{Item}
+use Rattle.items.specs.declared.Item.the-variants.{
+  Kept,
+  Moved,
+  Declared,
+  Class,
+  DefaultClass,
+  DefaultValue,
+  ExportedClass,
+  ExportedDeclaration,
+}
+use Rattle.program.specs.declared.Plan.{Plan}
+
+-- the names that the child of the item after a row declares
+unfoldable pub childNamesF : List ℕ → ℕ → ℕ
+childNamesF t after = countNamesF t (capped after 2) (columnF t (capped after 1) 4)
+
+-- those of an exported Declaration
+unfoldable pub exportedNamesF : List ℕ → Item → ℕ → ℕ
+exportedNamesF t Kept after = 0
+exportedNamesF t Moved after = 0
+exportedNamesF t Declared after = 0
+exportedNamesF t Class after = 0
+exportedNamesF t DefaultClass after = 0
+exportedNamesF t DefaultValue after = 0
+exportedNamesF t ExportedClass after = 0
+exportedNamesF t ExportedDeclaration after = childNamesF t after
+
+-- the rows that an item adds
+unfoldable pub addedF : Item → ℕ → ℕ
+addedF Kept names = 0
+addedF Moved names = 0
+addedF Declared names = 0
+addedF Class names = 3
+addedF DefaultClass names = 4
+addedF DefaultValue names = 4
+addedF ExportedClass names = 4
+addedF ExportedDeclaration names = names
+
+-- how many items it leaves where they were, and how many in the Block
+unfoldable pub keptF : Item → ℕ
+keptF Kept = 1
+keptF Moved = 0
+keptF Declared = 0
+keptF Class = 0
+keptF DefaultClass = 1
+keptF DefaultValue = 1
+keptF ExportedClass = 1
+keptF ExportedDeclaration = 1
+
+unfoldable pub movedF : Item → ℕ
+movedF Kept = 0
+movedF Moved = 1
+movedF Declared = 1
+movedF Class = 1
+movedF DefaultClass = 1
+movedF DefaultValue = 1
+movedF ExportedClass = 1
+movedF ExportedDeclaration = 1
+
+abbrev pub plan : ℕ → ℕ → ℕ → ℕ → Plan
+plan at added kept moved = record { at = record { 0 = at }; added = added; kept = kept; moved = moved }
+
+unfoldable pub planItemF : List ℕ → Plan → Plan
+planItemF t p =
+    let item = itemF t (p .at .0) in
+    plan
+    (endF t (p .at .0) 1)
+    (capped (p .added) (addedF item (exportedNamesF t item (p .at .0))))
+    (capped (p .kept) (keptF item))
+    (capped (p .moved) (movedF item))
+
+unfoldable pub planProgramF : List ℕ → ℕ → ℕ → Plan
+planProgramF t after n = turns n (planItemF t) (plan after 0 0 0)
