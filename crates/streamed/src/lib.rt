@@ -1,0 +1,1 @@
+// What the rewrites of contexts do to the rows of a tree. No code.
