@@ -31,7 +31,7 @@ use Rattle.growth.specs.ForOf.{Named}
 use Rattle.growth.specs.Program.{Exports}
 use Rattle.growth.specs.Enter.{NamedLeft, Proper}
 use Rattle.counts.specs.Visits.{spread}
-use Rattle.counts.specs.TakenUp.{Alone}
+use Rattle.counts.specs.TakenUp.{Labelled}
 use Rattle.counts.specs.Tries.{Opens, block-opens, body-opens, for-opens, switch-opens, try-opens}
 use Rattle.counts.specs.ForOf.{insert-opens, wrap-opens}
 use Rattle.counts.specs.Program.{Kinds, program-opens}
@@ -42,10 +42,16 @@ and-right false b e = absurd (clash refl e)
 
 -- ---- what a record must be
 
+-- the first of some Declarators has a child
+abbrev pub Begins : Forest → Type 0
+Begins none = ⊥
+Begins (more h none r) = ⊥
+Begins (more h (more h₁ k₁ r₁) r) = Unit {0}
+
 -- the using of a ForOf begins with a Name, and is not recorded
 abbrev pub Left : Forest → Type 0
 Left none = Unit {0}
-Left (more h k r) = (isUsing h && bindsIdentifier k) ≡ true → Named k × (oneOf (3 ∷ 4 ∷ []) (h .a) ≡ true)
+Left (more h k r) = (isUsing h && bindsIdentifier k) ≡ true → Named k × Begins k × (oneOf (3 ∷ 4 ∷ []) (h .a) ≡ true)
 
 -- none of the records of a list has this tag
 abbrev pub Lacks : ℕ → Forest → Type 0
@@ -57,7 +63,7 @@ Lacks t (more h k r) = (eqb (h .tag) t ≡ false) × Lacks t r
 pub record Fit (h : Head) (k : Forest) : Type 0 where
   pub items : eqb (h .tag) 1 ≡ true → anyUsing k ≡ true → Exports k × Kinds k
   pub side : eqb (h .tag) 8 ≡ true → Left k
-  pub label : eqb (h .tag) 4 ≡ true → Alone k
+  pub label : eqb (h .tag) 4 ≡ true → Labelled k
   pub handler : eqb (h .tag) 12 ≡ true → Lacks 12 k
 
 named-left : (k : Forest) → Left k → NamedLeft k
@@ -177,8 +183,8 @@ module _ (ys : List Symbol) where
       by-if cur hoist h k st (eqb (h₃ .tag) 2 && not (bindsName ys (h₃ .a) (boundSymbol k₁)))
       (λ d.
       let two = eqb-true (h₃ .tag) 2 (and-left (eqb (h₃ .tag) 2) (not (bindsName ys (h₃ .a) (boundSymbol k₁))) d) in
-      changed (insert-opens ys h h₁ k₁ h₂ k₂ h₃ k₃ r st u i (p e .0) (p e .1) two) (refl, refl) (refl, refl) refl)
-      (changed (wrap-opens ys h h₁ k₁ h₂ k₂ h₃ k₃ r st u i (p e .0) (p e .1)) (refl, refl) (refl, refl) refl))
+      changed (insert-opens ys h h₁ k₁ h₂ k₂ h₃ k₃ r st u i (p e .0) (p e .2) two) (refl, refl) (refl, refl) refl)
+      (changed (wrap-opens ys h h₁ k₁ h₂ k₂ h₃ k₃ r st u i (p e .0) (p e .2)) (refl, refl) (refl, refl) refl))
       (kept cur hoist h k st)
 
   -- by the tag

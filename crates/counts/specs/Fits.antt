@@ -26,7 +26,7 @@ use Rattle.meaning.specs.Statements.{
 }
 use Rattle.meaning.specs.Contexts.{forList, takeUpFor, takeUpCases}
 use Rattle.tags.specs.Tags.{Seen, other, here, there, seen, clash}
-use Rattle.counts.specs.TakenUp.{Alone}
+use Rattle.counts.specs.TakenUp.{Labelled}
 use Rattle.counts.specs.Enter.{Lacks, Fit}
 
 -- each record of a tree is fit
@@ -45,7 +45,7 @@ easy {h} p =
       handler = λ e. absurd (clash p (rw (eqb-true t 12 e)));
     }
 
-label-fit : {a b c : ℕ} {k : Forest} → Alone k → Fit (hd 4 a b c) k
+label-fit : {a b c : ℕ} {k : Forest} → Labelled k → Fit (hd 4 a b c) k
 label-fit p =
     record {
       items = λ e. absurd (clash refl e);
@@ -116,28 +116,28 @@ cases-fit (more h k r) ctx needsAwait p =
     (cases-fit r ctx (needsAwait || anyAwaitUsing k) (p .2))
     (cases-fit r ctx needsAwait (p .2))
 
-alone-if : (b : Bool) (f g : Forest) → Alone f → b ≡ true → Alone (if b then f else g)
-alone-if true f g a e = a
-alone-if false f g a e = absurd (clash refl e)
+labelled-if : (b : Bool) (f g : Forest) → Labelled f → b ≡ true → Labelled (if b then f else g)
+labelled-if true f g a e = a
+labelled-if false f g a e = absurd (clash refl e)
 
-alone-taken : (f : Forest) (ctx : ℕ) → Alone f → Alone (takeUpFor ctx f)
+labelled-taken : (f : Forest) (ctx : ℕ) → Labelled f → Labelled (takeUpFor ctx f)
 unfolding takeUpFor
-alone-taken none ctx a = tt
-alone-taken (more h k none) ctx a =
-    λ e. alone-if (eqb (h .tag) 4) (takeUpFor ctx k) (takeUp false ctx false k) (alone-taken k ctx (a e)) e
-alone-taken (more h k (more h₁ k₁ r₁)) ctx a = absurd a
+labelled-taken none ctx a = absurd a
+labelled-taken (more h k none) ctx a =
+    λ e. labelled-if (eqb (h .tag) 4) (takeUpFor ctx k) (takeUp false ctx false k) (labelled-taken k ctx (a e)) e
+labelled-taken (more h k (more h₁ k₁ r₁)) ctx a = absurd a
 
 loop-one : {t : ℕ} (a b c : ℕ) (k : Forest) (ctx : ℕ) → Seen (4 ∷ 7 ∷ []) t → anyUsing (forList (one (hd t a b c) k)) ≡ true
-    → (eqb t 4 ≡ true → Alone k) → Fits k → (eqb t 4 ≡ true → anyUsing (forList k) ≡ true → Fits (takeUpFor ctx k))
+    → (eqb t 4 ≡ true → Labelled k) → Fits k → (eqb t 4 ≡ true → anyUsing (forList k) ≡ true → Fits (takeUpFor ctx k))
     → Fits (takeUpFor ctx (one (hd t a b c) k))
 unfolding takeUpFor forList anyUsing
-loop-one a b c k ctx here u l p i = (label-fit (alone-taken k ctx (l refl)), i refl u, tt)
+loop-one a b c k ctx here u l p i = (label-fit (labelled-taken k ctx (l refl)), i refl u, tt)
 loop-one a b c k ctx (there e₄ here) u l p i = (easy refl, list-fits k false ctx false p, tt)
 loop-one a b c k ctx (there e₄ (there e₇ other)) u l p i = absurd (clash (rw (e₄, e₇)) u)
 
-pub loop-fits : (f : Forest) (ctx : ℕ) → Alone f → anyUsing (forList f) ≡ true → Fits f → Fits (takeUpFor ctx f)
+pub loop-fits : (f : Forest) (ctx : ℕ) → Labelled f → anyUsing (forList f) ≡ true → Fits f → Fits (takeUpFor ctx f)
 unfolding takeUpFor
-loop-fits none ctx a u p = tt
+loop-fits none ctx a u p = absurd a
 loop-fits (more h k none) ctx a u p =
     loop-one (h .a) (h .b) (h .c) k ctx (seen (4 ∷ 7 ∷ []) (h .tag)) u a (p .1) (λ e v. loop-fits k ctx (a e) v (p .1))
 loop-fits (more h k (more h₁ k₁ r₁)) ctx a u p = absurd a

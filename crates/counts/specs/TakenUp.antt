@@ -90,11 +90,11 @@ no-loop-left (more h k r) ctx = loop-gone (eqb (h .tag) 4) (eqb (h .tag) 7) ctx 
 
 -- ---- the visits
 
--- the Labels around a For have one child each
-abbrev pub Alone : Forest → Type 0
-Alone none = Unit {0}
-Alone (more h k none) = eqb (h .tag) 4 ≡ true → Alone k
-Alone (more h k (more h₁ k₁ r₁)) = ⊥
+-- one record; below a Label, one again
+abbrev pub Labelled : Forest → Type 0
+Labelled none = ⊥
+Labelled (more h k none) = eqb (h .tag) 4 ≡ true → Labelled k
+Labelled (more h k (more h₁ k₁ r₁)) = ⊥
 
 module _ (ys : List Symbol) where
   initializer-visits : (f : Forest) (letter ctx m : ℕ) → visitsIn ys (wrapInitializer letter ctx m f) standing ≡ visitsIn ys f (initializer m)
@@ -171,10 +171,10 @@ module _ (ys : List Symbol) where
       ∙ ap (λ (v : List (List Line)). [] ∷ (v ++ [])) (list-visits k false ctx false)
   loop-one a b c k ctx (there e₄ (there e₇ other)) u i = absurd (clash (rw (e₄, e₇)) u)
 
-  pub loop-visits : (f : Forest) (ctx : ℕ) → Alone f → anyUsing (forList f) ≡ true
+  pub loop-visits : (f : Forest) (ctx : ℕ) → Labelled f → anyUsing (forList f) ≡ true
       → visitsIn ys (takeUpFor ctx f) standing ≡ visitsIn ys f loop
   unfolding takeUpFor visitsIn
-  loop-visits none ctx a u = refl
+  loop-visits none ctx a u = absurd a
   loop-visits (more h k none) ctx a u =
       loop-one (h .a) (h .b) (h .c) k ctx (seen (4 ∷ 7 ∷ []) (h .tag)) u (λ e v. loop-visits k ctx (a e) v)
   loop-visits (more h k (more h₁ k₁ r₁)) ctx a u = absurd a

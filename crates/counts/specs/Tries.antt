@@ -68,7 +68,7 @@ use Rattle.meaning.specs.VisitCharges.{
 }
 use Rattle.tags.specs.Tags.{Seen, other, here, there, seen, clash}
 use Rattle.counts.specs.Visits.{++-nil, spread, kept-if}
-use Rattle.counts.specs.TakenUp.{none-left, no-case-left, Alone, list-visits, cases-visits, loop-visits}
+use Rattle.counts.specs.TakenUp.{none-left, no-case-left, Labelled, list-visits, cases-visits, loop-visits}
 
 -- a list with others before it and behind it
 regroup : {v : List (List Line)} (a m b xs : List (List Line)) → v ≡ a ++ (m ++ b) → a ++ (m ++ (b ++ xs)) ≡ v ++ xs
@@ -147,7 +147,7 @@ module _ (ys : List Symbol) where
   in-one : (v : List (List Line)) → free 5 ++ (([] ∷ (v ++ [])) ++ free 6) ≡ free 6 ++ (v ++ free 6)
   in-one v = ap (λ (w : List (List Line)). free 6 ++ (w ++ free 6)) (++-nil v)
 
-  pub for-opens : (cur hoist : ℕ) (h : Head) (k : Forest) (st : Store) → isUsing h ≡ false → Alone (one h k)
+  pub for-opens : (cur hoist : ℕ) (h : Head) (k : Forest) (st : Store) → isUsing h ≡ false → Labelled (one h k)
       → anyUsing (forList (one h k)) ≡ true → Opens forLoop h k (transformForStatement cur hoist h k st)
   unfolding transformForStatement visitsAs visitsIn visitsOf anyUsing takeUpFor
   for-opens cur hoist h k st p a u xs =

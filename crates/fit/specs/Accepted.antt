@@ -1,7 +1,7 @@
 -- An accepted file is fit, so the counts after any number of visits are those of its charges.
 -- Assumes nothing.
 use mathlib.Core.Path.{_≡_, refl, sym, ap, subst, _∙_}
-use mathlib.Core.Bool.{Bool, true, false, _||_}
+use mathlib.Core.Bool.{Bool, true, false, not, _||_, _&&_}
 use mathlib.Core.List.{List, [], _∷_}
 use Prim.Native.Nat.{ℕ, suc}
 use native.Mathlib.Omega.{arith}
@@ -10,10 +10,10 @@ use lib.Dec.{eqb}
 use borrow.Author.Tests.{eqb-true}
 use Rattle.meaning.specs.Tree.{oneOf, Head, Forest, none, more, count}
 use Rattle.meaning.specs.File.{File, numbersOf, hasChildren, ownNumbers}
-use Rattle.meaning.specs.Grammar.{tagsOf, allowed, declaratorRight, right, childrenOf, placeOf, headOf}
+use Rattle.meaning.specs.Grammar.{tagsOf, allowed, is, declaratorRight, right, childrenOf, placeOf, headOf}
 use Rattle.meaning.specs.Reading.{accepted, readFile}
 use Rattle.meaning.specs.declared.Place.{Place}
-use Rattle.meaning.specs.declared.Place.the-variants.{Program, Name}
+use Rattle.meaning.specs.declared.Place.the-variants.{Program, Name, ForOfDeclarator}
 use Rattle.meaning.specs.declared.Field.{Field}
 use Rattle.meaning.specs.Statements.{isUsing}
 use Rattle.meaning.specs.ForOf.{bindsIdentifier}
@@ -23,9 +23,9 @@ use Rattle.meaning.specs.VisitCharges.{visitCharges}
 use Rattle.tags.specs.Tags.{Seen, other, here, there, seen, clash, and-left}
 use Rattle.growth.specs.ForOf.{Named}
 use Rattle.growth.specs.Program.{Exports}
-use Rattle.counts.specs.TakenUp.{Alone}
+use Rattle.counts.specs.TakenUp.{Labelled}
 use Rattle.counts.specs.Program.{Kinds}
-use Rattle.counts.specs.Enter.{and-right, Left}
+use Rattle.counts.specs.Enter.{and-right, Begins, Left}
 use Rattle.counts.specs.Fits.{Fits}
 use Rattle.counts.specs.Figures.{joined, after}
 use Rattle.fit.specs.Placed.{ReadAs, same-tag, Placed, accepted-placed}
@@ -45,11 +45,20 @@ module _ (p : Place) (syms : ℕ) where
   one-child a b c d next (there e₄ (there e₁₈ (there e₁₉ other))) s e = absurd (clash (rw (e₄, e₁₈, e₁₉)) s)
 
   -- a Declarator with pattern 0 has a Name
-  name-first : (x : Field) → x .tag ≡ 6 → x .a ≡ 0 → right p syms x ≡ true → placeOf p x 0 ≡ Name
-  unfolding right declaratorRight placeOf
-  name-first x t z e =
-      let b = eqb-true (x .b) 1 (and-left (eqb (x .b) 1) _ (rw (t, z) at e)) in
-      rw (t, b)
+  module _ (x : Field) (t : x .tag ≡ 6) (z : x .a ≡ 0) (e : right p syms x ≡ true) where
+    one-name : x .b ≡ 1
+    unfolding right declaratorRight
+    one-name = eqb-true (x .b) 1 (and-left (eqb (x .b) 1) _ (rw (t, z) at e))
+
+    name-first : placeOf p x 0 ≡ Name
+    unfolding placeOf
+    name-first = rw (t, one-name)
+
+    not-empty : 0 ≡ childrenOf x → ⊥
+    unfolding right declaratorRight childrenOf ownNumbers hasChildren numbersOf
+    not-empty n =
+        let c : 0 ≡ x .c = n ∙ rw t in
+        clash refl (and-right (not (is p ForOfDeclarator)) false (rw (t, z, one-name, ← c) at e))
 
 -- tests joined by or
 or-false : (b : Bool) → (b || false) ≡ true → b ≡ true
@@ -81,6 +90,14 @@ module _ {syms : ℕ} {p : Place} {x : Field} {h : Head} {k : Forest} (q : ReadA
       let k = own-kind (x .a) (x .b) (x .c) (x .d) (x .next) (seen (5 ∷ []) (x .tag)) in
       rw (q .head) (k (rw (q .head) at u))
 
+  -- a Declarator with pattern 0, as a field
+  of-identifier : (eqb (h .tag) 6 && eqb (h .a) 0) ≡ true → (x .tag ≡ 6) × (x .a ≡ 0)
+  unfolding headOf ownNumbers hasChildren numbersOf
+  of-identifier e =
+      let t : x .tag ≡ 6 = sym (same-tag q) ∙ eqb-true (h .tag) 6 (and-left (eqb (h .tag) 6) (eqb (h .a) 0) e) in
+      let a : h .a ≡ x .a = ap (λ (v : Head). v .a) (q .head) ∙ rw t in
+      (t, sym a ∙ eqb-true (h .a) 0 (and-right (eqb (h .tag) 6) (eqb (h .a) 0) e))
+
 -- ---- lists
 
 module _ (syms : ℕ) where
@@ -92,33 +109,32 @@ module _ (syms : ℕ) where
   kinds none place i q = tt
   kinds (more h k r) place i q = (using-kind (q .1), kinds r place (suc i) (q .3))
 
-  alone : (f : Forest) (place : ℕ → Place) (i : ℕ) → Placed syms place i f → count f ≡ 1 → Alone f
+  labelled : (f : Forest) (place : ℕ → Place) (i : ℕ) → Placed syms place i f → count f ≡ 1 → Labelled f
   unfolding count
-  alone none place i q e = tt
-  alone (more h k none) place i q e = λ t. alone k (placeOf (place i) (q .0)) 0 (q .2) (has-one (q .1) (rw t))
-  alone (more h k (more h₁ k₁ r₁)) place i q e = absurd (omega arith)
+  labelled none place i q e = absurd (omega arith)
+  labelled (more h k none) place i q e = λ t. labelled k (placeOf (place i) (q .0)) 0 (q .2) (has-one (q .1) (rw t))
+  labelled (more h k (more h₁ k₁ r₁)) place i q e = absurd (omega arith)
 
-  named : (f : Forest) (place : ℕ → Place) (i : ℕ) → Placed syms place i f → bindsIdentifier f ≡ true → Named f
-  unfolding bindsIdentifier headOf ownNumbers hasChildren numbersOf allowed tagsOf
-  named none place i q e = tt
-  named (more h none r) place i q e = tt
+  named : (f : Forest) (place : ℕ → Place) (i : ℕ) → Placed syms place i f → bindsIdentifier f ≡ true → Named f × Begins f
+  unfolding bindsIdentifier allowed tagsOf count
+  named none place i q e = absurd (clash refl e)
+  named (more h none r) place i q e =
+      let o = of-identifier (q .1) e in
+      absurd (not-empty (place i) syms (q .0) (o .0) (o .1) (q .1 .numbers) (q .1 .children))
   named (more h (more h₁ k₁ r₁) r) place i q e =
-      let x = q .0 in
-      let t : x .tag ≡ 6 = sym (same-tag (q .1)) ∙ eqb-true (h .tag) 6 (and-left (eqb (h .tag) 6) (eqb (h .a) 0) e) in
-      let a : h .a ≡ x .a = ap (λ (v : Head). v .a) (q .1 .head) ∙ rw t in
-      let z : x .a ≡ 0 = sym a ∙ eqb-true (h .a) 0 (and-right (eqb (h .tag) 6) (eqb (h .a) 0) e) in
+      let o = of-identifier (q .1) e in
       let n = q .2 .0 .tag in
-      same-tag (q .2 .1)
-      ∙ eqb-true n 26
-      (or-false (eqb n 26) (subst (λ (p : Place). allowed p n ≡ true) (name-first (place i) syms x t z (q .1 .numbers)) (q .2 .1 .taken)))
+      let first = name-first (place i) syms (q .0) (o .0) (o .1) (q .1 .numbers) in (
+        same-tag (q .2 .1) ∙ eqb-true n 26 (or-false (eqb n 26) (subst (λ (p : Place). allowed p n ≡ true) first (q .2 .1 .taken))),
+        tt,
+      )
 
   left : (f : Forest) (place : ℕ → Place) (i : ℕ) → Placed syms place i f → Left f
   left none place i q = tt
   left (more h k r) place i q =
-      λ e. (
-        named k (placeOf (place i) (q .0)) 0 (q .2) (and-right (isUsing h) (bindsIdentifier k) e),
-        using-kind (q .1) (and-left (isUsing h) (bindsIdentifier k) e),
-      )
+      λ e.
+      let n = named k (placeOf (place i) (q .0)) 0 (q .2) (and-right (isUsing h) (bindsIdentifier k) e) in
+      (n .0, n .1, using-kind (q .1) (and-left (isUsing h) (bindsIdentifier k) e))
 
   fits : (f : Forest) (place : ℕ → Place) (i : ℕ) → Placed syms place i f → Fits f
   fits none place i q = tt
@@ -127,7 +143,7 @@ module _ (syms : ℕ) where
         record {
           items = λ e u. (exports k inside 0 (q .2), kinds k inside 0 (q .2));
           side = λ e. left k inside 0 (q .2);
-          label = λ e. alone k inside 0 (q .2) (has-one (q .1) (rw e));
+          label = λ e. labelled k inside 0 (q .2) (has-one (q .1) (rw e));
           handler = λ e. no-catch (q .1) (q .2) (rw (eqb-true (h .tag) 12 e));
         },
         fits k inside 0 (q .2),

@@ -13,7 +13,7 @@ use Rattle.meaning.specs.Statements.{anyUsing, takeUp}
 use Rattle.meaning.specs.Contexts.{forList, takeUpFor}
 use Rattle.meaning.specs.Charges.{wraps}
 use Rattle.tags.specs.Tags.{clash}
-use Rattle.counts.specs.TakenUp.{Alone}
+use Rattle.counts.specs.TakenUp.{Labelled}
 use Rattle.tables.specs.Loops.{turns, go-on, stopped}
 use Rattle.tables.specs.Table.{capped, columnF, rowF}
 use Rattle.tables.specs.Stream.{Buf, passF}
@@ -32,28 +32,10 @@ use Rattle.for_switch.specs.For.{isLoopF, nextRow, labelsEndF, planForF, passRo
 use Rattle.streamed.specs.Places.{one-row, parted, row-here, tag-here, rows-below, plan-below, length-left, n-gapped}
 use Rattle.streamed.specs.Frame.{frame-law}
 
--- the Labels before a record have exactly one child each
-abbrev pub Labelled : Forest → Type 0
-Labelled none = ⊥
-Labelled (more h k none) = eqb (h .tag) 4 ≡ true → Labelled k
-Labelled (more h k (more h₁ k₁ r₁)) = ⊥
-
--- how many Labels stand before it
+-- how many Labels stand before a record
 unfoldable pub labels : Forest → ℕ
 labels none = 0
 labels (more h k r) = if eqb (h .tag) 4 then suc (labels k) else 0
-
-using-below : (b c : Bool) (k : Forest) → anyUsing (if b then forList k else if c then k else none) ≡ true → b ≡ true
-    → anyUsing (forList k) ≡ true
-using-below true c k u e = u
-using-below false c k u e = absurd (clash refl e)
-
--- so it is if a For with a using is below them
-pub labelled : (f : Forest) → Alone f → anyUsing (forList f) ≡ true → Labelled f
-unfolding forList anyUsing
-labelled none s u = absurd (clash refl u)
-labelled (more h k none) s u = λ e. labelled k (s e) (using-below (eqb (h .tag) 4) (eqb (h .tag) 7) k u e)
-labelled (more h k (more h₁ k₁ r₁)) s u = absurd s
 
 -- ---- the Labels
 
@@ -189,11 +171,11 @@ module _ (z : List ℕ) where
       (take-up-law z k false ctx false (a ++ x ∷ []) g v (omega (arith, length-snoc a x)))
   loop-by false false ctx h k a g v u q i = absurd (clash refl u)
 
-  loop-law : (f : Forest) (ctx : ℕ) (a : List Row) (g : ℕ) (v : List Row) → Alone f → anyUsing (forList f) ≡ true
+  loop-law : (f : Forest) (ctx : ℕ) (a : List Row) (g : ℕ) (v : List Row) → Labelled f → anyUsing (forList f) ≡ true
       → length a + (wraps (forList f) + g) + size f ≤ 65535
       → loopRows (labels f) ctx (gapped z a (wraps (forList f) + g) (rowsOf f ++ v)) ≡ gapped z (a ++ rowsOf (takeUpFor ctx f)) g v
   unfolding takeUpFor forList anyUsing labels size
-  loop-law none ctx a g v s u q = absurd (clash refl u)
+  loop-law none ctx a g v s u q = absurd s
   loop-law (more h k none) ctx a g v s u q =
       let x = line h (count k) in
       let b = eqb (h .tag) 4 in
@@ -215,7 +197,7 @@ module _ (z : List ℕ) where
 
   -- A FOR GOES INTO A TRY, with its Labels
   pub for-rows-law : (h : Head) (k : Forest) (p : Parts) (a : List Row) (g : ℕ) (v : List Row)
-      → Alone (one h k) → anyUsing (forList (one h k)) ≡ true
+      → Labelled (one h k) → anyUsing (forList (one h k)) ≡ true
       → length a + (wraps (forList (one h k)) + (12 + g)) + suc (size k) ≤ 65535 → p .scope .0 + 2 ≤ 65535
       → forRowsF p (gapped z a (wraps (forList (one h k)) + (12 + g)) (rowsOf (one h k) ++ v))
       ≡ gapped z
@@ -226,6 +208,6 @@ module _ (z : List ℕ) where
       let c = p .context .0 in
       let f = one h k in
       let m = wraps (forList f) in
-      rw (labels-gapped f a (m + (12 + g)) v (labelled f o u) (omega arith))
+      rw (labels-gapped f a (m + (12 + g)) v o (omega arith))
       (frame-law z p h (loopBelow (eqb (h .tag) 4) c k) (loopRows (labels f) c) m a g (rowsOf f ++ v) v (omega (arith, size-for f c u)) s
       (λ a₁ l. loop-law f c a₁ (6 + g) v o u (omega arith)))

@@ -8,6 +8,7 @@ use lib.ListN.{length, length-append}
 use Rattle.meaning.specs.Tree.{Head, hd, Forest, none, more, one, count, size, _&_}
 use Rattle.meaning.specs.Shapes.{block, declaration, read}
 use Rattle.meaning.specs.ForOf.{rebind}
+use Rattle.counts.specs.Enter.{Begins}
 use Rattle.tables.specs.Table.{capped, madeF}
 use Rattle.tables.specs.Stream.{Buf, emitF, copyF}
 use Rattle.tables.specs.declared.Row.{Row}
@@ -18,7 +19,7 @@ use Rattle.lists.specs.Plan.{cap-sum}
 use Rattle.lists.specs.Try.{declare-law}
 use Rattle.for_of.specs.ForOf.{leftRowsF, usingRowsF, insertRowsF, wrapRowsF}
 use Rattle.streamed.specs.Places.{cap-count, next-rows, more-rows, n-gapped}
-use Rattle.streamed.specs.Sides.{Begins, sides-rows}
+use Rattle.streamed.specs.Sides.{sides-rows}
 
 -- ---- up to the body
 

@@ -11,6 +11,7 @@ use lib.ListN.{length, length-append}
 use Rattle.meaning.specs.Tree.{if_then_else_, Head, Forest, none, more, one, count, size}
 use Rattle.meaning.specs.Statements.{isUsing}
 use Rattle.meaning.specs.ForOf.{bindsIdentifier, boundSymbol}
+use Rattle.counts.specs.Enter.{Begins}
 use Rattle.tables.specs.Table.{capped, columnF, rowF}
 use Rattle.tables.specs.declared.Row.{Row}
 use Rattle.gap.specs.Cells.{table, line, rowsOf, length-rows}
@@ -19,12 +20,6 @@ use Rattle.gap.specs.Streams.{end-all}
 use Rattle.lists.specs.Plan.{cap-sum}
 use Rattle.for_of.specs.ForOf.{isIdentifierF, takesUsingF, usingSymbolF, bodyAfterF}
 use Rattle.streamed.specs.Places.{one-row, more-rows, parted}
-
--- the first of some Declarators has a child
-abbrev pub Begins : Forest → Type 0
-Begins none = ⊥
-Begins (more h none r) = ⊥
-Begins (more h (more h₁ k₁ r₁) r) = Unit {0}
 
 -- the rows of a record with two children and others
 pub sides-rows : (h h₁ : Head) (k₁ : Forest) (h₂ : Head) (k₂ rest : Forest) (v : List Row)
