@@ -1,0 +1,2 @@
+-- The walk on tables.
+pub mod Visit

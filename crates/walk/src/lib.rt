@@ -1,0 +1,195 @@
+// The walk over lent tables, one visit at a time.
+use meaning::RecordId;
+use path::Walk;
+use statements::Plan;
+use tables::Cursor;
+ghost use mathlib.Core.Path.{_≡_};
+ghost use Rattle.path.specs.Path.{tables};
+ghost use Rattle.walk.specs.Visit.{planNextF, rewriteProgramF, rewriteBlockF, rewriteBodyF, rewriteForF, rewriteSwitchF, rewriteTryF, rewriteForOfF, rewriteF, leaveBlockF, leaveF, isLeavingF, visitF};
+
+// ---- what entering a record rewrites
+
+// The list of the first record to visit.
+fn plan_next(records: &[u16], w: Walk) -> Plan
+    ensures { λ r. ⌜ r ≡ planNextF (now (records .entry)) w ⌝ }
+{
+    let gap = w.gap;
+    let n = tables::column(records, gap, 4);
+    statements::plan_list(records, statements::no_plan(RecordId(tables::plus(gap.0, 1))), n)
+}
+
+fn rewrite_program(records: &mut [u16], scopes: &mut [u16], symbols: &mut [u16], w: Walk) -> Walk
+    ensures { λ r. ⌜ tables (now (records .exit)) (now (scopes .exit)) (now (symbols .exit)) r ≡ rewriteProgramF (tables (now (records .entry)) (now (scopes .entry)) (now (symbols .entry)) w) ⌝ }
+{
+    let plan = plan_next(records, w);
+    if plan.usings == 0 {
+        w
+    } else {
+        program::enter_program(records, scopes, symbols, w)
+    }
+}
+
+fn rewrite_block(records: &mut [u16], scopes: &mut [u16], symbols: &mut [u16], w: Walk) -> Walk
+    ensures { λ r. ⌜ tables (now (records .exit)) (now (scopes .exit)) (now (symbols .exit)) r ≡ rewriteBlockF (tables (now (records .entry)) (now (scopes .entry)) (now (symbols .entry)) w) ⌝ }
+{
+    let plan = plan_next(records, w);
+    if plan.usings == 0 {
+        w
+    } else {
+        contexts::transform_block_statement(records, scopes, symbols, w, plan)
+    }
+}
+
+fn rewrite_body(records: &mut [u16], scopes: &mut [u16], symbols: &mut [u16], w: Walk) -> Walk
+    ensures { λ r. ⌜ tables (now (records .exit)) (now (scopes .exit)) (now (symbols .exit)) r ≡ rewriteBodyF (tables (now (records .entry)) (now (scopes .entry)) (now (symbols .entry)) w) ⌝ }
+{
+    let plan = plan_next(records, w);
+    if plan.usings == 0 {
+        w
+    } else {
+        contexts::enter_function_body(records, scopes, symbols, w, plan)
+    }
+}
+
+fn rewrite_for(records: &mut [u16], scopes: &mut [u16], symbols: &mut [u16], w: Walk) -> Walk
+    ensures { λ r. ⌜ tables (now (records .exit)) (now (scopes .exit)) (now (symbols .exit)) r ≡ rewriteForF (tables (now (records .entry)) (now (scopes .entry)) (now (symbols .entry)) w) ⌝ }
+{
+    let plan = for_switch::plan_for(records, w.gap);
+    if plan.usings == 0 {
+        w
+    } else {
+        for_switch::transform_for_statement(records, scopes, symbols, w, plan)
+    }
+}
+
+fn rewrite_switch(records: &mut [u16], scopes: &mut [u16], symbols: &mut [u16], w: Walk) -> Walk
+    ensures { λ r. ⌜ tables (now (records .exit)) (now (scopes .exit)) (now (symbols .exit)) r ≡ rewriteSwitchF (tables (now (records .entry)) (now (scopes .entry)) (now (symbols .entry)) w) ⌝ }
+{
+    let gap = w.gap;
+    let n = tables::column(records, gap, 4);
+    let plan = for_switch::plan_cases(records, RecordId(tables::plus(gap.0, 1)), n);
+    if plan.usings == 0 {
+        w
+    } else {
+        for_switch::transform_switch_statement(records, scopes, symbols, w, plan)
+    }
+}
+
+fn rewrite_try(records: &mut [u16], scopes: &mut [u16], symbols: &mut [u16], w: Walk) -> Walk
+    ensures { λ r. ⌜ tables (now (records .exit)) (now (scopes .exit)) (now (symbols .exit)) r ≡ rewriteTryF (tables (now (records .entry)) (now (scopes .entry)) (now (symbols .entry)) w) ⌝ }
+{
+    let gap = w.gap;
+    let n = tables::column(records, gap, 4);
+    let added = contexts::plan_try(records, RecordId(tables::plus(gap.0, 1)), n);
+    if added == 0 {
+        w
+    } else {
+        contexts::enter_try_statement(records, scopes, symbols, w, added)
+    }
+}
+
+fn rewrite_for_of(records: &mut [u16], scopes: &mut [u16], symbols: &mut [u16], w: Walk) -> Walk
+    ensures { λ r. ⌜ tables (now (records .exit)) (now (scopes .exit)) (now (symbols .exit)) r ≡ rewriteForOfF (tables (now (records .entry)) (now (scopes .entry)) (now (symbols .entry)) w) ⌝ }
+{
+    if for_of::takes_using(records, w.gap) {
+        if for_of::inserts(records, symbols, w.ctx, w.gap) {
+            for_of::insert_using(records, scopes, symbols, w)
+        } else {
+            for_of::wrap_body(records, scopes, symbols, w)
+        }
+    } else {
+        w
+    }
+}
+
+// The first record to visit, by its tag.
+fn rewrite(records: &mut [u16], scopes: &mut [u16], symbols: &mut [u16], w: Walk) -> Walk
+    ensures { λ r. ⌜ tables (now (records .exit)) (now (scopes .exit)) (now (symbols .exit)) r ≡ rewriteF (tables (now (records .entry)) (now (scopes .entry)) (now (symbols .entry)) w) ⌝ }
+{
+    let tag = tables::column(records, w.gap, 0);
+    match tag {
+        1 => rewrite_program(records, scopes, symbols, w),
+        2 => rewrite_block(records, scopes, symbols, w),
+        3 => w,
+        4 => rewrite_for(records, scopes, symbols, w),
+        5 => w,
+        6 => w,
+        7 => rewrite_for(records, scopes, symbols, w),
+        8 => rewrite_for_of(records, scopes, symbols, w),
+        9 => rewrite_switch(records, scopes, symbols, w),
+        10 => w,
+        11 => rewrite_try(records, scopes, symbols, w),
+        12 => w,
+        13 => w,
+        14 => rewrite_body(records, scopes, symbols, w),
+        15 => w,
+        16 => w,
+        17 => w,
+        18 => w,
+        19 => w,
+        20 => w,
+        24 => w,
+        25 => w,
+        26 => w,
+        27 => w,
+        28 => w,
+        29 => w,
+        0 | 21..=23 | 30..=65535 => w,
+    }
+}
+
+// ---- leaving a StaticBlock
+
+// Its list is rewritten if it has a using: its rows, from its own on, go behind the free ones again.
+fn leave_block(records: &mut [u16], scopes: &mut [u16], symbols: &mut [u16], w: Walk) -> Walk
+    ensures { λ r. ⌜ tables (now (records .exit)) (now (scopes .exit)) (now (symbols .exit)) r ≡ leaveBlockF (tables (now (records .entry)) (now (scopes .entry)) (now (symbols .entry)) w) ⌝ }
+{
+    let inner = w.inner;
+    let n = tables::column(records, RecordId(tables::minus(inner.0, 1)), 4);
+    let plan = statements::plan_list(records, statements::no_plan(inner), n);
+    if plan.usings == 0 {
+        return w;
+    }
+    let read = w.gap;
+    let written = w.visited;
+    let rows = tables::minus(tables::plus(written.0, 1), inner.0);
+    let q = tables::take_back(records, Cursor { read, written }, rows);
+    contexts::exit_static_block(records, scopes, symbols, w.with_cursor(q), plan)
+}
+
+// The innermost open record is left.
+fn leave(records: &mut [u16], scopes: &mut [u16], symbols: &mut [u16], w: Walk) -> Walk
+    ensures { λ r. ⌜ tables (now (records .exit)) (now (scopes .exit)) (now (symbols .exit)) r ≡ leaveF (tables (now (records .entry)) (now (scopes .entry)) (now (symbols .entry)) w) ⌝ }
+{
+    let around = path::close(records, w.inner.0);
+    let v = leave_block(records, scopes, symbols, w);
+    let inner = path::settle(records, around, v.visited.0);
+    v.with_inner(RecordId(inner))
+}
+
+// The children of the innermost open record are all entered.
+fn is_leaving(records: &[u16], w: Walk) -> bool
+    ensures { λ r. ⌜ r ≡ isLeavingF (now (records .entry)) w ⌝ }
+{
+    let inner = w.inner.0;
+    if inner == 0 {
+        return false;
+    }
+    tables::column(records, RecordId(inner - 1), 6) == 0
+}
+
+// The next visit; after the last nothing changes.
+pub fn visit(walk: Walk, records: &mut [u16], scopes: &mut [u16], symbols: &mut [u16]) -> Walk
+    ensures { λ r. ⌜ tables (now (records .exit)) (now (scopes .exit)) (now (symbols .exit)) r ≡ visitF (tables (now (records .entry)) (now (scopes .entry)) (now (symbols .entry)) walk) ⌝ }
+{
+    if is_leaving(records, walk) {
+        leave(records, scopes, symbols, walk)
+    } else {
+        if walk.gap.0 < walk.end.0 {
+            let w = rewrite(records, scopes, symbols, walk);
+            path::enter(records, w)
+        } else {
+            walk
+        }
+    }
+}
