@@ -1,0 +1,7 @@
+-- The rewrites on tables are those of 01.
+pub mod Standing
+pub mod Replaced
+pub mod Contexts
+pub mod Lists
+pub mod Loops
+pub mod Kept

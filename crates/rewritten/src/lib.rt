@@ -1,0 +1,1 @@
+// The rewrites on tables are those of 01. No code.
