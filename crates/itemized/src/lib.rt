@@ -1,0 +1,1 @@
+// What a lowered Program makes of its items is 01's. No code.
