@@ -4,4 +4,6 @@ pub mod Replaced
 pub mod Contexts
 pub mod Lists
 pub mod Loops
+pub mod Sides
+pub mod ForOf
 pub mod Kept
