@@ -1,0 +1,7 @@
+-- The rewrite of a Program on tables is that of 01.
+pub mod Mix
+pub mod Arrange
+pub mod Plan
+pub mod Scopes
+pub mod Rewrite
+pub mod Program

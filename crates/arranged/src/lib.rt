@@ -1,0 +1,1 @@
+// The rewrite of a Program on tables is 01's. No code.
