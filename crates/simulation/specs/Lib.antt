@@ -1,0 +1,9 @@
+-- The visits on tables are 01's visits.
+pub mod Rows
+pub mod Rewrite
+pub mod Lists
+pub mod Others
+pub mod Entering
+pub mod Visit
+pub mod Visits
+pub mod Started

@@ -1,0 +1,1 @@
+// The visits on tables are 01's visits. No code.
