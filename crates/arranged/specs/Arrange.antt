@@ -105,7 +105,7 @@ module _ (z : List ℕ) {ks ms : Forest} {xs : List Row} (x : Mix ks ms xs) (a v
       let end : capped (length (a ++ ys)) 1 ≡ length a + length all = cap-one _ (omega arith) ∙ omega (arith, all-length) in
       let rows : length a + length all - length a ≡ length all = omega arith in
       let last : numberRowsF (table ((a ++ ys) ++ block ∷ v) z) (length (a ++ ys)) 1 place ≡ table (a ++ (all ++ v)) z =
-          number-law z (block ∷ []) (a ++ ys) v place (omega arith) (omega arith) ∙ simp append-assoc in
+      number-law z (block ∷ []) (a ++ ys) v place (omega arith) (omega arith) ∙ simp append-assoc in
       rw (cap-sum (length a) (size ks) (omega arith), cap-one place (omega arith), items-numbered, end, rows, last)
       (place-clear-law z a goal v all-merge all-numbered (omega (arith, all-length))
       (all-append (rows-closed ks) (cons closed (rows-closed ms))))

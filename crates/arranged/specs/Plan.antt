@@ -201,7 +201,7 @@ module _ (z : List ℕ) where
       let s = programItems r st′ .0 in
       let e₁ = parted z h k r a v t e in
       let c = item-by z a (rowsOf r ++ v) t (h .a) (h .b) (h .c) k st (e₁ .0) (omega arith) (x .0)
-          (seen (13 ∷ 17 ∷ 18 ∷ 19 ∷ 15 ∷ 5 ∷ []) (h .tag)) in
+      (seen (13 ∷ 17 ∷ 18 ∷ 19 ∷ 15 ∷ 5 ∷ []) (h .tag)) in
       let l = length-line a y k in
       let d₁ = c .added (itemLines r) in
       let d₂ = c .kept in

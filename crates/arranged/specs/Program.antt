@@ -126,7 +126,7 @@ module _ (done : Forest) (h : Head) (k r : Forest) (path : List Crumb) (st : Sto
         let b = blockRow k st in
         let a = top ++ (rowsOf (s .kept) ++ b ∷ []) in
         let l : length a ≡ length top + size (s .kept) + 1 =
-            omega (arith, length-append top (rowsOf (s .kept) ++ b ∷ []), length-snoc (rowsOf (s .kept)) b, length-rows (s .kept)) in
+        omega (arith, length-append top (rowsOf (s .kept) ++ b ∷ []), length-snoc (rowsOf (s .kept)) b, length-rows (s .kept)) in
         rw (← l)
         (insert-below-law (z .scopes) (z .records) (s .moved) a (behind r path) rows (simp append-assoc)
         (omega (arith, room, items-size k st x, length-snoc (before here g) (line h (count (s .kept) + 1))))

@@ -51,8 +51,8 @@ enterFunctionBodyF plan q =
     let w = q .walk in
     let n = columnF (q .records) (w .gap .0) 4 in
     let c =
-        forBodyF (q .records) (inRows (q .scopes) (q .symbols) (w .ctx)) (currentIn q) (hoistIn q) (capped (w .gap .0) 1) n
-        (plan .awaits)
+    forBodyF (q .records) (inRows (q .scopes) (q .symbols) (w .ctx)) (currentIn q) (hoistIn q) (capped (w .gap .0) 1) n
+    (plan .awaits)
     in
     let v = chargedF w (capped (plan .wraps) 12) in
     let p = c .created .parts in
@@ -66,6 +66,6 @@ exitStaticBlockF plan q =
     let c = forStaticBlockF (inRows (q .scopes) (q .symbols) (w .ctx)) old (plan .awaits) in
     let p = c .created .parts in
     let b =
-        wrappedRowsF (madeF 16 (listScope p) 0 0 1) old p (record { t = q .records; read = w .gap .0; written = w .visited .0 })
+    wrappedRowsF (madeF 16 (listScope p) 0 0 1) old p (record { t = q .records; read = w .gap .0; written = w .visited .0 })
     in
     tables (b .t) (c .scopes) (c .symbols) (withCtxF (withCursorF w (b .read) (b .written)) (c .created .ctx))

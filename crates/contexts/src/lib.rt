@@ -31,7 +31,11 @@ fn write_block(records: &mut [u16], q: Cursor, p: Parts) -> Cursor
 {
     let r = tables::row_after(records, q.read);
     let q1 = tables::emit(records, q, tables::made(11, 3, 0, 0, 3));
-    let q2 = tables::pass_as(records, q1, tables::made(2, r.a, 0, 0, tables::plus(r.n, 1)));
+    let q2 = tables::pass_as(
+        records,
+        q1,
+        tables::made(2, r.a, 0, 0, tables::plus(r.n, 1)),
+    );
     statements::transform_list(records, q2, r.n, p)
 }
 
@@ -80,10 +84,26 @@ pub fn enter_function_body(
     let read = w.gap;
     let n = tables::column(records, read, 4);
     let list = RecordId(tables::plus(read.0, 1));
-    let c = creation::for_body(records, scopes, symbols, w.ctx, cur, hoist, list, n, plan.awaits);
+    let c = creation::for_body(
+        records,
+        scopes,
+        symbols,
+        w.ctx,
+        cur,
+        hoist,
+        list,
+        n,
+        plan.awaits,
+    );
     let v = w.charge(tables::plus(plan.wraps, 12));
     let written = v.gap;
-    write_wrapped(records, Cursor { read, written }, tables::made(14, 0, 0, 0, 1), list_scope(c.parts), c.parts);
+    write_wrapped(
+        records,
+        Cursor { read, written },
+        tables::made(14, 0, 0, 0, 1),
+        list_scope(c.parts),
+        c.parts,
+    );
     v.with_ctx(c.ctx)
 }
 
@@ -102,7 +122,13 @@ pub fn exit_static_block(
     let old = ScopeId(tables::column(records, read, 1));
     let c = creation::for_static_block(scopes, symbols, w.ctx, old, plan.awaits);
     let scope = list_scope(c.parts);
-    let q = write_wrapped(records, Cursor { read, written }, tables::made(16, scope.0, 0, 0, 1), old, c.parts);
+    let q = write_wrapped(
+        records,
+        Cursor { read, written },
+        tables::made(16, scope.0, 0, 0, 1),
+        old,
+        c.parts,
+    );
     let v = w.with_cursor(q);
     v.with_ctx(c.ctx)
 }
@@ -149,7 +175,11 @@ fn transform_part(
 {
     let q = s.at;
     let r = tables::row_after(records, q.read);
-    let plan = statements::plan_list(records, statements::no_plan(RecordId(tables::plus(q.read.0, 1))), r.n);
+    let plan = statements::plan_list(
+        records,
+        statements::no_plan(RecordId(tables::plus(q.read.0, 1))),
+        r.n,
+    );
     if is_part(r, plan) {
         transform_try_block(records, scopes, symbols, s, cur, hoist, plan.awaits)
     } else {
@@ -221,7 +251,13 @@ fn last_block_scope(records: &[u16], after: RecordId, n: u16) -> ScopeId
 }
 
 // The child after a row moves to the scope if it is a Name.
-fn move_name(records: &[u16], symbols: &mut [u16], ctx: Ctx, after: RecordId, scope: ScopeId) -> RecordId
+fn move_name(
+    records: &[u16],
+    symbols: &mut [u16],
+    ctx: Ctx,
+    after: RecordId,
+    scope: ScopeId,
+) -> RecordId
     ensures { λ o. ⌜ naming (now (symbols .exit)) (o .0) ≡ moveNameF (now (records .entry)) ctx (scope .0) (naming (now (symbols .entry)) (after .0)) ⌝ }
 {
     let r = tables::row_after(records, after);
@@ -235,7 +271,14 @@ fn move_name(records: &[u16], symbols: &mut [u16], ctx: Ctx, after: RecordId, sc
 }
 
 // The Names of a list move to the scope.
-fn move_names(records: &[u16], symbols: &mut [u16], ctx: Ctx, after: RecordId, n: u16, scope: ScopeId)
+fn move_names(
+    records: &[u16],
+    symbols: &mut [u16],
+    ctx: Ctx,
+    after: RecordId,
+    n: u16,
+    scope: ScopeId,
+)
     ensures { λ _. ⌜ now (symbols .exit) ≡ moveNamesF (now (records .entry)) ctx (scope .0) (after .0) n (now (symbols .entry)) ⌝ }
 {
     let mut at = after;
@@ -268,7 +311,14 @@ fn transform_handler(
         return o;
     }
     let list = RecordId(tables::plus(start.0, 1));
-    move_names(records, symbols, o.ctx, list, n, last_block_scope(records, list, n));
+    move_names(
+        records,
+        symbols,
+        o.ctx,
+        list,
+        n,
+        last_block_scope(records, list, n),
+    );
     o
 }
 
@@ -349,7 +399,11 @@ fn plan_part(records: &[u16], s: Counting) -> Counting
     ensures { λ o. ⌜ o ≡ planPartF (now (records .entry)) s ⌝ }
 {
     let r = tables::row_after(records, s.at);
-    let plan = statements::plan_list(records, statements::no_plan(RecordId(tables::plus(s.at.0, 1))), r.n);
+    let plan = statements::plan_list(
+        records,
+        statements::no_plan(RecordId(tables::plus(s.at.0, 1))),
+        r.n,
+    );
     Counting {
         at: tables::end_after(records, s.at, 1),
         sum: tables::plus(s.sum, part_rows(r, plan)),

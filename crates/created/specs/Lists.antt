@@ -118,8 +118,7 @@ moved-held : (from : ℕ) (st : Store) (zs zy : List ℕ) (to : ℕ) → length 
 moved-held from st zs zy to small =
     let ys = blockScopedIn (st .symbols) from (st .symbols) 1 in
     let st′ = movedTo from st to in
-    let k = bindings-kept ys to st in
-    (
+    let k = bindings-kept ys to st in (
       block-scoped-moved st zy from to small ∙ ap (λ (rs : List Symbol). symbolCells (st′ .symbols) rs zy) (sym (k .1)),
       ap (λ (ss : List Scope). scopeCells ss zs) (sym (k .0)),
       sym (bindings-ctx st ys to),

@@ -86,8 +86,8 @@ module _ (st : Store) (cur : ℕ) where
   helper-law zs zy a =
       load-either
       (λ l.
-        length (l .1 .symbols) ≤ 65535
-        → helperLoadF (scopeCells (st .scopes) zs) (symbolsHeld st (freeSymbols (oneIf (missing st)) zy)) cur ≡ loadedAs cur st (l .1) zy)
+      length (l .1 .symbols) ≤ 65535
+      → helperLoadF (scopeCells (st .scopes) zs) (symbolsHeld st (freeSymbols (oneIf (missing st)) zy)) cur ≡ loadedAs cur st (l .1) zy)
       (λ m e r. rw (m, e, make-law st zy a r))
       (λ m e r. rw (m, e))
       (λ m r. rw (m, find-is st zs zy (length (st .scopes)) cur 1))

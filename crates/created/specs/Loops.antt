@@ -147,7 +147,7 @@ module _ (cur hoist : ℕ) (h : Head) (k : Forest) (st : Store) where
   for-node n e =
       let p = forParts cur hoist h k st n in
       let s : insertScopeBelow cur (one h k) made .0 ≡ p .scope .0 - 1 =
-          omega (arith, below-number cur (one h k) made, load-grows cur above .scopes) in
+      omega (arith, below-number cur (one h k) made, load-grows cur above .scopes) in
       load-try-node above cur (nextSymbol st) _ _ (takeUpFor (p .context .0) (one h k)) _ n (rw e (any-awaits (forList (one h k)))) s
 
   pub for-room : (n : ℕ) → Room (transformForStatement cur hoist h k st .1) → forParts cur hoist h k st n .scope .0 + 2 ≤ 65535
@@ -221,12 +221,12 @@ module _ (cur : ℕ) (h : Head) (k : Forest) (st : Store) where
       let p = switchParts cur h st n in
       let child = createChildScope cur 0 switchMade in
       let s : child .0 ≡ p .scope .0 - 1 =
-          omega (
-            arith,
-            child-scope-number switchMade cur 0,
-            scope-parent (h .a) (child .0) (child .1) .scopes,
-            load-grows cur aboveSwitch .scopes,
-          ) in
+      omega (
+        arith,
+        child-scope-number switchMade cur 0,
+        scope-parent (h .a) (child .0) (child .1) .scopes,
+        load-grows cur aboveSwitch .scopes,
+      ) in
       load-try-node aboveSwitch cur (nextSymbol st) _ _ (one h (takeUpCases (p .context .0) false k)) _ n e s
 
   pub switch-room : (n : ℕ) → Room (transformSwitchStatement cur h k st .1) → switchParts cur h st n .scope .0 + 2 ≤ 65535

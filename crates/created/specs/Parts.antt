@@ -54,12 +54,11 @@ unblocked-held : (old context : ℕ) (st : Store) (zs zy : List ℕ) (scope : �
     (moveBindingF (symbolsHeld st zy) context scope ≡ symbolCells (st′ .symbols) (st′ .asRead) zy)
     × (setScopeFlagsF (scopesHeld st zs) old 1 ≡ scopeCells (st′ .scopes) zs) × (ctxOf st ≡ ctxOf st′))
 unfolding moveBinding setScopeFlags
-unblocked-held old context st zs zy scope =
-    (
-      binding-moved st context zy scope,
-      scope-flags-set st old zs 1,
-      sym (scope-flags-ctx (moveBinding context scope st .1) old 1 ∙ binding-ctx st context scope),
-    )
+unblocked-held old context st zs zy scope = (
+  binding-moved st context zy scope,
+  scope-flags-set st old zs 1,
+  sym (scope-flags-ctx (moveBinding context scope st .1) old 1 ∙ binding-ctx st context scope),
+)
 
 abbrev pub staticParts : Head → Forest → Store → ℕ → Parts
 staticParts h list st n =
@@ -118,12 +117,12 @@ module _ (h : Head) (list : Forest) (st : Store) where
   static-node n e =
       let y = nextSymbol st in
       let s : scope ≡ staticParts h list st n .scope .0 - 1 =
-          omega (
-            arith,
-            inserted-number listed (h .a) 4,
-            binding-grows y scope between .scopes,
-            scope-flags (h .a) 1 (moveBinding y scope between .1) .scopes,
-          ) in
+      omega (
+        arith,
+        inserted-number listed (h .a) 4,
+        binding-grows y scope between .scopes,
+        scope-flags (h .a) 1 (moveBinding y scope between .1) .scopes,
+      ) in
       ap₂ (λ (x : ℕ) (try : Node). node (hd 16 x 0 0) (single try)) s (list-node (h .a) (h .a) list st changed (h .a) scope n e)
 
   pub static-room : (n : ℕ) → Room (exitStaticBlock h list st .1) → staticParts h list st n .scope .0 + 2 ≤ 65535

@@ -82,7 +82,14 @@ fn is_passed(s: Passing) -> bool
 }
 
 // The outermost scopes of `n` records after a row get a parent.
-fn move_scopes(records: &[u16], scopes: &mut [u16], ctx: Ctx, after: RecordId, n: u16, parent: ScopeId)
+fn move_scopes(
+    records: &[u16],
+    scopes: &mut [u16],
+    ctx: Ctx,
+    after: RecordId,
+    n: u16,
+    parent: ScopeId,
+)
     ensures { λ _. ⌜ now (scopes .exit) ≡ moveScopesF (now (records .entry)) (inScopes (now (scopes .entry)) ctx) (after .0) n (parent .0) ⌝ }
 {
     let mut s = Passing {
@@ -127,7 +134,13 @@ pub fn make_context(symbols: &mut [u16], ctx: Ctx, scope: ScopeId) -> Ctx
 }
 
 // The helper for a context that is made.
-pub fn load_context(scopes: &[u16], symbols: &mut [u16], ctx: Ctx, context: SymbolId, cur: ScopeId) -> Transformed
+pub fn load_context(
+    scopes: &[u16],
+    symbols: &mut [u16],
+    ctx: Ctx,
+    context: SymbolId,
+    cur: ScopeId,
+) -> Transformed
     ensures { λ r. ⌜ transforming (now (symbols .exit)) r ≡ loadContextF (now (scopes .entry)) (inSymbols (now (symbols .entry)) ctx) (context .0) (cur .0) ⌝ }
 {
     let loaded = helper_loader::helper_load(scopes, symbols, ctx, cur);

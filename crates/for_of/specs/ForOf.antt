@@ -103,6 +103,6 @@ wrapBodyF q =
     let ys = moveBindingF (inSymbols (s .t) (c .ctx)) y (c .ctx .scopes) in
     let v = chargedF w 5 in
     let b =
-        wrapRowsF kind y (s .ctx .symbols) (c .ctx .scopes) (record { t = q .records; read = read; written = v .gap .0 })
+    wrapRowsF kind y (s .ctx .symbols) (c .ctx .scopes) (record { t = q .records; read = read; written = v .gap .0 })
     in
     tables (b .t) (c .t) ys (withCtxF v (c .ctx))

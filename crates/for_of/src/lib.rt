@@ -112,12 +112,23 @@ fn write_insert(records: &mut [u16], q: Cursor, kind: u16, y: SymbolId, temp: Sy
 {
     let q1 = write_left(records, q, temp);
     let r = tables::row_after(records, q1.read);
-    let q2 = tables::pass_as(records, q1, tables::made(r.tag, r.a, r.b, r.c, tables::plus(r.n, 1)));
+    let q2 = tables::pass_as(
+        records,
+        q1,
+        tables::made(r.tag, r.a, r.b, r.c, tables::plus(r.n, 1)),
+    );
     write_using(records, q2, kind, y, temp)
 }
 
 // The body in a new Block, with the using before it.
-fn write_wrap(records: &mut [u16], q: Cursor, kind: u16, y: SymbolId, temp: SymbolId, scope: ScopeId) -> Cursor
+fn write_wrap(
+    records: &mut [u16],
+    q: Cursor,
+    kind: u16,
+    y: SymbolId,
+    temp: SymbolId,
+    scope: ScopeId,
+) -> Cursor
     ensures { λ o. ⌜ buf (now (records .exit)) o ≡ wrapRowsF kind (y .0) (temp .0) (scope .0) (buf (now (records .entry)) q) ⌝ }
 {
     let q1 = write_left(records, q, temp);
@@ -139,7 +150,13 @@ pub fn insert_using(records: &mut [u16], scopes: &[u16], symbols: &mut [u16], w:
     scoping::move_binding(symbols, x, y, ScopeId(tables::column(records, body, 1)));
     let v = w.charge(4);
     let written = v.gap;
-    write_insert(records, Cursor { read, written }, kind, y, SymbolId(x.symbols));
+    write_insert(
+        records,
+        Cursor { read, written },
+        kind,
+        y,
+        SymbolId(x.symbols),
+    );
     v.with_ctx(x)
 }
 
@@ -153,10 +170,24 @@ pub fn wrap_body(records: &mut [u16], scopes: &mut [u16], symbols: &mut [u16], w
     let scope = ScopeId(tables::column(records, read, 1));
     let x = make_temp(symbols, w.ctx, y, scope);
     let temp = SymbolId(x.symbols);
-    let made = creation::insert_scope_below(records, scopes, x, scope, body_after(records, read), 1);
+    let made = creation::insert_scope_below(
+        records,
+        scopes,
+        x,
+        scope,
+        body_after(records, read),
+        1,
+    );
     scoping::move_binding(symbols, made, y, ScopeId(made.scopes));
     let v = w.charge(5);
     let written = v.gap;
-    write_wrap(records, Cursor { read, written }, kind, y, temp, ScopeId(made.scopes));
+    write_wrap(
+        records,
+        Cursor { read, written },
+        kind,
+        y,
+        temp,
+        ScopeId(made.scopes),
+    );
     v.with_ctx(made)
 }

@@ -54,7 +54,7 @@ unfoldable pub transformForStatementF : Plan → Tables → Tables
 transformForStatementF plan q =
     let w = q .walk in
     let c =
-        forLoopF (q .records) (inRows (q .scopes) (q .symbols) (w .ctx)) (currentIn q) (hoistIn q) (w .gap .0) (plan .awaits)
+    forLoopF (q .records) (inRows (q .scopes) (q .symbols) (w .ctx)) (currentIn q) (hoistIn q) (w .gap .0) (plan .awaits)
     in
     let v = chargedF w (capped (plan .wraps) 12) in
     let b = forRowsF (c .created .parts) (record { t = q .records; read = w .gap .0; written = v .gap .0 }) in

@@ -44,7 +44,11 @@ pub fn plan_for(records: &[u16], after: RecordId) -> Plan
     let at = labels_end(records, after.0);
     let r = tables::row_after(records, RecordId(at));
     if r.tag == 7 {
-        statements::plan_list(records, statements::no_plan(RecordId(tables::plus(at, 1))), r.n)
+        statements::plan_list(
+            records,
+            statements::no_plan(RecordId(tables::plus(at, 1))),
+            r.n,
+        )
     } else {
         statements::no_plan(RecordId(at))
     }
@@ -90,7 +94,16 @@ pub fn transform_for_statement(
     let cur = path::current_scope(records, w.inner, w.visited.0);
     let hoist = path::hoist_scope(records, w.inner, w.visited.0);
     let read = w.gap;
-    let c = creation::for_loop(records, scopes, symbols, w.ctx, cur, hoist, read, plan.awaits);
+    let c = creation::for_loop(
+        records,
+        scopes,
+        symbols,
+        w.ctx,
+        cur,
+        hoist,
+        read,
+        plan.awaits,
+    );
     let v = w.charge(tables::plus(plan.wraps, 12));
     let written = v.gap;
     write_for(records, Cursor { read, written }, c.parts);
@@ -122,7 +135,11 @@ fn take_up_case(records: &mut [u16], s: Casing, p: Parts) -> Casing
     let q = s.at;
     let r = tables::row_after(records, q.read);
     if r.tag == 10 {
-        let plan = statements::plan_list(records, statements::no_plan(RecordId(tables::plus(q.read.0, 1))), r.n);
+        let plan = statements::plan_list(
+            records,
+            statements::no_plan(RecordId(tables::plus(q.read.0, 1))),
+            r.n,
+        );
         let q1 = tables::pass(records, q);
         let at = statements::take_up(records, q1, r.n, p.context, true, s.needs);
         Casing {

@@ -123,7 +123,7 @@ module _ (z : List ℕ) where
         ← flags-ctx (boundNames k) st,
         specifiers-law z k h (count k) st′ zy (a ++ e ∷ []) g v (omega (arith, length-snoc a e)),
         pass-record z (hd 5 0 0 0) k x ((a ++ e ∷ []) ++ m) g v
-        (omega (arith, length-append (a ++ e ∷ []) m, length-snoc a e, length-specifiers st′ (boundNames k))),
+            (omega (arith, length-append (a ++ e ∷ []) m, length-snoc a e, length-specifiers st′ (boundNames k))),
         exported-rows st′ (boundNames k),
       )
       (simp append-assoc)

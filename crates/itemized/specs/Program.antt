@@ -84,8 +84,8 @@ module _ (z : List ℕ) where
   first-item h k r a g v st zy =
       let e = items-more h k r in
       let b : gapped z a (itemsRows (more h k r) + g) (rowsOf (more h k r) ++ v)
-          ≡ gapped z a (itemRows h k + (itemsRows r + g)) (rowsOf (one h k) ++ (rowsOf r ++ v)) =
-          ap₂ (gapped z a) (omega (arith, e .0)) (rw (append-nil (rowsOf k), append-assoc (rowsOf k) (rowsOf r) v)) in
+      ≡ gapped z a (itemRows h k + (itemsRows r + g)) (rowsOf (one h k) ++ (rowsOf r ++ v)) =
+      ap₂ (gapped z a) (omega (arith, e .0)) (rw (append-nil (rowsOf k), append-assoc (rowsOf k) (rowsOf r) v)) in
       ap₂ (λ (u : Buf) (y : List ℕ). held u st y) b
       (ap (λ (n : ℕ). freeSymbols n zy) (e .1) ∙ free-more (itemSymbols h k) (itemsSymbols r) zy)
 
@@ -107,14 +107,14 @@ module _ (z : List ℕ) where
       let (s, st′) = programItem h k st in
       let m = rowsOf (s .kept) ++ rowsOf (s .moved) in
       let n : length (a ++ m) ≡ length a + (itemRows h k + size (one h k)) =
-          omega (
-            arith,
-            item-size h k st (x .0),
-            length-append a m,
-            length-append (rowsOf (s .kept)) (rowsOf (s .moved)),
-            length-rows (s .kept),
-            length-rows (s .moved),
-          ) in
+      omega (
+        arith,
+        item-size h k st (x .0),
+        length-append a m,
+        length-append (rowsOf (s .kept)) (rowsOf (s .moved)),
+        length-rows (s .kept),
+        length-rows (s .moved),
+      ) in
       let e = items-more h k r .0 in
       ap (λ (u : PassingF). turns (count r) transformItemF (transformItemF u)) (first-item h k r a g v st zy)
       ∙ ap (turns (count r) transformItemF)

@@ -208,7 +208,7 @@ module _ {A S : Type 0} {Fits : A → List ℕ → Type 0} {z : List ℕ} {base 
       let c = eqb (h .tag) 26 in
       let own : List ℕ = if c then h .a ∷ [] else [] in
       let e₁ : namesIn (more h k r) ++ ys ≡ own ++ (namesIn r ++ ys) =
-          rw (names-first h k r) (append-assoc own (namesIn r) ys) in
+      rw (names-first h k r) (append-assoc own (namesIn r) ys) in
       let p₁ = rw e₁ at p in
       ap₂ (λ (j : ℕ) (ns : List ℕ). run j (standing x ns b d (suc (count r)) 0)) (omega arith) e₁
       ∙ first-child c h k refl b (rowsOf r ++ u) x (namesIn r ++ ys) d (count r) (size r + m) p₁ (e ∙ simp append-assoc) (omega arith)

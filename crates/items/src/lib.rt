@@ -366,7 +366,12 @@ fn transform_class_decl(records: &mut [u16], symbols: &mut [u16], s: Passing) ->
     let q = s.at;
     let r = tables::row_after(records, q.read);
     let ctx = preserve_class_expression_name(symbols, s.ctx, r);
-    let at = write_value(records, q, SymbolId(r.c), tables::made(15, 1, r.b, ctx.symbols, r.n));
+    let at = write_value(
+        records,
+        q,
+        SymbolId(r.c),
+        tables::made(15, 1, r.b, ctx.symbols, r.n),
+    );
     Passing { at, ctx }
 }
 

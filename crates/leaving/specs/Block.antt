@@ -75,7 +75,7 @@ module _ (before after : Forest) (path : List Crumb) (h : Head) (k : Forest) (st
         let l₁ = length-rows (one h k) in
         let l₂ : length (upTo ++ m) ≡ length upTo + size (one h k) = omega (arith, length-append upTo m) in
         let l₃ : capped (length upTo + size (one h k)) 1 - suc (length upTo) ≡ length m =
-            omega (arith, cap-sum (length upTo + size (one h k)) 1 fits) in
+        omega (arith, cap-sum (length upTo + size (one h k)) 1 fits) in
         rw (l₃, ← l₂, ← append-assoc upTo m (free g ++ v)) (take-back-gapped z upTo g m v)
 
   -- ---- its context
@@ -135,8 +135,8 @@ module _ (before after : Forest) (path : List Crumb) (h : Head) (k : Forest) (st
         let room′ = static-room h k st (awaits k) room in
         let i : n + g ≡ wraps k + (12 + g) = omega arith in
         let rows = ap
-            (λ (i : ℕ). wrappedRowsF (madeF 16 s 0 0 1) (h .a) parts (gapped (z .records) upTo i (rowsOf (one h k) ++ v))) i
-            ∙ wrapped-rows-law (z .records) 16 s h k (h .a) parts upTo g v (omega arith) room′ in
+        (λ (i : ℕ). wrappedRowsF (madeF 16 s 0 0 1) (h .a) parts (gapped (z .records) upTo i (rowsOf (one h k) ++ v))) i
+        ∙ wrapped-rows-law (z .records) 16 s h k (h .a) parts upTo g v (omega arith) room′ in
         let larger = try-size (h .a) (takeUp false ctx false k) parts in
         rw (
           old-is,

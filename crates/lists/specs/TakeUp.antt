@@ -236,8 +236,8 @@ module _ (z : List ℕ) where
   take-next running ctx needs n h m a g v =
       ap
       (λ (x : Row).
-        let awaits = needs || isAwaitUsing (headF x) in
-        takeUpF n running ctx (running && awaits) (takeUpItemF (letterIf awaits) ctx (gapped z a g (line h m ∷ v))))
+      let awaits = needs || isAwaitUsing (headF x) in
+      takeUpF n running ctx (running && awaits) (takeUpItemF (letterIf awaits) ctx (gapped z a g (line h m ∷ v))))
       (next-gapped z a g (line h m) v)
 
   -- A LIST TAKEN UP, through a gap that is left with g rows
@@ -253,7 +253,7 @@ module _ (z : List ℕ) where
       let w = itemWraps h k in
       let first = item (isUsing h) (letterIf awaits) ctx h k none in
       let l : length (a ++ rowsOf first) ≡ length a + suc (size k + w) =
-          omega (arith, length-append a (rowsOf first), length-rows first, size-item (isUsing h) (letterIf awaits) ctx h k none) in
+      omega (arith, length-append a (rowsOf first), length-rows first, size-item (isUsing h) (letterIf awaits) ctx h k none) in
       ap (takeUpF (suc (count r)) running ctx needs) (first-row z h k r a w (wraps r) g v)
       ∙ take-next running ctx needs (count r) h (count k) a (w + (wraps r + g)) (rowsOf k ++ (rowsOf r ++ v))
       ∙ ap (takeUpF (count r) running ctx (running && awaits))

@@ -89,7 +89,7 @@ module _ (z : List ℕ) where
       let a₁ = a ++ rowsOf (contextOf p) in
       let l₁ : length a₁ ≡ length a + 4 = length-append a (rowsOf (contextOf p)) in
       let l₂ : length (a₁ ++ rowsOf f′) ≡ length a₁ + (size f + wraps f) =
-          omega (arith, length-append a₁ (rowsOf f′), length-rows f′, size-taken f false c false) in
+      omega (arith, length-append a₁ (rowsOf f′), length-rows f′, size-taken f false c false) in
       ap (λ (n : ℕ). transformListF (count f) p (gapped z a n (rowsOf f ++ v))) (omega arith)
       ∙ ap (λ (b : Buf). handlersF p (takeUpF (count f) false c false b))
       (declare-context-law p a (wraps f + (6 + g)) (rowsOf f ++ v) (omega arith))

@@ -50,8 +50,8 @@ enterProgramF q =
     let plan = planProgramF (q .records) (capped read 1) (r .n) in
     let v = chargedF w (capped (plan .added) 1) in
     let b =
-        passAsF (record { t = q .records; read = read; written = v .gap .0 })
-        (madeF (r .tag) (r .a) (r .b) (r .c) (capped (plan .kept) 1))
+    passAsF (record { t = q .records; read = read; written = v .gap .0 })
+    (madeF (r .tag) (r .a) (r .b) (r .c) (capped (plan .kept) 1))
     in
     let o = rewriteItemsF (r .n) plan (passingF b (q .symbols) (w .ctx)) in
     let s = insertScopeBelowF (o .records) (inScopes (q .scopes) (o .ctx)) (r .a) (o .block) (plan .moved) in

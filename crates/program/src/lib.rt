@@ -255,14 +255,24 @@ pub struct Rewritten {
 }
 
 // The items and the Block's row, rearranged; the Block has the next scope.
-fn rewrite_items(records: &mut [u16], symbols: &mut [u16], start: Passing, n: u16, plan: Plan) -> Rewritten
+fn rewrite_items(
+    records: &mut [u16],
+    symbols: &mut [u16],
+    start: Passing,
+    n: u16,
+    plan: Plan,
+) -> Rewritten
     ensures { λ o. ⌜ rewriting (now (records .exit)) (now (symbols .exit)) o ≡ rewriteItemsF n plan (passing (now (records .entry)) (now (symbols .entry)) start) ⌝ }
 {
     let first = start.at;
     let after = first.written.0;
     let s = transform_items(records, symbols, start, n);
     let ctx = s.ctx;
-    tables::emit(records, s.at, tables::made(2, tables::plus(ctx.scopes, 1), 0, 0, plan.moved));
+    tables::emit(
+        records,
+        s.at,
+        tables::made(2, tables::plus(ctx.scopes, 1), 0, 0, plan.moved),
+    );
     let items = tables::plus(plan.kept, plan.moved);
     let rows = kept_rows(records, after, items);
     arrange(records, after, items, rows);
@@ -281,7 +291,11 @@ pub fn enter_program(records: &mut [u16], scopes: &mut [u16], symbols: &mut [u16
     let plan = plan_program(records, RecordId(tables::plus(read.0, 1)), r.n);
     let v = w.charge(tables::plus(plan.added, 1));
     let written = v.gap;
-    let at = tables::pass_as(records, Cursor { read, written }, tables::made(r.tag, r.a, r.b, r.c, tables::plus(plan.kept, 1)));
+    let at = tables::pass_as(
+        records,
+        Cursor { read, written },
+        tables::made(r.tag, r.a, r.b, r.c, tables::plus(plan.kept, 1)),
+    );
     let ctx = w.ctx;
     let o = rewrite_items(records, symbols, Passing { at, ctx }, r.n, plan);
     let x = creation::insert_scope_below(records, scopes, o.ctx, ScopeId(r.a), o.block, plan.moved);

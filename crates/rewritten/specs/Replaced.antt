@@ -77,8 +77,8 @@ module _ (done : Forest) (h : Head) (k r : Forest) (path : List Crumb) (st : Sto
       let l₁ = rest-at st done h k r path in
       let l₂ = rest-at st′ done h′ k′ r path in
       let rows : table ((before here g ++ rowsOf (one h′ k′)) ++ behind r path) (z .records)
-          ≡ table (visitedAt s′ ++ (free g ++ restAt s′)) (z .records) =
-          rw (more-rows h′ k′ r (afterRowsOf path)) (simp append-assoc) in
+      ≡ table (visitedAt s′ ++ (free g ++ restAt s′)) (z .records) =
+      rw (more-rows h′ k′ r (afterRowsOf path)) (simp append-assoc) in
       let walk : withCtxF (chargedF (walkAt here (n + g)) n) (ctxOf st′) ≡ walkAt s′ g =
-          walk-eq refl (omega arith) (omega arith) refl refl in
+      walk-eq refl (omega arith) (omega arith) refl refl in
       λ i. tables (rows i) (scopeCells (st′ .scopes) (z .scopes)) (symbolCells (st′ .symbols) (st′ .asRead) (z .symbols)) (walk i)

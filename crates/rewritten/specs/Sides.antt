@@ -103,8 +103,7 @@ module _ (done : Forest) (h h₁ : Head) (k₁ : Forest) (h₂ : Head) (k₂ : F
         let l₁ = length-append a (line h (count children) ∷ (rowsOf (one h₁ k₁) ++ rowsOf (one h₂ k₂))) in
         let l₂ = length-append (rowsOf (one h₁ k₁)) (rowsOf (one h₂ k₂)) in
         let l₃ = length-rows (one h₁ k₁) in
-        let l₄ = length-rows (one h₂ k₂) in
-        (
+        let l₄ = length-rows (one h₂ k₂) in (
           rw (gap-here done h children r path st g z) (e ∙ omega arith),
           stands ∙ rw (sides-rows h h₁ k₁ h₂ k₂ (more h₃ k₃ r₃) v, more-rows h₃ k₃ r₃ v) (simp append-assoc),
           omega (arith, within),

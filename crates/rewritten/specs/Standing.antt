@@ -119,8 +119,7 @@ module _ (done : Forest) (h : Head) (k r : Forest) (path : List Crumb) (st : Sto
         × (length (toList here g h k) + size k ≤ 65535)
     unfolding size
     list-here =
-        let l = length-snoc (before here g) (line h (count k)) in
-        (
+        let l = length-snoc (before here g) (line h (count k)) in (
           ap (λ (i : ℕ). capped i 1) gap-here ∙ cap-one (length (before here g)) (omega (arith, room-here)) ∙ sym l,
           line-here ∙ simp append-assoc,
           omega (arith, room-here),

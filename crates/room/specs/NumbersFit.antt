@@ -77,8 +77,7 @@ head-within : (x : Field) → FieldWithin x → x .tag ≤ 29 → HeadWithin 655
 unfolding headOf
 head-within x p t =
     let own = ownNumbers (x .tag) in
-    let P : ℕ → Type 0 = UpTo 65535 in
-    (
+    let P : ℕ → Type 0 = UpTo 65535 in (
       t,
       either P (ltb 0 own) (p .0) (omega arith),
       either P (ltb 1 own) (p .1) (omega arith),

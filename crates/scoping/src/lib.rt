@@ -197,14 +197,7 @@ fn binds_at(symbols: &[u16], i: u16, f: u16, scope: ScopeId, name: u16) -> bool
 }
 
 // The row after i others if it binds the name, or what was found before.
-fn found_at(
-    symbols: &[u16],
-    i: u16,
-    f: u16,
-    scope: ScopeId,
-    name: u16,
-    found: u16,
-) -> u16
+fn found_at(symbols: &[u16], i: u16, f: u16, scope: ScopeId, name: u16, found: u16) -> u16
     ensures { λ r. ⌜ r ≡ (if binds (symbolAt (now (symbols .entry)) f i) (scope .0) name then capped i 1 else found) ⌝ }
 {
     if binds_at(symbols, i, f, scope, name) {

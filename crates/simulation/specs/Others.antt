@@ -100,8 +100,7 @@ module _ (done : Forest) (h : Head) (k r : Forest) (path : List Crumb) (st : Sto
   program-larger x a =
       let s = programItems k st .0 in
       let st′ = programItems k st .1 in
-      let new = scope-below (h .a) (s .moved) st′ in
-      (
+      let new = scope-below (h .a) (s .moved) st′ in (
         omega (arith, program-pays h k st x .records),
         omega (arith, new .scopes, ap length (items-same k st)),
         omega (arith, rw (and-false (missing st′)) at (new .symbols), items-store k st x a .1),

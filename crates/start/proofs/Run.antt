@@ -72,7 +72,7 @@ run-more f at n x kids beside (e, l) k r = (
     l,
     ap (line (headOf x)) (k .1) ∙ ap recordF e,
     subst (λ (y : Field). Run f (y .next) (rowsOf (kids .forest) ++ rowsOf (beside .forest)) (beside .next)) e
-    (run-++ f (rowsOf (kids .forest)) (rowsOf (beside .forest)) (x .next) (kids .next) (beside .next) (k .0) (r .0)),
+        (run-++ f (rowsOf (kids .forest)) (rowsOf (beside .forest)) (x .next) (kids .next) (beside .next) (k .0) (r .0)),
   ),
   ap suc (r .1),
 )
@@ -157,7 +157,7 @@ records-are f rs at next g end t i e h =
     let d : 7 * end ≡ end * 7 = omega arith in
     let m : end - g ≡ n = omega arith in
     let w : cleared t ≡ table (free g ++ free n) z =
-        cleared-is 7 end t h ∙ blank-rows end z ∙ ap (λ (k : ℕ). table (free k) z) (sym e) ∙ ap (λ (v : List Row). table v z) (free-++ g n)
+    cleared-is 7 end t h ∙ blank-rows end z ∙ ap (λ (k : ℕ). table (free k) z) (sym e) ∙ ap (λ (v : List Row). table v z) (free-++ g n)
     in
     rw d
     (ap (λ (k : ℕ). turns k (nextRecord f) (filling (cleared t) at g) .t) m

@@ -319,7 +319,11 @@ fn write_catch_clause(records: &mut [u16], q: Cursor, p: Parts) -> Cursor
 {
     let q1 = tables::emit(records, q, tables::made(12, p.scope.0, 1, 0, 2));
     let q2 = tables::emit(records, q1, tables::made(26, p.error.0, 0, 0, 0));
-    let q3 = tables::emit(records, q2, tables::made(2, tables::plus(p.scope.0, 1), 0, 0, 1));
+    let q3 = tables::emit(
+        records,
+        q2,
+        tables::made(2, tables::plus(p.scope.0, 1), 0, 0, 1),
+    );
     tables::emit(records, q3, tables::made(29, 0, p.context.0, p.error.0, 0))
 }
 
@@ -327,7 +331,11 @@ fn write_catch_clause(records: &mut [u16], q: Cursor, p: Parts) -> Cursor
 fn write_finally_block(records: &mut [u16], q: Cursor, p: Parts) -> Cursor
     ensures { λ o. ⌜ buf (now (records .exit)) o ≡ finallyBlockF p (buf (now (records .entry)) q) ⌝ }
 {
-    let q1 = tables::emit(records, q, tables::made(2, tables::plus(p.scope.0, 2), 0, 0, 1));
+    let q1 = tables::emit(
+        records,
+        q,
+        tables::made(2, tables::plus(p.scope.0, 2), 0, 0, 1),
+    );
     tables::emit(records, q1, tables::made(29, p.step, p.context.0, 0, 0))
 }
 

@@ -144,7 +144,7 @@ module _ (from to : ℕ) (z : List ℕ) (st : Store) (xs ys : List Symbol) (y : 
       let e = binding-ctx st (suc i) to in
       let n = ap (λ (x : Ctx). x .symbols) e in
       let c : setRow (st .symbols) (suc i) (inScope (symbolIn st (suc i)) to) ≡ (xs ++ new ∷ []) ++ ys =
-              rw (cut, getD-at xs y ys noSymbol i (sym before), set-at xs y ys new i (sym before), append-snoc xs new ys) in
+      rw (cut, getD-at xs y ys noSymbol i (sym before), set-at xs y ys new i (sym before), append-snoc xs new ys) in
       rw (← e) (rest (after true) (xs ++ new ∷ []) (suc i) c (omega (arith, length-append xs (new ∷ []))) (omega (arith, n)))
   rest-moved false rest =
       rest st (xs ++ y ∷ []) (suc i) (cut ∙ sym (append-snoc xs y ys)) (omega (arith, length-append xs (y ∷ []))) small

@@ -50,7 +50,7 @@ module _ (k r s : Forest) (h₂ : Head) (k₂ : Forest) where
   unfolding count
   behind-count q =
       let c : capped (count k) (suc (count r) - 1) ≡ count k + count r =
-          cap-sum (count k) (suc (count r) - 1) (omega arith) ∙ omega arith in
+      cap-sum (count k) (suc (count r) - 1) (omega arith) ∙ omega arith in
       rw c
       (cap-sum (count k + count r) (suc (count s)) (omega arith)
       ∙ omega (arith, count-& k (r & (s & one h₂ k₂)), count-& r (s & one h₂ k₂), count-& s (one h₂ k₂)))
@@ -109,9 +109,9 @@ module _ (z : List ℕ) (temp : ℕ) where
       let f = behind k r r₁ h₂ k₂ in
       let b = rowsOf (one h₂ k₂) in
       let e : rowsOf (one h (more h₁ k₁ (more h₂ k₂ rest))) ++ v
-          ≡ x₀ ∷ line h₁ (count k₁) ∷ line d (suc (count r)) ∷ line n (count k) ∷ (rowsOf f ++ w) =
-          sides-rows h h₁ k₁ h₂ k₂ rest v
-          ∙ ap (_∷_ x₀) (sym (append-assoc (rowsOf (one h₁ k₁)) b w) ∙ ap (λ (u : List Row). u ++ w) (behind-rows k r r₁ h₂ k₂ h₁ d n)) in
+      ≡ x₀ ∷ line h₁ (count k₁) ∷ line d (suc (count r)) ∷ line n (count k) ∷ (rowsOf f ++ w) =
+      sides-rows h h₁ k₁ h₂ k₂ rest v
+      ∙ ap (_∷_ x₀) (sym (append-assoc (rowsOf (one h₁ k₁)) b w) ∙ ap (λ (u : List Row). u ++ w) (behind-rows k r r₁ h₂ k₂ h₁ d n)) in
       ap (λ (u : List Row). leftRowsF temp (gapped z a g u)) e
       ∙ four-rows x₀ (line h₁ (count k₁)) (line d (suc (count r))) (line n (count k)) a g (rowsOf f ++ w) (omega arith)
       ∙ ap (copyF (gapped z (a ++ m) g (rowsOf f ++ w)))
@@ -192,7 +192,7 @@ module _ (z : List ℕ) (temp : ℕ) where
         let w = rowsOf k₃ ++ (rowsOf r ++ v) in
         let l = length-up in
         let e : leftRowsF temp (gapped z a 4 (rowsOf (one h children) ++ v)) ≡ gapped z upTo 4 (x ∷ w) =
-            left-rows-law h h₁ k₁ h₂ k₂ (more h₃ k₃ r) a 4 v s q ∙ ap (gapped z upTo 4) (next-rows h₃ k₃ r v) in
+        left-rows-law h h₁ k₁ h₂ k₂ (more h₃ k₃ r) a 4 v s q ∙ ap (gapped z upTo 4) (next-rows h₃ k₃ r v) in
         rw (e, next-gapped z upTo 4 x w, cap-count k₃ (omega arith), pass-as-gapped z upTo 4 x w x′ (omega arith))
         (ap (λ (b : Buf). b .t) (using-rows-law kind y (upTo ++ x′ ∷ []) 0 w (omega (arith, length-snoc upTo x′))) ∙ with-held h₃ k₃ w refl)
 

@@ -38,7 +38,7 @@ frame-law z p h k write m a g u v q s w =
     let a₂ = a₁ ++ rowsOf (contextOf p) in
     let l₂ : length a₂ ≡ length a + 6 = omega (arith, length-append a₁ (rowsOf (contextOf p)), context-length p) in
     let l₃ : length (a₂ ++ rowsOf (one h k)) ≡ length a₂ + size (one h k) =
-        omega (arith, length-append a₂ (rowsOf (one h k)), length-rows (one h k)) in
+    omega (arith, length-append a₂ (rowsOf (one h k)), length-rows (one h k)) in
     let inTry : Buf → Buf = λ b. handlersF p (write b) in
     ap (λ (n : ℕ). inTry (declareContextF p (openTryF (listScope p) 2 (gapped z a n u)))) (omega arith)
     ∙ ap (λ (b : Buf). inTry (declareContextF p b)) (open-try-law z (listScope p) 2 a (4 + (m + (6 + g))) u (omega arith))

@@ -46,7 +46,7 @@ module _ (z : List ℕ) where
       let a₁ = a ++ y ∷ [] in
       let l = length-snoc a y in
       let e : gapped z a (wraps k + (11 + g)) (rowsOf (one h k) ++ v) ≡ gapped z a (suc m) (x ∷ u) =
-          ap₂ (λ (i : ℕ) (w : List Row). gapped z a i (w ++ v)) (omega arith) (one-row h k) in
+      ap₂ (λ (i : ℕ) (w : List Row). gapped z a i (w ++ v)) (omega arith) (one-row h k) in
       rw (
         e,
         next-gapped z a (suc m) x u,

@@ -48,11 +48,11 @@ child-law cur hoist h k st l a =
     record {
       passes =
           λ z zs zy c g v room fits.
-            let m = childRows h k + g in
-            let u = rowsOf k ++ v in
-            rw (one-row h k, ap (λ (r : Row). r .tag) (next-gapped z c m x u))
-            (choose b (transformHandlerF cur hoist) (transformPartF cur hoist) _
-            ∙ (rw (one-row h k) at (p .passes z zs zy c g v room fits)));
+          let m = childRows h k + g in
+          let u = rowsOf k ++ v in
+          rw (one-row h k, ap (λ (r : Row). r .tag) (next-gapped z c m x u))
+          (choose b (transformHandlerF cur hoist) (transformPartF cur hoist) _
+          ∙ (rw (one-row h k) at (p .passes z zs zy c g v room fits)));
       longer = p .longer;
       later = p .later;
       agreed = p .agreed;

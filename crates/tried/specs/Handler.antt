@@ -155,21 +155,21 @@ module _ (cur hoist : ℕ) (h : Head) (k : Forest) (st : Store) (lacks : Lacks 1
       record {
         passes =
             λ z zs zy a g v room fits.
-              let m = partRows k + g in
-              let u = rowsOf k ++ v in
-              let a₁ = a ++ x ∷ [] in
-              let s₁ = length-snoc a x in
-              let zs₁ = freeScopes (newScopes st (parts .1)) zs in
-              let zy₁ = freeSymbols (newSymbols st (parts .1)) zy in
-              ap (transformHandlerF cur hoist) (rw (one-row h k, after-scopes, after-symbols))
-              ∙ handler-form cur hoist (passing z zs₁ zy₁ a m (x ∷ u) st) (passing z zs zy (a₁ ++ rowsOf f) g v (parts .1)) (count k)
-              (partRows k) (length a₁)
-              (n-gapped z a m x u)
-              (parts-planned z h k a m v (omega arith) (omega arith))
-              (place-below z a m (x ∷ u) x (omega arith))
-              (ap (λ (b : Buf). transformPartsF cur hoist (count k) (beside zs₁ zy₁ st b)) (pass-gapped z a m x u (omega arith))
-              ∙ p .passes z zs zy a₁ g v (omega (arith, after-scopes, after-symbols, after-contexts)) (omega arith))
-              ∙ names-moved z zs zy a g v (omega (arith, p .longer));
+            let m = partRows k + g in
+            let u = rowsOf k ++ v in
+            let a₁ = a ++ x ∷ [] in
+            let s₁ = length-snoc a x in
+            let zs₁ = freeScopes (newScopes st (parts .1)) zs in
+            let zy₁ = freeSymbols (newSymbols st (parts .1)) zy in
+            ap (transformHandlerF cur hoist) (rw (one-row h k, after-scopes, after-symbols))
+            ∙ handler-form cur hoist (passing z zs₁ zy₁ a m (x ∷ u) st) (passing z zs zy (a₁ ++ rowsOf f) g v (parts .1)) (count k)
+            (partRows k) (length a₁)
+            (n-gapped z a m x u)
+            (parts-planned z h k a m v (omega arith) (omega arith))
+            (place-below z a m (x ∷ u) x (omega arith))
+            (ap (λ (b : Buf). transformPartsF cur hoist (count k) (beside zs₁ zy₁ st b)) (pass-gapped z a m x u (omega arith))
+            ∙ p .passes z zs zy a₁ g v (omega (arith, after-scopes, after-symbols, after-contexts)) (omega arith))
+            ∙ names-moved z zs zy a g v (omega (arith, p .longer));
         longer = omega (arith, length-rows (one h f), p .longer);
         later = omega (arith, p .later, after-scopes, after-symbols, after-contexts);
         agreed = moved-agreed (anyPartUsing k) (namesIn k) (lastBlockScope f) (parts .1) (p .agreed);

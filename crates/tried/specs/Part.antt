@@ -96,13 +96,13 @@ module _ (cur hoist : ℕ) (h : Head) (k : Forest) (st : Store) where
       let s : newScopes st (e .1) ≡ 4 = omega (arith, part-grows .scopes) in
       let y : newSymbols st (e .1) ≡ 2 + oneIf (missing st) = omega (arith, part-grows .symbols, one-used (missing st)) in
       let old : columnF (gapped z a m (x ∷ u) .t) (gapped z a m (x ∷ u) .read) 1 ≡ h .a =
-          ap (λ (r : Row). r .a) (next-gapped z a m x u) in
+      ap (λ (r : Row). r .a) (next-gapped z a m x u) in
       let rows : wrappedRowsF (madeF 2 (listScope p) 0 0 1) (h .a) p (gapped z a m (x ∷ u)) ≡ gapped z (a ++ rowsOf (single (e .0))) g v =
-          ap₂ (λ (i : ℕ) (w : List Row). wrappedRowsF (madeF 2 (listScope p) 0 0 1) (h .a) p (gapped z a i (w ++ v)))
-          (omega arith)
-          (sym (one-row h k))
-          ∙ wrapped-rows-law z 2 (listScope p) h k (h .a) p a g v (omega arith) (part-room cur hoist h k st n room)
-          ∙ ap (λ (d : Node). gapped z (a ++ rowsOf (single d)) g v) (sym (part-node cur hoist h k st n refl)) in
+      ap₂ (λ (i : ℕ) (w : List Row). wrappedRowsF (madeF 2 (listScope p) 0 0 1) (h .a) p (gapped z a i (w ++ v)))
+      (omega arith)
+      (sym (one-row h k))
+      ∙ wrapped-rows-law z 2 (listScope p) h k (h .a) p a g v (omega arith) (part-room cur hoist h k st n room)
+      ∙ ap (λ (d : Node). gapped z (a ++ rowsOf (single d)) g v) (sym (part-node cur hoist h k st n refl)) in
       rw (s, y, old, part-held cur hoist h k st zs zy n ag room, rows)
 
   -- by whether it is a Block with a using
@@ -110,7 +110,7 @@ module _ (cur hoist : ℕ) (h : Head) (k : Forest) (st : Store) where
       → length a + ((if b then 12 + wraps k else 0) + g) + suc (size k) ≤ 65535
       → (let e = partIf b cur hoist h k st in
       let s = passing z (freeScopes (newScopes st (e .1)) zs) (freeSymbols (newSymbols st (e .1)) zy) a
-              ((if b then 12 + wraps k else 0) + g) (line h (count k) ∷ (rowsOf k ++ v)) st in
+      ((if b then 12 + wraps k else 0) + g) (line h (count k) ∷ (rowsOf k ++ v)) st in
       (if b then transformTryBlockF cur hoist (awaits k) s else partingF (copyF (s .buf) 1) (s .scopes) (s .symbols) (s .ctx))
       ≡ passing z zs zy (a ++ rowsOf (single (e .0))) g v (e .1))
   unfolding freeScopes freeSymbols size count
@@ -132,14 +132,14 @@ module _ (cur hoist : ℕ) (h : Head) (k : Forest) (st : Store) where
       record {
         passes =
             λ z zs zy a g v room fits.
-              let m = ownRows h k + g in
-              rw (
-                one-row h k,
-                next-gapped z a m (line h (count k)) (rowsOf k ++ v),
-                plan-gapped z h k a m v (omega arith),
-                ← any-usings k,
-              )
-              (part-by b z zs zy a g v ag room (omega arith));
+            let m = ownRows h k + g in
+            rw (
+              one-row h k,
+              next-gapped z a m (line h (count k)) (rowsOf k ++ v),
+              plan-gapped z h k a m v (omega arith),
+              ← any-usings k,
+            )
+            (part-by b z zs zy a g v ag room (omega arith));
         longer = omega (arith, length-rows (single (e .0)), size-if b);
         later = later-if b;
         agreed = agreed-if b ag;

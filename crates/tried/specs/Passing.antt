@@ -78,18 +78,18 @@ rewrites-then {f₁} {f₂} {m₁} {m₂} {w₁} {w₁′} {w₂} {w₂′} {st�
     record {
       passes =
           λ z zs zy a g v room fits.
-            ap (λ (x : PartingF). f₂ (f₁ x))
-            (rw (
-              s,
-              y,
-              scopes-more (newScopes st₁ st₂) (newScopes st₂ st₃) zs,
-              symbols-more (newSymbols st₁ st₂) (newSymbols st₂ st₃) zy,
-              add-assoc m₁ m₂ g,
-              append-assoc w₁ w₂ v,
-            ))
-            ∙ ap f₂ (p .passes z _ _ a (m₂ + g) (w₂ ++ v) (room-earlier st₂ st₃ (q .later) room) (omega arith))
-            ∙ q .passes z zs zy (a ++ w₁′) g v room (omega (arith, length-append a w₁′, p .longer))
-            ∙ rw (append-assoc a w₁′ w₂′);
+          ap (λ (x : PartingF). f₂ (f₁ x))
+          (rw (
+            s,
+            y,
+            scopes-more (newScopes st₁ st₂) (newScopes st₂ st₃) zs,
+            symbols-more (newSymbols st₁ st₂) (newSymbols st₂ st₃) zy,
+            add-assoc m₁ m₂ g,
+            append-assoc w₁ w₂ v,
+          ))
+          ∙ ap f₂ (p .passes z _ _ a (m₂ + g) (w₂ ++ v) (room-earlier st₂ st₃ (q .later) room) (omega arith))
+          ∙ q .passes z zs zy (a ++ w₁′) g v room (omega (arith, length-append a w₁′, p .longer))
+          ∙ rw (append-assoc a w₁′ w₂′);
       longer = omega (arith, length-append w₁′ w₂′, p .longer, q .longer);
       later = omega (arith, p .later, q .later);
       agreed = q .agreed;

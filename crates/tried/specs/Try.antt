@@ -100,7 +100,7 @@ module _ (done : Forest) (h : Head) (k r : Forest) (path : List Crumb) (st : Sto
         let l = length-snoc (before here g) (line h (count k)) in
         let m = start-room done h k r path st n g z fits in
         let rows : a₁ ++ rowsOf k′ ≡ before here g ++ rowsOf (one h k′) =
-            rw (one-row h k′, parts-count k cur hoist st) (simp append-assoc) in
+        rw (one-row h k′, parts-count k cur hoist st) (simp append-assoc) in
         let s : PartingF = passing (z .records) (tail .scopes) (tail .symbols) a₁ (n + 0) (rowsOf k ++ v) st in
         enter-form n (held here (n + g) tail) cur hoist (count k) s
         (passing (z .records) (z .scopes) (z .symbols) (a₁ ++ rowsOf k′) 0 v (after .1))

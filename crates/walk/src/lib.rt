@@ -15,7 +15,11 @@ fn plan_next(records: &[u16], w: Walk) -> Plan
 {
     let gap = w.gap;
     let n = tables::column(records, gap, 4);
-    statements::plan_list(records, statements::no_plan(RecordId(tables::plus(gap.0, 1))), n)
+    statements::plan_list(
+        records,
+        statements::no_plan(RecordId(tables::plus(gap.0, 1))),
+        n,
+    )
 }
 
 fn rewrite_program(records: &mut [u16], scopes: &mut [u16], symbols: &mut [u16], w: Walk) -> Walk

@@ -156,7 +156,14 @@ fn add(seen: Seen, right: bool) -> Seen {
     seen
 }
 
-fn holds_state(state: &[u8], len: usize, w: Walk, records: &[u16], scopes: &[u16], symbols: &[u16]) -> bool {
+fn holds_state(
+    state: &[u8],
+    len: usize,
+    w: Walk,
+    records: &[u16],
+    scopes: &[u16],
+    symbols: &[u16],
+) -> bool {
     if state.len() < len {
         return false;
     }
@@ -194,7 +201,16 @@ fn replay_file(fd: i32, file: &[u8], count: usize, state: &mut [u8], seen: Seen)
     let mut scopes = [0u16; 512];
     let mut symbols = [0u16; 1280];
     match start::start(file, &mut records, &mut scopes, &mut symbols) {
-        Started::Ready(w) => replay_states(fd, count, w, state, &mut records, &mut scopes, &mut symbols, seen),
+        Started::Ready(w) => replay_states(
+            fd,
+            count,
+            w,
+            state,
+            &mut records,
+            &mut scopes,
+            &mut symbols,
+            seen,
+        ),
         Started::Refused(_, _) => add(seen, false),
     }
 }

@@ -6,7 +6,7 @@ use Rattle.contexts.proofs.block_scope.Tie as tie
 
 returns : tie.Need-returns
 unfolding blockScopeF
-returns c = 
+returns c =
     let at-if-block = c in
     let at-end-after = at-if-block .before in
     let at-row-after = at-end-after .before in

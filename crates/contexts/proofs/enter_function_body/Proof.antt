@@ -5,23 +5,23 @@ use Rattle.contexts.proofs.enter_function_body.Statement.{statement}
 use Rattle.contexts.proofs.enter_function_body.Tie as tie
 
 same-length : tie.Need-same-length
-same-length c = 
+same-length c =
     let at-write-wrapped = c .before .before .before in
     at-write-wrapped .write-wrapped .kept .0
 
 same-length-2 : tie.Need-same-length-2
-same-length-2 c = 
+same-length-2 c =
     let at-for-body = c .before .before .before .before .before .before .before .before .before .before .before .before .before .before in
     at-for-body .for-body .kept .1 .0
 
 same-length-3 : tie.Need-same-length-3
-same-length-3 c = 
+same-length-3 c =
     let at-for-body = c .before .before .before .before .before .before .before .before .before .before .before .before .before .before in
     at-for-body .for-body .kept .1 .1 .0
 
 returns : tie.Need-returns
 unfolding enterFunctionBodyF
-returns c = 
+returns c =
     let at-with-ctx = c in
     let at-write-wrapped = at-with-ctx .before .before .before in
     let at-list-scope = at-write-wrapped .before in

@@ -6,24 +6,24 @@ use Rattle.contexts.proofs.enter_try_statement.Statement.{statement}
 use Rattle.contexts.proofs.enter_try_statement.Tie as tie
 
 same-length : tie.Need-same-length
-same-length c = 
+same-length c =
     let at-transform-children = c .before .before .before .before .before .before .before in
     let at-pass = at-transform-children .before .before .before .before .before .before .before in
     at-transform-children .transform-children .kept .0 ∙ at-pass .pass .kept .0
 
 same-length-2 : tie.Need-same-length-2
-same-length-2 c = 
+same-length-2 c =
     let at-transform-children = c .before .before .before .before .before .before .before in
     at-transform-children .transform-children .kept .1 .0
 
 same-length-3 : tie.Need-same-length-3
-same-length-3 c = 
+same-length-3 c =
     let at-transform-children = c .before .before .before .before .before .before .before in
     at-transform-children .transform-children .kept .1 .1 .0
 
 returns : tie.Need-returns
 unfolding enterTryStatementF
-returns c = 
+returns c =
     let at-with-ctx = c in
     let at-transform-children = at-with-ctx .before .before .before .before .before .before .before in
     let at-pass = at-transform-children .before .before .before .before .before .before .before in

@@ -5,23 +5,23 @@ use Rattle.contexts.proofs.exit_static_block.Statement.{statement}
 use Rattle.contexts.proofs.exit_static_block.Tie as tie
 
 same-length : tie.Need-same-length
-same-length c = 
+same-length c =
     let at-write-wrapped = c .before .before .before .before in
     at-write-wrapped .write-wrapped .kept .0
 
 same-length-2 : tie.Need-same-length-2
-same-length-2 c = 
+same-length-2 c =
     let at-for-static-block = c .before .before .before .before .before .before .before .before .before .before .before .before in
     at-for-static-block .for-static-block .kept .0
 
 same-length-3 : tie.Need-same-length-3
-same-length-3 c = 
+same-length-3 c =
     let at-for-static-block = c .before .before .before .before .before .before .before .before .before .before .before .before in
     at-for-static-block .for-static-block .kept .1 .0
 
 returns : tie.Need-returns
 unfolding exitStaticBlockF
-returns c = 
+returns c =
     let at-with-ctx = c in
     let at-with-cursor = at-with-ctx .before in
     let at-write-wrapped = at-with-cursor .before .before .before in

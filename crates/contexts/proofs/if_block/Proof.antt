@@ -7,13 +7,13 @@ use Rattle.contexts.proofs.if_block.Tie as tie
 
 returns : tie.Need-returns
 unfolding ifBlockF
-returns c = 
+returns c =
     let at-if1 = c in
     rw (eq-eqb _ _ (at-if1 .if1 .taken))
 
 returns-2 : tie.Need-returns-2
 unfolding ifBlockF
-returns-2 c = 
+returns-2 c =
     let at-if1 = c in
     rw (ne-eqb _ _ (at-if1 .if1 .left))
 

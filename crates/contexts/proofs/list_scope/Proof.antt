@@ -4,7 +4,7 @@ use Rattle.contexts.proofs.list_scope.Statement.{statement}
 use Rattle.contexts.proofs.list_scope.Tie as tie
 
 returns : tie.Need-returns
-returns c = 
+returns c =
     let at-minus = c in
     at-minus .minus .ensures
 

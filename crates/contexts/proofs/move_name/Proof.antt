@@ -6,13 +6,13 @@ use Rattle.contexts.proofs.move_name.Statement.{statement}
 use Rattle.contexts.proofs.move_name.Tie as tie
 
 same-length : tie.Need-same-length
-same-length c = 
+same-length c =
     let at-move-binding = c .before .before in
     at-move-binding .move-binding .kept .0
 
 returns : tie.Need-returns
 unfolding moveNameF
-returns c = 
+returns c =
     let at-move-binding = c .before .before in
     let at-if1 = at-move-binding .before .before in
     let at-end-after = at-if1 .before .before in
@@ -21,7 +21,7 @@ returns c =
 
 returns-2 : tie.Need-returns-2
 unfolding moveNameF
-returns-2 c = 
+returns-2 c =
     let at-if1 = c in
     let at-end-after = at-if1 .before .before in
     let at-row-after = at-end-after .before in

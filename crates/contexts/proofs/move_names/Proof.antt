@@ -21,16 +21,18 @@ loop-holds : tie.Need-loop-holds Inv-loop μ-loop
 loop-holds c = (search needs, refl, rw sub-zero)
 
 loop-again : tie.Need-loop-again Inv-loop μ-loop
-loop-again c = 
+loop-again c =
     let at-move-name = c .before .before in
     let at-loop-test = at-move-name .before .before in
-    let at-loop = at-loop-test .before in
-    (search needs, at-move-name .move-name .kept .1 .0 ∙ at-loop .loop .inv .1,
-    rw (at-move-name .move-name .ensures) (next-turn _ _ _ _ _ (at-loop .loop .inv .2) (at-loop-test .loop-test .taken)))
+    let at-loop = at-loop-test .before in (
+      search needs,
+      at-move-name .move-name .kept .1 .0 ∙ at-loop .loop .inv .1,
+      rw (at-move-name .move-name .ensures) (next-turn _ _ _ _ _ (at-loop .loop .inv .2) (at-loop-test .loop-test .taken)),
+    )
 
 returns : tie.Need-returns Inv-loop μ-loop
 unfolding moveNamesF
-returns c = 
+returns c =
     let at-loop-test = c in
     let at-loop = at-loop-test .before in
     ap (λ (s : Naming). s .t) (last-turn _ _ _ _ _ (at-loop .loop .inv .2) (at-loop-test .loop-test .left))

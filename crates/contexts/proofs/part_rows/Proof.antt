@@ -6,7 +6,7 @@ use Rattle.contexts.proofs.part_rows.Tie as tie
 
 returns : tie.Need-returns
 unfolding partRowsF
-returns c = 
+returns c =
     let at-plus = c in
     let at-if1 = at-plus .before in
     let at-is-part = at-if1 .before in
@@ -14,7 +14,7 @@ returns c =
 
 returns-2 : tie.Need-returns-2
 unfolding partRowsF
-returns-2 c = 
+returns-2 c =
     let at-if1 = c in
     let at-is-part = at-if1 .before in
     rw (← at-is-part .is-part .ensures, at-if1 .if1 .left)

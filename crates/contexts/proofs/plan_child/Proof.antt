@@ -7,7 +7,7 @@ use Rattle.contexts.proofs.plan_child.Tie as tie
 
 returns : tie.Need-returns
 unfolding planChildF
-returns c = 
+returns c =
     let at-plus2 = c in
     let at-end-after = at-plus2 .before in
     let at-plan-parts = at-end-after .before in
@@ -18,7 +18,7 @@ returns c =
 
 returns-2 : tie.Need-returns-2
 unfolding planChildF
-returns-2 c = 
+returns-2 c =
     let at-plan-part = c in
     let at-if1 = at-plan-part .before in
     let at-row-after = at-if1 .before .before in

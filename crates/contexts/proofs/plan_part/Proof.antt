@@ -6,7 +6,7 @@ use Rattle.contexts.proofs.plan_part.Tie as tie
 
 returns : tie.Need-returns
 unfolding planPartF
-returns c = 
+returns c =
     let at-plus2 = c in
     let at-part-rows = at-plus2 .before in
     let at-end-after = at-part-rows .before in

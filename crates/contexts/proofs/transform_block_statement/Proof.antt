@@ -5,23 +5,23 @@ use Rattle.contexts.proofs.transform_block_statement.Statement.{stateme
 use Rattle.contexts.proofs.transform_block_statement.Tie as tie
 
 same-length : tie.Need-same-length
-same-length c = 
+same-length c =
     let at-write-block = c .before .before .before in
     at-write-block .write-block .kept .0
 
 same-length-2 : tie.Need-same-length-2
-same-length-2 c = 
+same-length-2 c =
     let at-for-block = c .before .before .before .before .before .before .before .before .before .before .before .before .before in
     at-for-block .for-block .kept .0
 
 same-length-3 : tie.Need-same-length-3
-same-length-3 c = 
+same-length-3 c =
     let at-for-block = c .before .before .before .before .before .before .before .before .before .before .before .before .before in
     at-for-block .for-block .kept .1 .0
 
 returns : tie.Need-returns
 unfolding transformBlockStatementF
-returns c = 
+returns c =
     let at-with-ctx = c in
     let at-write-block = at-with-ctx .before .before .before in
     let at-charge = at-write-block .before .before .before in

@@ -6,46 +6,46 @@ use Rattle.contexts.proofs.transform_child.Statement.{statement}
 use Rattle.contexts.proofs.transform_child.Tie as tie
 
 same-length : tie.Need-same-length
-same-length c = 
+same-length c =
     let at-transform-handler = c .before .before .before .before .before .before in
     at-transform-handler .transform-handler .kept .0
 
 same-length-2 : tie.Need-same-length-2
-same-length-2 c = 
+same-length-2 c =
     let at-transform-handler = c .before .before .before .before .before .before in
     at-transform-handler .transform-handler .kept .1 .0
 
 same-length-3 : tie.Need-same-length-3
-same-length-3 c = 
+same-length-3 c =
     let at-transform-handler = c .before .before .before .before .before .before in
     at-transform-handler .transform-handler .kept .1 .1 .0
 
 returns : tie.Need-returns
 unfolding transformChildF
-returns c = 
+returns c =
     let at-transform-handler = c .before .before .before .before .before .before in
     let at-if1 = at-transform-handler .before .before .before .before in
     let at-column = at-if1 .before in
     rw (← at-column .column .ensures, eq-eqb _ _ (at-if1 .if1 .taken), ← at-transform-handler .transform-handler .ensures)
 
 same-length-4 : tie.Need-same-length-4
-same-length-4 c = 
+same-length-4 c =
     let at-transform-part = c .before .before .before .before .before .before in
     at-transform-part .transform-part .kept .0
 
 same-length-5 : tie.Need-same-length-5
-same-length-5 c = 
+same-length-5 c =
     let at-transform-part = c .before .before .before .before .before .before in
     at-transform-part .transform-part .kept .1 .0
 
 same-length-6 : tie.Need-same-length-6
-same-length-6 c = 
+same-length-6 c =
     let at-transform-part = c .before .before .before .before .before .before in
     at-transform-part .transform-part .kept .1 .1 .0
 
 returns-2 : tie.Need-returns-2
 unfolding transformChildF
-returns-2 c = 
+returns-2 c =
     let at-transform-part = c .before .before .before .before .before .before in
     let at-if1 = at-transform-part .before .before .before .before in
     let at-column = at-if1 .before in

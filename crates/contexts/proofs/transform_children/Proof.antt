@@ -22,16 +22,20 @@ loop-holds : tie.Need-loop-holds Inv-loop μ-loop
 loop-holds c = (search needs, refl, refl, refl, rw sub-zero)
 
 loop-again : tie.Need-loop-again Inv-loop μ-loop
-loop-again c = 
+loop-again c =
     let at-transform-child = c .before .before .before .before .before .before in
     let at-loop-test = at-transform-child .before .before .before .before in
-    let at-loop = at-loop-test .before in
-    (search needs, at-transform-child .transform-child .kept .0 ∙ at-loop .loop .inv .1, at-transform-child .transform-child .kept .1 .0 ∙ at-loop .loop .inv .2, at-transform-child .transform-child .kept .1 .1 .0 ∙ at-loop .loop .inv .3,
-    rw (at-transform-child .transform-child .ensures) (next-turn _ _ _ _ _ (at-loop .loop .inv .4) (at-loop-test .loop-test .taken)))
+    let at-loop = at-loop-test .before in (
+      search needs,
+      at-transform-child .transform-child .kept .0 ∙ at-loop .loop .inv .1,
+      at-transform-child .transform-child .kept .1 .0 ∙ at-loop .loop .inv .2,
+      at-transform-child .transform-child .kept .1 .1 .0 ∙ at-loop .loop .inv .3,
+      rw (at-transform-child .transform-child .ensures) (next-turn _ _ _ _ _ (at-loop .loop .inv .4) (at-loop-test .loop-test .taken)),
+    )
 
 returns : tie.Need-returns Inv-loop μ-loop
 unfolding transformChildrenF
-returns c = 
+returns c =
     let at-loop-test = c in
     let at-loop = at-loop-test .before in
     last-turn _ _ _ _ _ (at-loop .loop .inv .4) (at-loop-test .loop-test .left)

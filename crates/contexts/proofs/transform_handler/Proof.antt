@@ -7,24 +7,24 @@ use Rattle.contexts.proofs.transform_handler.Statement.{statement}
 use Rattle.contexts.proofs.transform_handler.Tie as tie
 
 same-length : tie.Need-same-length
-same-length c = 
+same-length c =
     let at-transform-parts = c .before .before .before .before .before .before .before in
     let at-pass = at-transform-parts .before .before .before .before .before .before .before in
     at-transform-parts .transform-parts .kept .0 ∙ at-pass .pass .kept .0
 
 same-length-2 : tie.Need-same-length-2
-same-length-2 c = 
+same-length-2 c =
     let at-transform-parts = c .before .before .before .before .before .before .before in
     at-transform-parts .transform-parts .kept .1 .0
 
 same-length-3 : tie.Need-same-length-3
-same-length-3 c = 
+same-length-3 c =
     let at-transform-parts = c .before .before .before .before .before .before .before in
     at-transform-parts .transform-parts .kept .1 .1 .0
 
 returns : tie.Need-returns
 unfolding transformHandlerF
-returns c = 
+returns c =
     let at-if1 = c in
     let at-transform-parts = at-if1 .before .before .before .before .before .before .before in
     let at-pass = at-transform-parts .before .before .before .before .before .before .before in
@@ -34,25 +34,25 @@ returns c =
     rw (← at-column .column .ensures, ← at-plus .plus .ensures, ← at-plan-parts .plan-parts .ensures, ← at-pass .pass .ensures, ← at-transform-parts .transform-parts .ensures, eq-eqb _ _ (at-if1 .if1 .taken))
 
 same-length-4 : tie.Need-same-length-4
-same-length-4 c = 
+same-length-4 c =
     let at-transform-parts = c .before .before .before .before .before .before .before .before .before .before .before .before .before .before in
     let at-pass = at-transform-parts .before .before .before .before .before .before .before in
     at-transform-parts .transform-parts .kept .0 ∙ at-pass .pass .kept .0
 
 same-length-5 : tie.Need-same-length-5
-same-length-5 c = 
+same-length-5 c =
     let at-transform-parts = c .before .before .before .before .before .before .before .before .before .before .before .before .before .before in
     at-transform-parts .transform-parts .kept .1 .0
 
 same-length-6 : tie.Need-same-length-6
-same-length-6 c = 
+same-length-6 c =
     let at-move-names = c .before .before in
     let at-transform-parts = at-move-names .before .before .before .before .before .before .before .before .before .before .before .before in
     at-move-names .move-names .kept .1 .0 ∙ at-transform-parts .transform-parts .kept .1 .1 .0
 
 returns-2 : tie.Need-returns-2
 unfolding transformHandlerF
-returns-2 c = 
+returns-2 c =
     let at-move-names = c .before .before in
     let at-last-block-scope = at-move-names .before in
     let at-plus2 = at-last-block-scope .before .before .before in

@@ -5,23 +5,23 @@ use Rattle.contexts.proofs.transform_part.Statement.{statement}
 use Rattle.contexts.proofs.transform_part.Tie as tie
 
 same-length : tie.Need-same-length
-same-length c = 
+same-length c =
     let at-transform-try-block = c .before .before .before .before .before .before in
     at-transform-try-block .transform-try-block .kept .0
 
 same-length-2 : tie.Need-same-length-2
-same-length-2 c = 
+same-length-2 c =
     let at-transform-try-block = c .before .before .before .before .before .before in
     at-transform-try-block .transform-try-block .kept .1 .0
 
 same-length-3 : tie.Need-same-length-3
-same-length-3 c = 
+same-length-3 c =
     let at-transform-try-block = c .before .before .before .before .before .before in
     at-transform-try-block .transform-try-block .kept .1 .1 .0
 
 returns : tie.Need-returns
 unfolding transformPartF
-returns c = 
+returns c =
     let at-transform-try-block = c .before .before .before .before .before .before in
     let at-if1 = at-transform-try-block .before .before .before .before in
     let at-is-part = at-if1 .before in
@@ -32,13 +32,13 @@ returns c =
     rw (← at-row-after .row-after .ensures, ← at-plus .plus .ensures, ← at-no-plan .no-plan .ensures, ← at-plan-list .plan-list .ensures, ← at-is-part .is-part .ensures, at-if1 .if1 .taken, ← at-transform-try-block .transform-try-block .ensures)
 
 same-length-4 : tie.Need-same-length-4
-same-length-4 c = 
+same-length-4 c =
     let at-copy = c .before .before .before in
     at-copy .copy .kept .0
 
 returns-2 : tie.Need-returns-2
 unfolding transformPartF
-returns-2 c = 
+returns-2 c =
     let at-copy = c .before .before .before in
     let at-if1 = at-copy .before .before in
     let at-is-part = at-if1 .before in

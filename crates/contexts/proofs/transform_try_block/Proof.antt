@@ -5,23 +5,23 @@ use Rattle.contexts.proofs.transform_try_block.Statement.{statement}
 use Rattle.contexts.proofs.transform_try_block.Tie as tie
 
 same-length : tie.Need-same-length
-same-length c = 
+same-length c =
     let at-write-wrapped = c .before .before .before in
     at-write-wrapped .write-wrapped .kept .0
 
 same-length-2 : tie.Need-same-length-2
-same-length-2 c = 
+same-length-2 c =
     let at-for-try-part = c .before .before .before .before .before .before .before .before .before .before .before in
     at-for-try-part .for-try-part .kept .0
 
 same-length-3 : tie.Need-same-length-3
-same-length-3 c = 
+same-length-3 c =
     let at-for-try-part = c .before .before .before .before .before .before .before .before .before .before .before in
     at-for-try-part .for-try-part .kept .1 .0
 
 returns : tie.Need-returns
 unfolding transformTryBlockF
-returns c = 
+returns c =
     let at-write-wrapped = c .before .before .before in
     let at-made = at-write-wrapped .before in
     let at-list-scope = at-made .before .before in

@@ -6,7 +6,7 @@ use Rattle.contexts.proofs.write_block.Statement.{statement}
 use Rattle.contexts.proofs.write_block.Tie as tie
 
 same-length : tie.Need-same-length
-same-length c = 
+same-length c =
     let at-transform-list = c .before .before in
     let at-pass-as = at-transform-list .before .before .before .before in
     let at-emit = at-pass-as .before .before .before .before .before .before in
@@ -14,7 +14,7 @@ same-length c =
 
 returns : tie.Need-returns
 unfolding blockRowsF
-returns c = 
+returns c =
     let at-transform-list = c .before .before in
     let at-pass-as = at-transform-list .before .before .before .before in
     let at-made2 = at-pass-as .before in

@@ -6,7 +6,7 @@ use Rattle.contexts.proofs.write_wrapped.Statement.{statement}
 use Rattle.contexts.proofs.write_wrapped.Tie as tie
 
 same-length : tie.Need-same-length
-same-length c = 
+same-length c =
     let at-transform-list = c .before .before in
     let at-open-try = at-transform-list .before .before .before .before in
     let at-pass-as = at-open-try .before .before .before .before .before in
@@ -14,7 +14,7 @@ same-length c =
 
 returns : tie.Need-returns
 unfolding wrappedRowsF
-returns c = 
+returns c =
     let at-transform-list = c .before .before in
     let at-open-try = at-transform-list .before .before .before .before in
     let at-plus = at-open-try .before in

@@ -6,19 +6,19 @@ use Rattle.creation.proofs.create_try_stmt.Statement.{statement}
 use Rattle.creation.proofs.create_try_stmt.Tie as tie
 
 same-length : tie.Need-same-length
-same-length c = 
+same-length c =
     let at-create-child-scope = c .before .before in
     let at-create-catch-clause = at-create-child-scope .before .before .before .before .before .before .before .before in
     at-create-child-scope .create-child-scope .kept .0 ∙ at-create-catch-clause .create-catch-clause .kept .0
 
 same-length-2 : tie.Need-same-length-2
-same-length-2 c = 
+same-length-2 c =
     let at-create-catch-clause = c .before .before .before .before .before .before .before .before .before .before in
     at-create-catch-clause .create-catch-clause .kept .1 .0
 
 returns : tie.Need-returns
 unfolding createTryStmtF
-returns c = 
+returns c =
     let at-create-child-scope = c .before .before in
     let at-step-form = at-create-child-scope .before .before in
     let at-plus = at-step-form .before in

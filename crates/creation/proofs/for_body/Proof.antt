@@ -6,13 +6,13 @@ use Rattle.creation.proofs.for_body.Statement.{statement}
 use Rattle.creation.proofs.for_body.Tie as tie
 
 same-length : tie.Need-same-length
-same-length c = 
+same-length c =
     let at-create-try-stmt = c .before .before .before .before in
     let at-insert-scope-below = at-create-try-stmt .before .before .before .before .before .before .before .before .before .before in
     at-create-try-stmt .create-try-stmt .kept .0 ∙ at-insert-scope-below .insert-scope-below .kept .1 .0
 
 same-length-2 : tie.Need-same-length-2
-same-length-2 c = 
+same-length-2 c =
     let at-create-try-stmt = c .before .before .before .before in
     let at-move-block-scoped = at-create-try-stmt .before .before .before .before .before .before in
     let at-transform-statements = at-move-block-scoped .before .before .before .before .before .before .before .before in
@@ -20,7 +20,7 @@ same-length-2 c =
 
 returns : tie.Need-returns
 unfolding forBodyF
-returns c = 
+returns c =
     let at-create-try-stmt = c .before .before .before .before in
     let at-with-ctx = at-create-try-stmt .before in
     let at-move-block-scoped = at-with-ctx .before .before .before .before .before in

@@ -6,13 +6,13 @@ use Rattle.creation.proofs.for_loop.Statement.{statement}
 use Rattle.creation.proofs.for_loop.Tie as tie
 
 same-length : tie.Need-same-length
-same-length c = 
+same-length c =
     let at-create-try-stmt = c .before .before .before .before in
     let at-insert-scope-below = at-create-try-stmt .before .before .before .before .before .before .before .before .before .before in
     at-create-try-stmt .create-try-stmt .kept .0 ∙ at-insert-scope-below .insert-scope-below .kept .1 .0
 
 same-length-2 : tie.Need-same-length-2
-same-length-2 c = 
+same-length-2 c =
     let at-create-try-stmt = c .before .before .before .before in
     let at-load-context = at-create-try-stmt .before .before .before .before .before in
     let at-make-context = at-load-context .before .before .before .before .before .before .before .before .before in
@@ -20,7 +20,7 @@ same-length-2 c =
 
 returns : tie.Need-returns
 unfolding forLoopF
-returns c = 
+returns c =
     let at-create-try-stmt = c .before .before .before .before in
     let at-load-context = at-create-try-stmt .before .before .before .before .before in
     let at-insert-scope-below = at-load-context .before .before .before .before .before in

@@ -6,14 +6,14 @@ use Rattle.creation.proofs.for_static_block.Statement.{statement}
 use Rattle.creation.proofs.for_static_block.Tie as tie
 
 same-length : tie.Need-same-length
-same-length c = 
+same-length c =
     let at-create-try-stmt = c .before .before .before .before in
     let at-set-scope-flags = at-create-try-stmt .before .before .before .before .before .before in
     let at-insert-scope-between = at-set-scope-flags .before .before .before .before .before .before .before .before in
     at-create-try-stmt .create-try-stmt .kept .0 ∙ at-set-scope-flags .set-scope-flags .kept .0 ∙ at-insert-scope-between .insert-scope-between .kept .0
 
 same-length-2 : tie.Need-same-length-2
-same-length-2 c = 
+same-length-2 c =
     let at-create-try-stmt = c .before .before .before .before in
     let at-move-binding = at-create-try-stmt .before .before .before .before .before .before .before .before .before .before in
     let at-transform-statements = at-move-binding .before .before .before .before .before .before .before .before in
@@ -21,7 +21,7 @@ same-length-2 c =
 
 returns : tie.Need-returns
 unfolding forStaticBlockF
-returns c = 
+returns c =
     let at-create-try-stmt = c .before .before .before .before in
     let at-with-ctx = at-create-try-stmt .before in
     let at-set-scope-flags = at-with-ctx .before .before .before .before .before in

@@ -6,14 +6,14 @@ use Rattle.creation.proofs.for_switch.Statement.{statement}
 use Rattle.creation.proofs.for_switch.Tie as tie
 
 same-length : tie.Need-same-length
-same-length c = 
+same-length c =
     let at-create-try-stmt = c .before .before .before .before in
     let at-change-scope-parent = at-create-try-stmt .before .before .before .before .before .before .before .before .before .before in
     let at-create-child-scope = at-change-scope-parent .before .before .before .before in
     at-create-try-stmt .create-try-stmt .kept .0 ∙ at-change-scope-parent .change-scope-parent .kept .0 ∙ at-create-child-scope .create-child-scope .kept .0
 
 same-length-2 : tie.Need-same-length-2
-same-length-2 c = 
+same-length-2 c =
     let at-create-try-stmt = c .before .before .before .before in
     let at-load-context = at-create-try-stmt .before .before .before .before .before in
     let at-make-context = at-load-context .before .before .before .before .before .before .before .before .before .before .before .before .before in
@@ -21,7 +21,7 @@ same-length-2 c =
 
 returns : tie.Need-returns
 unfolding forSwitchF
-returns c = 
+returns c =
     let at-create-try-stmt = c .before .before .before .before in
     let at-load-context = at-create-try-stmt .before .before .before .before .before in
     let at-change-scope-parent = at-load-context .before .before .before .before .before in

@@ -6,13 +6,13 @@ use Rattle.creation.proofs.for_try_part.Statement.{statement}
 use Rattle.creation.proofs.for_try_part.Tie as tie
 
 same-length : tie.Need-same-length
-same-length c = 
+same-length c =
     let at-create-try-stmt = c .before .before .before .before .before .before .before .before in
     let at-insert-scope-between = at-create-try-stmt .before .before .before .before .before .before in
     at-create-try-stmt .create-try-stmt .kept .0 ∙ at-insert-scope-between .insert-scope-between .kept .0
 
 same-length-2 : tie.Need-same-length-2
-same-length-2 c = 
+same-length-2 c =
     let at-move-binding = c .before .before in
     let at-create-try-stmt = at-move-binding .before .before .before .before .before .before in
     let at-transform-statements = at-create-try-stmt .before .before .before .before .before .before .before .before .before .before in
@@ -20,7 +20,7 @@ same-length-2 c =
 
 returns : tie.Need-returns
 unfolding forTryPartF
-returns c = 
+returns c =
     let at-move-binding = c .before .before in
     let at-create-try-stmt = at-move-binding .before .before .before .before .before .before in
     let at-with-ctx = at-create-try-stmt .before in

@@ -6,14 +6,14 @@ use Rattle.creation.proofs.insert_scope_below.Statement.{statement}
 use Rattle.creation.proofs.insert_scope_below.Tie as tie
 
 same-length : tie.Need-same-length
-same-length c = 
+same-length c =
     let at-move-scopes = c .before .before in
     let at-create-child-scope = at-move-scopes .before .before .before .before in
     at-move-scopes .move-scopes .kept .1 .0 ∙ at-create-child-scope .create-child-scope .kept .0
 
 returns : tie.Need-returns
 unfolding insertScopeBelowF
-returns c = 
+returns c =
     let at-move-scopes = c .before .before in
     let at-create-child-scope = at-move-scopes .before .before .before .before in
     rw (← at-create-child-scope .create-child-scope .ensures, ← at-move-scopes .move-scopes .ensures)

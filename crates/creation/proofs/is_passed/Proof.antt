@@ -7,13 +7,13 @@ use Rattle.creation.proofs.is_passed.Tie as tie
 
 returns : tie.Need-returns
 unfolding isPassedF
-returns c = 
+returns c =
     let at-if1 = c in
     rw (ne-eqb _ _ (at-if1 .if1 .taken))
 
 returns-2 : tie.Need-returns-2
 unfolding isPassedF
-returns-2 c = 
+returns-2 c =
     let at-if1 = c .before in
     rw (eq-eqb _ _ (at-if1 .if1 .left))
 

@@ -5,13 +5,13 @@ use Rattle.creation.proofs.load_context.Statement.{statement}
 use Rattle.creation.proofs.load_context.Tie as tie
 
 same-length : tie.Need-same-length
-same-length c = 
+same-length c =
     let at-helper-load = c .before .before .before .before in
     at-helper-load .helper-load .kept .1 .0
 
 returns : tie.Need-returns
 unfolding loadContextF
-returns c = 
+returns c =
     let at-helper-load = c .before .before .before .before in
     rw (← at-helper-load .helper-load .ensures)
 

@@ -5,13 +5,13 @@ use Rattle.creation.proofs.make_context.Statement.{statement}
 use Rattle.creation.proofs.make_context.Tie as tie
 
 same-length : tie.Need-same-length
-same-length c = 
+same-length c =
     let at-create-symbol = c .before .before .before in
     at-create-symbol .create-symbol .kept .0
 
 returns : tie.Need-returns
 unfolding makeContextF
-returns c = 
+returns c =
     let at-new-context = c in
     let at-create-symbol = at-new-context .before .before .before in
     rw (← at-create-symbol .create-symbol .ensures, ← at-new-context .new-context .ensures)

@@ -7,7 +7,7 @@ use Rattle.creation.proofs.move_scope.Tie as tie
 
 returns : tie.Need-returns
 unfolding moveScopeF
-returns c = 
+returns c =
     let at-plus2 = c in
     let at-minus = at-plus2 .before in
     let at-if1 = at-minus .before in
@@ -17,7 +17,7 @@ returns c =
 
 returns-2 : tie.Need-returns-2
 unfolding moveScopeF
-returns-2 c = 
+returns-2 c =
     let at-plus3 = c in
     let at-if2 = at-plus3 .before in
     let at-scope-of = at-if2 .before .before in
@@ -28,13 +28,13 @@ returns-2 c =
     rw (← at-row-after .row-after .ensures, ← at-plus .plus .ensures, eq-eqb _ _ (at-if1 .if1 .left), ← at-minus2 .minus2 .ensures, ← at-scope-of .scope-of .ensures, eq-eqb _ _ (at-if2 .if2 .taken), ← at-plus3 .plus3 .ensures)
 
 same-length : tie.Need-same-length
-same-length c = 
+same-length c =
     let at-change-scope-parent = c .before .before in
     at-change-scope-parent .change-scope-parent .kept .0
 
 returns-3 : tie.Need-returns-3
 unfolding moveScopeF
-returns-3 c = 
+returns-3 c =
     let at-change-scope-parent = c .before .before in
     let at-if2 = at-change-scope-parent .before .before in
     let at-scope-of = at-if2 .before .before in

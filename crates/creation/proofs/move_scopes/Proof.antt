@@ -23,25 +23,27 @@ loop-holds c = (search needs, refl, rw sub-zero)
 
 loop-again : tie.Need-loop-again Inv-loop μ-loop
 unfolding isPassedF
-loop-again c = 
+loop-again c =
     let at-move-scope = c .before .before in
     let at-if1 = at-move-scope .before .before in
     let at-is-passed = at-if1 .before in
     let at-loop-test = at-is-passed .before in
-    let at-loop = at-loop-test .before in
-    (search needs, at-move-scope .move-scope .kept .1 .0 ∙ at-loop .loop .inv .1,
-    rw (at-move-scope .move-scope .ensures) (go-on _ _ _ _ _ _ (at-loop .loop .inv .2) (at-loop-test .loop-test .taken) (sym (at-is-passed .is-passed .ensures) ∙ at-if1 .if1 .left)))
+    let at-loop = at-loop-test .before in (
+      search needs,
+      at-move-scope .move-scope .kept .1 .0 ∙ at-loop .loop .inv .1,
+      rw (at-move-scope .move-scope .ensures) (go-on _ _ _ _ _ _ (at-loop .loop .inv .2) (at-loop-test .loop-test .taken) (sym (at-is-passed .is-passed .ensures) ∙ at-if1 .if1 .left)),
+    )
 
 returns : tie.Need-returns Inv-loop μ-loop
 unfolding moveScopesF
-returns c = 
+returns c =
     let at-loop-test = c in
     let at-loop = at-loop-test .before in
     ap (λ (p : PassingF). p .t) (run-out _ _ _ _ _ _ (at-loop .loop .inv .2) (at-loop-test .loop-test .left))
 
 returns-2 : tie.Need-returns-2 Inv-loop μ-loop
 unfolding moveScopesF isPassedF
-returns-2 c = 
+returns-2 c =
     let at-if1 = c in
     let at-is-passed = at-if1 .before in
     let at-loop = at-is-passed .before .before in

@@ -6,14 +6,14 @@ use Rattle.creation.proofs.transform_statements.Statement.{statement}
 use Rattle.creation.proofs.transform_statements.Tie as tie
 
 same-length : tie.Need-same-length
-same-length c = 
+same-length c =
     let at-load-context = c .before .before in
     let at-make-context = at-load-context .before .before .before .before in
     at-load-context .load-context .kept .1 .0 ∙ at-make-context .make-context .kept .0
 
 returns : tie.Need-returns
 unfolding transformStatementsF
-returns c = 
+returns c =
     let at-load-context = c .before .before in
     let at-make-context = at-load-context .before .before .before .before in
     rw (← at-make-context .make-context .ensures, ← at-load-context .load-context .ensures)

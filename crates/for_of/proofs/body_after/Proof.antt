@@ -6,7 +6,7 @@ use Rattle.for_of.proofs.body_after.Tie as tie
 
 returns : tie.Need-returns
 unfolding bodyAfterF
-returns c = 
+returns c =
     let at-end-after = c in
     let at-plus = at-end-after .before in
     rw (← at-plus .plus .ensures, ← at-end-after .end-after .ensures)

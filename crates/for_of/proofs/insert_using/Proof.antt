@@ -6,19 +6,19 @@ use Rattle.for_of.proofs.insert_using.Statement.{statement}
 use Rattle.for_of.proofs.insert_using.Tie as tie
 
 same-length : tie.Need-same-length
-same-length c = 
+same-length c =
     let at-write-insert = c .before .before .before in
     at-write-insert .write-insert .kept .0
 
 same-length-2 : tie.Need-same-length-2
-same-length-2 c = 
+same-length-2 c =
     let at-move-binding = c .before .before .before .before .before .before .before .before .before in
     let at-make-temp = at-move-binding .before .before .before .before .before .before .before .before in
     at-move-binding .move-binding .kept .0 ∙ at-make-temp .make-temp .kept .0
 
 returns : tie.Need-returns
 unfolding insertUsingF
-returns c = 
+returns c =
     let at-with-ctx = c in
     let at-write-insert = at-with-ctx .before .before .before in
     let at-charge = at-write-insert .before .before .before in

@@ -7,7 +7,7 @@ use Rattle.for_of.proofs.inserts.Tie as tie
 
 returns : tie.Need-returns
 unfolding insertsF
-returns c = 
+returns c =
     let at-if1 = c in
     let at-row-after = at-if1 .before .before in
     let at-body-after = at-row-after .before in
@@ -15,7 +15,7 @@ returns c =
 
 returns-2 : tie.Need-returns-2
 unfolding insertsF
-returns-2 c = 
+returns-2 c =
     let at-if2 = c in
     let at-binds-name = at-if2 .before in
     let at-using-symbol = at-binds-name .before in
@@ -26,7 +26,7 @@ returns-2 c =
 
 returns-3 : tie.Need-returns-3
 unfolding insertsF
-returns-3 c = 
+returns-3 c =
     let at-if2 = c in
     let at-binds-name = at-if2 .before in
     let at-using-symbol = at-binds-name .before in

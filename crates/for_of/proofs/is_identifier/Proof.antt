@@ -7,13 +7,13 @@ use Rattle.for_of.proofs.is_identifier.Tie as tie
 
 returns : tie.Need-returns
 unfolding isIdentifierF
-returns c = 
+returns c =
     let at-if1 = c in
     rw (ne-eqb _ _ (at-if1 .if1 .taken))
 
 returns-2 : tie.Need-returns-2
 unfolding isIdentifierF
-returns-2 c = 
+returns-2 c =
     let at-if1 = c .before in
     rw (eq-eqb _ _ (at-if1 .if1 .left))
 

@@ -5,13 +5,13 @@ use Rattle.for_of.proofs.make_temp.Statement.{statement}
 use Rattle.for_of.proofs.make_temp.Tie as tie
 
 same-length : tie.Need-same-length
-same-length c = 
+same-length c =
     let at-create-symbol = c .before .before in
     at-create-symbol .create-symbol .kept .0
 
 returns : tie.Need-returns
 unfolding makeTempF
-returns c = 
+returns c =
     let at-create-symbol = c .before .before in
     let at-symbol-number = at-create-symbol .before .before in
     rw (← at-symbol-number .symbol-number .ensures, ← at-create-symbol .create-symbol .ensures)

@@ -7,14 +7,14 @@ use Rattle.for_of.proofs.takes_using.Tie as tie
 
 returns : tie.Need-returns
 unfolding takesUsingF
-returns c = 
+returns c =
     let at-if1 = c in
     let at-column = at-if1 .before in
     rw (← at-column .column .ensures, lt-ltb _ _ (at-if1 .if1 .taken))
 
 returns-2 : tie.Need-returns-2
 unfolding takesUsingF
-returns-2 c = 
+returns-2 c =
     let at-if2 = c in
     let at-row-after = at-if2 .before .before in
     let at-plus = at-row-after .before in
@@ -24,7 +24,7 @@ returns-2 c =
 
 returns-3 : tie.Need-returns-3
 unfolding takesUsingF
-returns-3 c = 
+returns-3 c =
     let at-is-identifier = c in
     let at-row-after2 = at-is-identifier .before in
     let at-plus2 = at-row-after2 .before in
@@ -39,7 +39,7 @@ returns-3 c =
 
 returns-4 : tie.Need-returns-4
 unfolding takesUsingF
-returns-4 c = 
+returns-4 c =
     let at-if3 = c in
     let at-is-using = at-if3 .before in
     let at-if2 = at-is-using .before in

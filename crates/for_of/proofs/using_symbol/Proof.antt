@@ -6,7 +6,7 @@ use Rattle.for_of.proofs.using_symbol.Tie as tie
 
 returns : tie.Need-returns
 unfolding usingSymbolF
-returns c = 
+returns c =
     let at-column = c in
     let at-plus = at-column .before in
     rw (← at-plus .plus .ensures, ← at-column .column .ensures)

@@ -6,24 +6,24 @@ use Rattle.for_of.proofs.wrap_body.Statement.{statement}
 use Rattle.for_of.proofs.wrap_body.Tie as tie
 
 same-length : tie.Need-same-length
-same-length c = 
+same-length c =
     let at-write-wrap = c .before .before .before in
     at-write-wrap .write-wrap .kept .0
 
 same-length-2 : tie.Need-same-length-2
-same-length-2 c = 
+same-length-2 c =
     let at-insert-scope-below = c .before .before .before .before .before .before .before .before .before .before .before .before .before in
     at-insert-scope-below .insert-scope-below .kept .1 .0
 
 same-length-3 : tie.Need-same-length-3
-same-length-3 c = 
+same-length-3 c =
     let at-move-binding = c .before .before .before .before .before .before .before .before .before in
     let at-make-temp = at-move-binding .before .before .before .before .before .before .before .before .before .before in
     at-move-binding .move-binding .kept .0 ∙ at-make-temp .make-temp .kept .0
 
 returns : tie.Need-returns
 unfolding wrapBodyF
-returns c = 
+returns c =
     let at-with-ctx = c in
     let at-write-wrap = at-with-ctx .before .before .before in
     let at-charge = at-write-wrap .before .before .before in

@@ -6,7 +6,7 @@ use Rattle.for_of.proofs.write_insert.Statement.{statement}
 use Rattle.for_of.proofs.write_insert.Tie as tie
 
 same-length : tie.Need-same-length
-same-length c = 
+same-length c =
     let at-write-using = c .before .before in
     let at-pass-as = at-write-using .before .before .before .before in
     let at-write-left = at-pass-as .before .before .before .before .before .before .before .before in
@@ -14,7 +14,7 @@ same-length c =
 
 returns : tie.Need-returns
 unfolding insertRowsF
-returns c = 
+returns c =
     let at-write-using = c .before .before in
     let at-pass-as = at-write-using .before .before .before .before in
     let at-made = at-pass-as .before in

@@ -6,7 +6,7 @@ use Rattle.for_of.proofs.write_left.Statement.{statement}
 use Rattle.for_of.proofs.write_left.Tie as tie
 
 same-length : tie.Need-same-length
-same-length c = 
+same-length c =
     let at-copy = c .before .before in
     let at-pass-as2 = at-copy .before .before .before .before .before .before .before in
     let at-pass2 = at-pass-as2 .before .before .before .before .before .before .before in
@@ -16,7 +16,7 @@ same-length c =
 
 returns : tie.Need-returns
 unfolding leftRowsF
-returns c = 
+returns c =
     let at-copy = c .before .before in
     let at-plus2 = at-copy .before .before in
     let at-plus = at-plus2 .before in

@@ -6,14 +6,14 @@ use Rattle.for_of.proofs.write_using.Statement.{statement}
 use Rattle.for_of.proofs.write_using.Tie as tie
 
 same-length : tie.Need-same-length
-same-length c = 
+same-length c =
     let at-emit = c .before .before in
     let at-declare = at-emit .before .before .before .before .before in
     at-emit .emit .kept .0 ∙ at-declare .declare .kept .0
 
 returns : tie.Need-returns
 unfolding usingRowsF
-returns c = 
+returns c =
     let at-emit = c .before .before in
     let at-made = at-emit .before in
     let at-declare = at-made .before .before .before .before in

@@ -6,7 +6,7 @@ use Rattle.for_of.proofs.write_wrap.Statement.{statement}
 use Rattle.for_of.proofs.write_wrap.Tie as tie
 
 same-length : tie.Need-same-length
-same-length c = 
+same-length c =
     let at-write-using = c .before .before in
     let at-emit = at-write-using .before .before .before .before in
     let at-write-left = at-emit .before .before .before .before .before in
@@ -14,7 +14,7 @@ same-length c =
 
 returns : tie.Need-returns
 unfolding wrapRowsF
-returns c = 
+returns c =
     let at-write-using = c .before .before in
     let at-emit = at-write-using .before .before .before .before in
     let at-made = at-emit .before in

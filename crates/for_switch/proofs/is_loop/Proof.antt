@@ -6,7 +6,7 @@ use Rattle.for_switch.proofs.is_loop.Tie as tie
 
 returns : tie.Need-returns
 unfolding isLoopF
-returns c = 
+returns c =
     let at-column = c in
     rw (← at-column .column .ensures)
 

@@ -18,7 +18,7 @@ loop-holds : tie.Need-loop-holds Inv-loop μ-loop
 loop-holds c = (search needs, refl)
 
 loop-again : tie.Need-loop-again Inv-loop μ-loop
-loop-again c = 
+loop-again c =
     let at-if1 = c in
     let at-is-loop = at-if1 .before in
     let at-loop-test = at-is-loop .before in
@@ -27,14 +27,14 @@ loop-again c =
 
 returns : tie.Need-returns Inv-loop μ-loop
 unfolding labelsEndF
-returns c = 
+returns c =
     let at-loop-test = c in
     let at-loop = at-loop-test .before in
     run-out _ _ _ _ _ _ (at-loop .loop .inv .1) (at-loop-test .loop-test .left)
 
 returns-2 : tie.Need-returns-2 Inv-loop μ-loop
 unfolding labelsEndF
-returns-2 c = 
+returns-2 c =
     let at-if1 = c in
     let at-is-loop = at-if1 .before in
     let at-loop = at-is-loop .before .before in

@@ -6,13 +6,13 @@ use Rattle.for_switch.proofs.or_awaits.Tie as tie
 
 returns : tie.Need-returns
 unfolding orAwaitsF
-returns c = 
+returns c =
     let at-if1 = c in
     rw (at-if1 .if1 .taken)
 
 returns-2 : tie.Need-returns-2
 unfolding orAwaitsF
-returns-2 c = 
+returns-2 c =
     let at-if1 = c in
     rw (at-if1 .if1 .left)
 

@@ -7,7 +7,7 @@ use Rattle.for_switch.proofs.plan_case.Tie as tie
 
 returns : tie.Need-returns
 unfolding planCaseF
-returns c = 
+returns c =
     let at-plan-list = c in
     let at-plus = at-plan-list .before in
     let at-if1 = at-plus .before in
@@ -16,7 +16,7 @@ returns c =
 
 returns-2 : tie.Need-returns-2
 unfolding planCaseF
-returns-2 c = 
+returns-2 c =
     let at-end-after = c in
     let at-if1 = at-end-after .before in
     let at-row-after = at-if1 .before .before in

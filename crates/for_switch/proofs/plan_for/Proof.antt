@@ -7,7 +7,7 @@ use Rattle.for_switch.proofs.plan_for.Tie as tie
 
 returns : tie.Need-returns
 unfolding planForF
-returns c = 
+returns c =
     let at-plan-list = c in
     let at-no-plan = at-plan-list .before in
     let at-plus = at-no-plan .before in
@@ -18,7 +18,7 @@ returns c =
 
 returns-2 : tie.Need-returns-2
 unfolding planForF
-returns-2 c = 
+returns-2 c =
     let at-no-plan2 = c in
     let at-if1 = at-no-plan2 .before in
     let at-row-after = at-if1 .before .before in

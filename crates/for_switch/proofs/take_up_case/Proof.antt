@@ -7,14 +7,14 @@ use Rattle.for_switch.proofs.take_up_case.Statement.{statement}
 use Rattle.for_switch.proofs.take_up_case.Tie as tie
 
 same-length : tie.Need-same-length
-same-length c = 
+same-length c =
     let at-take-up = c .before .before .before in
     let at-pass = at-take-up .before .before .before .before in
     at-take-up .take-up .kept .0 ∙ at-pass .pass .kept .0
 
 returns : tie.Need-returns
 unfolding takeUpCaseF
-returns c = 
+returns c =
     let at-or-awaits = c in
     let at-take-up = at-or-awaits .before .before .before in
     let at-pass = at-take-up .before .before .before .before in
@@ -26,13 +26,13 @@ returns c =
     rw (← at-row-after .row-after .ensures, eq-eqb _ _ (at-if1 .if1 .taken), ← at-plus .plus .ensures, ← at-no-plan .no-plan .ensures, ← at-plan-list .plan-list .ensures, ← at-pass .pass .ensures, ← at-take-up .take-up .ensures, ← at-or-awaits .or-awaits .ensures)
 
 same-length-2 : tie.Need-same-length-2
-same-length-2 c = 
+same-length-2 c =
     let at-copy = c .before .before in
     at-copy .copy .kept .0
 
 returns-2 : tie.Need-returns-2
 unfolding takeUpCaseF
-returns-2 c = 
+returns-2 c =
     let at-copy = c .before .before in
     let at-if1 = at-copy .before .before in
     let at-row-after = at-if1 .before .before in

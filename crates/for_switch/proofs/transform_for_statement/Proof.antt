@@ -5,23 +5,23 @@ use Rattle.for_switch.proofs.transform_for_statement.Statement.{stateme
 use Rattle.for_switch.proofs.transform_for_statement.Tie as tie
 
 same-length : tie.Need-same-length
-same-length c = 
+same-length c =
     let at-write-for = c .before .before .before in
     at-write-for .write-for .kept .0
 
 same-length-2 : tie.Need-same-length-2
-same-length-2 c = 
+same-length-2 c =
     let at-for-loop = c .before .before .before .before .before .before .before .before .before .before .before .before in
     at-for-loop .for-loop .kept .1 .0
 
 same-length-3 : tie.Need-same-length-3
-same-length-3 c = 
+same-length-3 c =
     let at-for-loop = c .before .before .before .before .before .before .before .before .before .before .before .before in
     at-for-loop .for-loop .kept .1 .1 .0
 
 returns : tie.Need-returns
 unfolding transformForStatementF
-returns c = 
+returns c =
     let at-with-ctx = c in
     let at-write-for = at-with-ctx .before .before .before in
     let at-charge = at-write-for .before .before .before in

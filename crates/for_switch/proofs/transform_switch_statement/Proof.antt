@@ -5,23 +5,23 @@ use Rattle.for_switch.proofs.transform_switch_statement.Statement.{stat
 use Rattle.for_switch.proofs.transform_switch_statement.Tie as tie
 
 same-length : tie.Need-same-length
-same-length c = 
+same-length c =
     let at-write-switch = c .before .before .before in
     at-write-switch .write-switch .kept .0
 
 same-length-2 : tie.Need-same-length-2
-same-length-2 c = 
+same-length-2 c =
     let at-for-switch = c .before .before .before .before .before .before .before .before .before .before .before .before in
     at-for-switch .for-switch .kept .0
 
 same-length-3 : tie.Need-same-length-3
-same-length-3 c = 
+same-length-3 c =
     let at-for-switch = c .before .before .before .before .before .before .before .before .before .before .before .before in
     at-for-switch .for-switch .kept .1 .0
 
 returns : tie.Need-returns
 unfolding transformSwitchStatementF
-returns c = 
+returns c =
     let at-with-ctx = c in
     let at-write-switch = at-with-ctx .before .before .before in
     let at-charge = at-write-switch .before .before .before in

@@ -6,7 +6,7 @@ use Rattle.for_switch.proofs.write_for.Statement.{statement}
 use Rattle.for_switch.proofs.write_for.Tie as tie
 
 same-length : tie.Need-same-length
-same-length c = 
+same-length c =
     let at-write-handlers = c .before .before in
     let at-take-up = at-write-handlers .before .before .before .before in
     let at-pass = at-take-up .before .before .before .before in
@@ -17,7 +17,7 @@ same-length c =
 
 returns : tie.Need-returns
 unfolding forRowsF
-returns c = 
+returns c =
     let at-write-handlers = c .before .before in
     let at-take-up = at-write-handlers .before .before .before .before in
     let at-pass = at-take-up .before .before .before .before in

@@ -6,7 +6,7 @@ use Rattle.for_switch.proofs.write_switch.Statement.{statement}
 use Rattle.for_switch.proofs.write_switch.Tie as tie
 
 same-length : tie.Need-same-length
-same-length c = 
+same-length c =
     let at-write-handlers = c .before .before in
     let at-take-up-cases = at-write-handlers .before .before .before .before in
     let at-pass = at-take-up-cases .before .before .before .before in
@@ -16,7 +16,7 @@ same-length c =
 
 returns : tie.Need-returns
 unfolding switchRowsF
-returns c = 
+returns c =
     let at-write-handlers = c .before .before in
     let at-take-up-cases = at-write-handlers .before .before .before .before in
     let at-pass = at-take-up-cases .before .before .before .before in

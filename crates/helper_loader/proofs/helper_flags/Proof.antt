@@ -5,12 +5,12 @@ use Rattle.helper_loader.proofs.helper_flags.Statement.{statement}
 use Rattle.helper_loader.proofs.helper_flags.Tie as tie
 
 returns : tie.Need-returns
-returns c = 
+returns c =
     let at-if1 = c in
     rw (eq-eqb _ _ (at-if1 .if1 .taken))
 
 returns-2 : tie.Need-returns-2
-returns-2 c = 
+returns-2 c =
     let at-if1 = c in
     rw (ne-eqb _ _ (at-if1 .if1 .left))
 

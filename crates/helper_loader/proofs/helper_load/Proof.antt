@@ -7,14 +7,14 @@ use Rattle.helper_loader.proofs.helper_load.Tie as tie
 
 returns : tie.Need-returns
 unfolding helperLoadF
-returns c = 
+returns c =
     let at-load-runtime = c .before .before .before in
     let at-if1 = at-load-runtime .before .before in
     rw (eq-eqb _ _ (at-if1 .if1 .taken), ← at-load-runtime .load-runtime .ensures)
 
 returns-2 : tie.Need-returns-2
 unfolding helperLoadF
-returns-2 c = 
+returns-2 c =
     let at-find-binding = c in
     let at-if1 = at-find-binding .before .before in
     rw (ne-eqb _ _ (at-if1 .if1 .left), ← at-find-binding .find-binding .ensures)

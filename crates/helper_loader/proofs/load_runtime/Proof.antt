@@ -7,14 +7,14 @@ use Rattle.helper_loader.proofs.load_runtime.Tie as tie
 
 returns : tie.Need-returns
 unfolding loadRuntimeF
-returns c = 
+returns c =
     let at-make-helper = c .before .before in
     let at-if1 = at-make-helper .before .before in
     rw (eq-eqb _ _ (at-if1 .if1 .taken), ← at-make-helper .make-helper .ensures)
 
 returns-2 : tie.Need-returns-2
 unfolding loadRuntimeF
-returns-2 c = 
+returns-2 c =
     let at-if1 = c in
     rw (ne-eqb _ _ (at-if1 .if1 .left))
 

@@ -6,7 +6,7 @@ use Rattle.helper_loader.proofs.make_helper.Tie as tie
 
 returns : tie.Need-returns
 unfolding makeHelperF
-returns c = 
+returns c =
     let at-with-helper = c in
     let at-create-symbol = at-with-helper .before .before .before in
     let at-helper-flags = at-create-symbol .before .before in

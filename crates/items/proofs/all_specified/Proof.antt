@@ -4,7 +4,7 @@ use Rattle.items.proofs.all_specified.Statement.{statement}
 use Rattle.items.proofs.all_specified.Tie as tie
 
 returns : tie.Need-returns
-returns c = 
+returns c =
     let at-names-done = c in
     at-names-done .names-done .ensures
 

@@ -5,13 +5,13 @@ use Rattle.items.proofs.copy_item.Statement.{statement}
 use Rattle.items.proofs.copy_item.Tie as tie
 
 same-length : tie.Need-same-length
-same-length c = 
+same-length c =
     let at-copy = c .before .before .before in
     at-copy .copy .kept .0
 
 returns : tie.Need-returns
 unfolding copiedF
-returns c = 
+returns c =
     let at-copy = c .before .before .before in
     rw (← at-copy .copy .ensures)
 

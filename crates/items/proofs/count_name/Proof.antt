@@ -6,7 +6,7 @@ use Rattle.items.proofs.count_name.Tie as tie
 
 returns : tie.Need-returns
 unfolding countNameF
-returns c = 
+returns c =
     let at-plus = c in
     let at-number-if = at-plus .before in
     let at-is-name = at-number-if .before in

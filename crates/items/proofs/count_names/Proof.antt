@@ -20,7 +20,7 @@ loop-holds : tie.Need-loop-holds Inv-loop μ-loop
 loop-holds c = (search needs, rw sub-zero)
 
 loop-again : tie.Need-loop-again Inv-loop μ-loop
-loop-again c = 
+loop-again c =
     let at-count-name = c in
     let at-if1 = at-count-name .before in
     let at-all-counted = at-if1 .before in
@@ -30,14 +30,14 @@ loop-again c =
 
 returns : tie.Need-returns Inv-loop μ-loop
 unfolding countNamesF
-returns c = 
+returns c =
     let at-loop-test = c in
     let at-loop = at-loop-test .before in
     ap (λ (s : Counted). s .sum) (run-out _ _ _ _ _ _ (at-loop .loop .inv .1) (at-loop-test .loop-test .left))
 
 returns-2 : tie.Need-returns-2 Inv-loop μ-loop
 unfolding countNamesF
-returns-2 c = 
+returns-2 c =
     let at-if1 = c in
     let at-all-counted = at-if1 .before in
     let at-loop = at-all-counted .before .before in

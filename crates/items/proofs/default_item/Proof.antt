@@ -9,20 +9,20 @@ use Rattle.items.proofs.default_item.Tie as tie
 
 returns : tie.Need-returns
 unfolding defaultItemF
-returns c = 
+returns c =
     let at-if1 = c in
     rw (eq-eqb _ _ (at-if1 .if1 .taken))
 
 returns-2 : tie.Need-returns-2
 unfolding defaultItemF
-returns-2 c = 
+returns-2 c =
     let at-if2 = c in
     let at-if1 = at-if2 .before .before in
     rw (ne-eqb _ _ (at-if1 .if1 .left), ne-eqb _ _ (at-if2 .if2 .taken))
 
 returns-3 : tie.Need-returns-3
 unfolding defaultItemF
-returns-3 c = 
+returns-3 c =
     let at-match = c in
     let at-if2 = at-match .before in
     let at-if1 = at-if2 .before .before in
@@ -30,7 +30,7 @@ returns-3 c =
 
 returns-4 : tie.Need-returns-4
 unfolding defaultItemF
-returns-4 c = 
+returns-4 c =
     let at-default-class = c in
     let at-match = at-default-class .before in
     let at-if2 = at-match .before in
@@ -39,7 +39,7 @@ returns-4 c =
 
 returns-5 : tie.Need-returns-5
 unfolding defaultItemF
-returns-5 c = 
+returns-5 c =
     let at-match = c in
     let at-if2 = at-match .before in
     let at-if1 = at-if2 .before .before in

@@ -6,20 +6,20 @@ use Rattle.items.proofs.default_value.Statement.{statement}
 use Rattle.items.proofs.default_value.Tie as tie
 
 same-length : tie.Need-same-length
-same-length c = 
+same-length c =
     let at-write-value = c .before .before in
     let at-write-export = at-write-value .before .before .before .before .before in
     let at-drop-row = at-write-export .before .before .before .before .before .before in
     at-write-value .write-value .kept .0 ∙ at-write-export .write-export .kept .0 ∙ at-drop-row .drop-row .kept .0
 
 same-length-2 : tie.Need-same-length-2
-same-length-2 c = 
+same-length-2 c =
     let at-create-symbol = c .before .before .before .before .before .before .before .before .before .before .before .before .before .before .before .before .before in
     at-create-symbol .create-symbol .kept .0
 
 returns : tie.Need-returns
 unfolding defaultValueF
-returns c = 
+returns c =
     let at-write-value = c .before .before in
     let at-as-expression = at-write-value .before in
     let at-write-export = at-as-expression .before .before .before .before in

@@ -5,13 +5,13 @@ use Rattle.items.proofs.drop_row.Statement.{statement}
 use Rattle.items.proofs.drop_row.Tie as tie
 
 same-length : tie.Need-same-length
-same-length c = 
+same-length c =
     let at-put-row = c .before .before .before in
     at-put-row .put-row .kept .0
 
 returns : tie.Need-returns
 unfolding dropF
-returns c = 
+returns c =
     let at-plus = c in
     let at-put-row = at-plus .before .before .before in
     let at-made = at-put-row .before in

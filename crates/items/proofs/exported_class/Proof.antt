@@ -6,20 +6,20 @@ use Rattle.items.proofs.exported_class.Statement.{statement}
 use Rattle.items.proofs.exported_class.Tie as tie
 
 same-length : tie.Need-same-length
-same-length c = 
+same-length c =
     let at-transform-class-decl = c .before .before .before .before in
     let at-write-export = at-transform-class-decl .before .before .before .before .before in
     let at-drop-row = at-write-export .before .before .before .before .before .before .before .before in
     at-transform-class-decl .transform-class-decl .kept .0 ∙ at-write-export .write-export .kept .0 ∙ at-drop-row .drop-row .kept .0
 
 same-length-2 : tie.Need-same-length-2
-same-length-2 c = 
+same-length-2 c =
     let at-transform-class-decl = c .before .before .before .before in
     at-transform-class-decl .transform-class-decl .kept .1 .0
 
 returns : tie.Need-returns
 unfolding exportedClassF
-returns c = 
+returns c =
     let at-transform-class-decl = c .before .before .before .before in
     let at-write-export = at-transform-class-decl .before .before .before .before .before in
     let at-symbol-number = at-write-export .before .before in

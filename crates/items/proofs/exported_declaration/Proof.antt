@@ -6,7 +6,7 @@ use Rattle.items.proofs.exported_declaration.Statement.{statement}
 use Rattle.items.proofs.exported_declaration.Tie as tie
 
 same-length : tie.Need-same-length
-same-length c = 
+same-length c =
     let at-copy = c .before .before in
     let at-pass-as = at-copy .before .before .before .before in
     let at-write-specifiers = at-pass-as .before .before .before .before .before in
@@ -15,13 +15,13 @@ same-length c =
     at-copy .copy .kept .0 ∙ at-pass-as .pass-as .kept .0 ∙ at-write-specifiers .write-specifiers .kept .0 ∙ at-emit .emit .kept .0 ∙ at-drop-row .drop-row .kept .0
 
 same-length-2 : tie.Need-same-length-2
-same-length-2 c = 
+same-length-2 c =
     let at-flag-names = c .before .before .before .before .before .before .before .before .before .before .before .before .before .before .before .before .before .before .before .before .before .before .before in
     at-flag-names .flag-names .kept .1 .0
 
 returns : tie.Need-returns
 unfolding exportedDeclarationF
-returns c = 
+returns c =
     let at-copy = c .before .before in
     let at-pass-as = at-copy .before .before .before .before in
     let at-made2 = at-pass-as .before in

@@ -9,27 +9,27 @@ use Rattle.items.proofs.exported_item.Tie as tie
 
 returns : tie.Need-returns
 unfolding exportedItemF
-returns c = 
+returns c =
     let at-if1 = c in
     rw (eq-eqb _ _ (at-if1 .if1 .taken))
 
 returns-2 : tie.Need-returns-2
 unfolding exportedItemF
-returns-2 c = 
+returns-2 c =
     let at-match = c in
     let at-if1 = at-match .before in
     rw (ne-eqb _ _ (at-if1 .if1 .left), at-match .match .keys1)
 
 returns-3 : tie.Need-returns-3
 unfolding exportedItemF
-returns-3 c = 
+returns-3 c =
     let at-match = c in
     let at-if1 = at-match .before in
     rw (ne-eqb _ _ (at-if1 .if1 .left), at-match .match .keys2)
 
 returns-4 : tie.Need-returns-4
 unfolding exportedItemF
-returns-4 c = 
+returns-4 c =
     let at-match = c in
     let at-if1 = at-match .before in
     let away = other (15 ∷ 5 ∷ []) _ (at-match .match .rest) in

@@ -5,13 +5,13 @@ use Rattle.items.proofs.flag_name.Statement.{statement}
 use Rattle.items.proofs.flag_name.Tie as tie
 
 same-length : tie.Need-same-length
-same-length c = 
+same-length c =
     let at-set-symbol-flags = c .before .before in
     at-set-symbol-flags .set-symbol-flags .kept .0
 
 returns : tie.Need-returns
 unfolding flagNameF
-returns c = 
+returns c =
     let at-set-symbol-flags = c .before .before in
     let at-column = at-set-symbol-flags .before .before in
     let at-if1 = at-column .before in
@@ -21,7 +21,7 @@ returns c =
 
 returns-2 : tie.Need-returns-2
 unfolding flagNameF
-returns-2 c = 
+returns-2 c =
     let at-if1 = c in
     let at-is-name = at-if1 .before in
     let at-next-name = at-is-name .before in

@@ -21,25 +21,27 @@ loop-holds : tie.Need-loop-holds Inv-loop μ-loop
 loop-holds c = (search needs, refl, rw sub-zero)
 
 loop-again : tie.Need-loop-again Inv-loop μ-loop
-loop-again c = 
+loop-again c =
     let at-flag-name = c .before .before in
     let at-if1 = at-flag-name .before .before in
     let at-names-done = at-if1 .before in
     let at-loop-test = at-names-done .before in
-    let at-loop = at-loop-test .before in
-    (search needs, at-flag-name .flag-name .kept .1 .0 ∙ at-loop .loop .inv .1,
-    rw (at-flag-name .flag-name .ensures) (go-on _ _ _ _ _ _ (at-loop .loop .inv .2) (at-loop-test .loop-test .taken) (sym (at-names-done .names-done .ensures) ∙ at-if1 .if1 .left)))
+    let at-loop = at-loop-test .before in (
+      search needs,
+      at-flag-name .flag-name .kept .1 .0 ∙ at-loop .loop .inv .1,
+      rw (at-flag-name .flag-name .ensures) (go-on _ _ _ _ _ _ (at-loop .loop .inv .2) (at-loop-test .loop-test .taken) (sym (at-names-done .names-done .ensures) ∙ at-if1 .if1 .left)),
+    )
 
 returns : tie.Need-returns Inv-loop μ-loop
 unfolding flagNamesF
-returns c = 
+returns c =
     let at-loop-test = c in
     let at-loop = at-loop-test .before in
     ap (λ (s : Flagging). s .t) (run-out _ _ _ _ _ _ (at-loop .loop .inv .2) (at-loop-test .loop-test .left))
 
 returns-2 : tie.Need-returns-2 Inv-loop μ-loop
 unfolding flagNamesF
-returns-2 c = 
+returns-2 c =
     let at-if1 = c in
     let at-names-done = at-if1 .before in
     let at-loop = at-names-done .before .before in

@@ -8,7 +8,7 @@ use Rattle.items.proofs.item_after.Tie as tie
 
 returns : tie.Need-returns
 unfolding itemF
-returns c = 
+returns c =
     let at-match = c in
     let at-row-after2 = at-match .before in
     let at-plus = at-row-after2 .before in
@@ -17,7 +17,7 @@ returns c =
 
 returns-2 : tie.Need-returns-2
 unfolding itemF
-returns-2 c = 
+returns-2 c =
     let at-match = c in
     let at-row-after2 = at-match .before in
     let at-plus = at-row-after2 .before in
@@ -26,7 +26,7 @@ returns-2 c =
 
 returns-3 : tie.Need-returns-3
 unfolding itemF
-returns-3 c = 
+returns-3 c =
     let at-match = c in
     let at-row-after2 = at-match .before in
     let at-plus = at-row-after2 .before in
@@ -35,7 +35,7 @@ returns-3 c =
 
 returns-4 : tie.Need-returns-4
 unfolding itemF
-returns-4 c = 
+returns-4 c =
     let at-match = c in
     let at-row-after2 = at-match .before in
     let at-plus = at-row-after2 .before in
@@ -44,7 +44,7 @@ returns-4 c =
 
 returns-5 : tie.Need-returns-5
 unfolding itemF
-returns-5 c = 
+returns-5 c =
     let at-default-item = c in
     let at-match = at-default-item .before in
     let at-row-after2 = at-match .before in
@@ -54,7 +54,7 @@ returns-5 c =
 
 returns-6 : tie.Need-returns-6
 unfolding itemF
-returns-6 c = 
+returns-6 c =
     let at-exported-item = c in
     let at-match = at-exported-item .before in
     let at-row-after2 = at-match .before in
@@ -64,7 +64,7 @@ returns-6 c =
 
 returns-7 : tie.Need-returns-7
 unfolding itemF
-returns-7 c = 
+returns-7 c =
     let at-match = c in
     let at-row-after = at-match .before .before .before in
     let away = other (19 ∷ 18 ∷ 17 ∷ 15 ∷ 13 ∷ 5 ∷ []) _ (at-match .match .rest) in

@@ -7,7 +7,7 @@ use Rattle.items.proofs.next_name.Tie as tie
 
 returns : tie.Need-returns
 unfolding nextNameF
-returns c = 
+returns c =
     let at-plus2 = c in
     let at-minus = at-plus2 .before in
     let at-if1 = at-minus .before in
@@ -17,7 +17,7 @@ returns c =
 
 returns-2 : tie.Need-returns-2
 unfolding nextNameF
-returns-2 c = 
+returns-2 c =
     let at-minus2 = c in
     let at-if2 = at-minus2 .before in
     let at-if1 = at-if2 .before .before in
@@ -27,7 +27,7 @@ returns-2 c =
 
 returns-3 : tie.Need-returns-3
 unfolding nextNameF
-returns-3 c = 
+returns-3 c =
     let at-if3 = c in
     let at-minus3 = at-if3 .before .before in
     let at-if2 = at-minus3 .before in
@@ -38,7 +38,7 @@ returns-3 c =
 
 returns-4 : tie.Need-returns-4
 unfolding nextNameF
-returns-4 c = 
+returns-4 c =
     let at-if3 = c in
     let at-minus3 = at-if3 .before .before in
     let at-if2 = at-minus3 .before in

@@ -4,12 +4,12 @@ use Rattle.items.proofs.number_if.Statement.{statement}
 use Rattle.items.proofs.number_if.Tie as tie
 
 returns : tie.Need-returns
-returns c = 
+returns c =
     let at-if1 = c in
     rw (at-if1 .if1 .taken)
 
 returns-2 : tie.Need-returns-2
-returns-2 c = 
+returns-2 c =
     let at-if1 = c in
     rw (at-if1 .if1 .left)
 

@@ -6,14 +6,14 @@ use Rattle.items.proofs.preserve_class_expression_name.Statement.{state
 use Rattle.items.proofs.preserve_class_expression_name.Tie as tie
 
 same-length : tie.Need-same-length
-same-length c = 
+same-length c =
     let at-set-symbol-flags = c .before .before in
     let at-create-symbol = at-set-symbol-flags .before .before .before .before in
     at-set-symbol-flags .set-symbol-flags .kept .0 ∙ at-create-symbol .create-symbol .kept .0
 
 returns : tie.Need-returns
 unfolding preserveNameF
-returns c = 
+returns c =
     let at-set-symbol-flags = c .before .before in
     let at-create-symbol = at-set-symbol-flags .before .before .before .before in
     let at-symbol-number2 = at-create-symbol .before .before in

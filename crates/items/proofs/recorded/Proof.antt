@@ -6,7 +6,7 @@ use Rattle.items.proofs.recorded.Tie as tie
 
 returns : tie.Need-returns
 unfolding recordedF
-returns c = 
+returns c =
     let at-made = c in
     let at-if1 = at-made .before in
     let at-is-using = at-if1 .before in
@@ -14,7 +14,7 @@ returns c =
 
 returns-2 : tie.Need-returns-2
 unfolding recordedF
-returns-2 c = 
+returns-2 c =
     let at-made2 = c in
     let at-if1 = at-made2 .before in
     let at-is-using = at-if1 .before in

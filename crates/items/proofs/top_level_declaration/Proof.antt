@@ -6,19 +6,19 @@ use Rattle.items.proofs.top_level_declaration.Statement.{statement}
 use Rattle.items.proofs.top_level_declaration.Tie as tie
 
 same-length : tie.Need-same-length
-same-length c = 
+same-length c =
     let at-copy = c .before .before in
     let at-pass-as = at-copy .before .before .before .before in
     at-copy .copy .kept .0 ∙ at-pass-as .pass-as .kept .0
 
 same-length-2 : tie.Need-same-length-2
-same-length-2 c = 
+same-length-2 c =
     let at-flag-names = c .before .before .before .before .before .before .before .before .before .before .before in
     at-flag-names .flag-names .kept .1 .0
 
 returns : tie.Need-returns
 unfolding declaredF
-returns c = 
+returns c =
     let at-copy = c .before .before in
     let at-pass-as = at-copy .before .before .before .before in
     let at-recorded = at-pass-as .before in

@@ -5,18 +5,18 @@ use Rattle.items.proofs.transform_class_decl.Statement.{statement}
 use Rattle.items.proofs.transform_class_decl.Tie as tie
 
 same-length : tie.Need-same-length
-same-length c = 
+same-length c =
     let at-write-value = c .before .before in
     at-write-value .write-value .kept .0
 
 same-length-2 : tie.Need-same-length-2
-same-length-2 c = 
+same-length-2 c =
     let at-preserve-class-expression-name = c .before .before .before .before .before .before .before in
     at-preserve-class-expression-name .preserve-class-expression-name .kept .0
 
 returns : tie.Need-returns
 unfolding classF
-returns c = 
+returns c =
     let at-write-value = c .before .before in
     let at-made = at-write-value .before in
     let at-preserve-class-expression-name = at-made .before .before .before .before in

@@ -23,25 +23,27 @@ loop-holds : tie.Need-loop-holds Inv-loop μ-loop
 loop-holds c = (search needs, refl, rw sub-zero)
 
 loop-again : tie.Need-loop-again Inv-loop μ-loop
-loop-again c = 
+loop-again c =
     let at-write-specifier = c .before .before in
     let at-if1 = at-write-specifier .before .before in
     let at-all-specified = at-if1 .before in
     let at-loop-test = at-all-specified .before in
-    let at-loop = at-loop-test .before in
-    (search needs, at-write-specifier .write-specifier .kept .0 ∙ at-loop .loop .inv .1,
-    rw (at-write-specifier .write-specifier .ensures) (go-on _ _ _ _ _ _ (at-loop .loop .inv .2) (at-loop-test .loop-test .taken) (sym (at-all-specified .all-specified .ensures) ∙ at-if1 .if1 .left)))
+    let at-loop = at-loop-test .before in (
+      search needs,
+      at-write-specifier .write-specifier .kept .0 ∙ at-loop .loop .inv .1,
+      rw (at-write-specifier .write-specifier .ensures) (go-on _ _ _ _ _ _ (at-loop .loop .inv .2) (at-loop-test .loop-test .taken) (sym (at-all-specified .all-specified .ensures) ∙ at-if1 .if1 .left)),
+    )
 
 returns : tie.Need-returns Inv-loop μ-loop
 unfolding specifyAllF
-returns c = 
+returns c =
     let at-loop-test = c in
     let at-loop = at-loop-test .before in
     run-out _ _ _ _ _ _ (at-loop .loop .inv .2) (at-loop-test .loop-test .left)
 
 returns-2 : tie.Need-returns-2 Inv-loop μ-loop
 unfolding specifyAllF
-returns-2 c = 
+returns-2 c =
     let at-if1 = c in
     let at-all-specified = at-if1 .before in
     let at-loop = at-all-specified .before .before in

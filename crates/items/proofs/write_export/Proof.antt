@@ -6,14 +6,14 @@ use Rattle.items.proofs.write_export.Statement.{statement}
 use Rattle.items.proofs.write_export.Tie as tie
 
 same-length : tie.Need-same-length
-same-length c = 
+same-length c =
     let at-emit2 = c .before .before in
     let at-emit = at-emit2 .before .before .before .before .before in
     at-emit2 .emit2 .kept .0 ∙ at-emit .emit .kept .0
 
 returns : tie.Need-returns
 unfolding exportRowsF
-returns c = 
+returns c =
     let at-emit2 = c .before .before in
     let at-made2 = at-emit2 .before in
     let at-emit = at-made2 .before .before .before .before in

@@ -5,13 +5,13 @@ use Rattle.items.proofs.write_specifier.Statement.{statement}
 use Rattle.items.proofs.write_specifier.Tie as tie
 
 same-length : tie.Need-same-length
-same-length c = 
+same-length c =
     let at-emit = c .before .before in
     at-emit .emit .kept .0
 
 returns : tie.Need-returns
 unfolding specifierF
-returns c = 
+returns c =
     let at-emit = c .before .before in
     let at-made = at-emit .before in
     let at-symbol-number = at-made .before .before in
@@ -23,7 +23,7 @@ returns c =
 
 returns-2 : tie.Need-returns-2
 unfolding specifierF
-returns-2 c = 
+returns-2 c =
     let at-if1 = c in
     let at-is-name = at-if1 .before in
     let at-next-name = at-is-name .before .before in

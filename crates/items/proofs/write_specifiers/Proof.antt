@@ -6,13 +6,13 @@ use Rattle.items.proofs.write_specifiers.Statement.{statement}
 use Rattle.items.proofs.write_specifiers.Tie as tie
 
 same-length : tie.Need-same-length
-same-length c = 
+same-length c =
     let at-write-all = c .before .before .before in
     at-write-all .write-all .kept .0
 
 returns : tie.Need-returns
 unfolding specifiersF
-returns c = 
+returns c =
     let at-write-all = c .before .before .before in
     let at-plus = at-write-all .before .before in
     ap (λ (s : SpecifyingF). s .buf) (rw (at-plus .plus .ensures) at (at-write-all .write-all .ensures))

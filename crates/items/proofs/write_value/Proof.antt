@@ -6,7 +6,7 @@ use Rattle.items.proofs.write_value.Statement.{statement}
 use Rattle.items.proofs.write_value.Tie as tie
 
 same-length : tie.Need-same-length
-same-length c = 
+same-length c =
     let at-copy = c .before .before in
     let at-pass-as = at-copy .before .before .before .before in
     let at-declare = at-pass-as .before .before .before .before in
@@ -14,7 +14,7 @@ same-length c =
 
 returns : tie.Need-returns
 unfolding valueRowsF
-returns c = 
+returns c =
     let at-copy = c .before .before in
     let at-pass-as = at-copy .before .before .before .before in
     let at-declare = at-pass-as .before .before .before .before in

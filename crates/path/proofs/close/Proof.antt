@@ -6,7 +6,7 @@ use Rattle.path.proofs.close.Tie as tie
 
 returns : tie.Need-returns
 unfolding closeF
-returns c = 
+returns c =
     let at-put-column = c .before .before in
     let at-minus = at-put-column .before in
     let at-up = at-minus .before .before in

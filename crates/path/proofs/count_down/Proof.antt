@@ -7,7 +7,7 @@ use Rattle.path.proofs.count_down.Tie as tie
 
 returns : tie.Need-returns
 unfolding countDownF
-returns c = 
+returns c =
     let at-put-column = c .before .before in
     let at-minus = at-put-column .before in
     let at-column = at-minus .before .before in
@@ -16,7 +16,7 @@ returns c =
 
 returns-2 : tie.Need-returns-2
 unfolding countDownF
-returns-2 c = 
+returns-2 c =
     let at-if1 = c in
     rw (eq-eqb _ _ (at-if1 .if1 .left))
 

@@ -6,7 +6,7 @@ use Rattle.path.proofs.current_scope.Tie as tie
 
 returns : tie.Need-returns
 unfolding currentScopeF
-returns c = 
+returns c =
     let at-scope-at = c in
     let at-nearest-scope = at-scope-at .before in
     rw (← at-nearest-scope .nearest-scope .ensures, ← at-scope-at .scope-at .ensures)

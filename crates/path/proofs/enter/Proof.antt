@@ -6,7 +6,7 @@ use Rattle.path.proofs.enter.Statement.{statement}
 use Rattle.path.proofs.enter.Tie as tie
 
 same-length : tie.Need-same-length
-same-length c = 
+same-length c =
     let at-settle = c .before .before .before in
     let at-move-row = at-settle .before .before .before .before .before in
     let at-count-down = at-move-row .before .before .before .before .before .before .before in
@@ -14,7 +14,7 @@ same-length c =
 
 returns : tie.Need-returns
 unfolding enterF
-returns c = 
+returns c =
     let at-with-inner = c in
     let at-settle = at-with-inner .before .before .before in
     let at-step = at-settle .before .before in

@@ -7,13 +7,13 @@ use Rattle.path.proofs.has_scope.Tie as tie
 
 returns : tie.Need-returns
 unfolding hasScopeF
-returns c = 
+returns c =
     let at-if1 = c in
     rw (eq-eqb _ _ (at-if1 .if1 .taken))
 
 returns-2 : tie.Need-returns-2
 unfolding hasScopeF
-returns-2 c = 
+returns-2 c =
     let at-scope-at = c .before in
     let at-if1 = at-scope-at .before in
     rw (ne-eqb _ _ (at-if1 .if1 .left), ← at-scope-at .scope-at .ensures)

@@ -6,7 +6,7 @@ use Rattle.path.proofs.hoist_scope.Tie as tie
 
 returns : tie.Need-returns
 unfolding hoistScopeF
-returns c = 
+returns c =
     let at-scope-at = c in
     let at-nearest-hoist = at-scope-at .before in
     rw (← at-nearest-hoist .nearest-hoist .ensures, ← at-scope-at .scope-at .ensures)

@@ -10,13 +10,13 @@ use Rattle.path.proofs.is_hoist.Tie as tie
 
 returns : tie.Need-returns
 unfolding isHoistF
-returns c = 
+returns c =
     let at-if1 = c in
     rw (eq-eqb _ _ (at-if1 .if1 .taken))
 
 returns-2 : tie.Need-returns-2
 unfolding isHoistF
-returns-2 c = 
+returns-2 c =
     let at-match = c in
     let at-column = at-match .before in
     let at-if1 = at-column .before in
@@ -24,7 +24,7 @@ returns-2 c =
 
 returns-3 : tie.Need-returns-3
 unfolding isHoistF
-returns-3 c = 
+returns-3 c =
     let at-match = c in
     let at-column = at-match .before in
     let at-if1 = at-column .before in
@@ -32,7 +32,7 @@ returns-3 c =
 
 returns-4 : tie.Need-returns-4
 unfolding isHoistF
-returns-4 c = 
+returns-4 c =
     let at-match = c in
     let at-column = at-match .before in
     let at-if1 = at-column .before in
@@ -40,7 +40,7 @@ returns-4 c =
 
 returns-5 : tie.Need-returns-5
 unfolding isHoistF
-returns-5 c = 
+returns-5 c =
     let at-match = c in
     let at-column = at-match .before in
     let at-if1 = at-column .before in

@@ -19,7 +19,7 @@ loop-holds : tie.Need-loop-holds Inv-loop μ-loop
 loop-holds c = (search needs, rw sub-zero)
 
 loop-again : tie.Need-loop-again Inv-loop μ-loop
-loop-again c = 
+loop-again c =
     let at-up = c in
     let at-if1 = at-up .before in
     let at-is-hoist = at-if1 .before in
@@ -28,13 +28,13 @@ loop-again c =
     (search needs, rw (at-up .up .ensures) (go-on _ _ _ _ _ _ (at-loop .loop .inv .1) (at-loop-test .loop-test .taken) (sym (at-is-hoist .is-hoist .ensures) ∙ at-if1 .if1 .left)))
 
 returns : tie.Need-returns Inv-loop μ-loop
-returns c = 
+returns c =
     let at-loop-test = c in
     let at-loop = at-loop-test .before in
     run-out _ _ _ _ _ _ (at-loop .loop .inv .1) (at-loop-test .loop-test .left)
 
 returns-2 : tie.Need-returns-2 Inv-loop μ-loop
-returns-2 c = 
+returns-2 c =
     let at-if1 = c in
     let at-is-hoist = at-if1 .before in
     let at-loop = at-is-hoist .before .before in

@@ -7,13 +7,13 @@ use Rattle.path.proofs.scope_at.Tie as tie
 
 returns : tie.Need-returns
 unfolding scopeAtF
-returns c = 
+returns c =
     let at-if1 = c in
     rw (eq-eqb _ _ (at-if1 .if1 .taken))
 
 returns-2 : tie.Need-returns-2
 unfolding scopeAtF
-returns-2 c = 
+returns-2 c =
     let at-scope-of = c in
     let at-row-after = at-scope-of .before in
     let at-if1 = at-row-after .before in

@@ -7,13 +7,13 @@ use Rattle.path.proofs.stays.Tie as tie
 
 returns : tie.Need-returns
 unfolding staysF
-returns c = 
+returns c =
     let at-if1 = c in
     rw (eq-eqb _ _ (at-if1 .if1 .taken))
 
 returns-2 : tie.Need-returns-2
 unfolding staysF
-returns-2 c = 
+returns-2 c =
     let at-if2 = c in
     let at-column = at-if2 .before in
     let at-if1 = at-column .before in
@@ -21,7 +21,7 @@ returns-2 c =
 
 returns-3 : tie.Need-returns-3
 unfolding staysF
-returns-3 c = 
+returns-3 c =
     let at-column2 = c in
     let at-if2 = at-column2 .before in
     let at-column = at-if2 .before in

@@ -6,7 +6,7 @@ use Rattle.path.proofs.up.Tie as tie
 
 returns : tie.Need-returns
 unfolding upF
-returns c = 
+returns c =
     let at-column = c in
     let at-minus = at-column .before in
     rw (← at-minus .minus .ensures, ← at-column .column .ensures)

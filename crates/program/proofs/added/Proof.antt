@@ -6,56 +6,56 @@ use Rattle.program.proofs.added.Tie as tie
 
 returns : tie.Need-returns
 unfolding addedF
-returns c = 
+returns c =
     let at-enum-told = c in
     let at-match = at-enum-told .before in
     rw (at-enum-told .enum-told .given .1)
 
 returns-2 : tie.Need-returns-2
 unfolding addedF
-returns-2 c = 
+returns-2 c =
     let at-enum-told2 = c in
     let at-match = at-enum-told2 .before in
     rw (at-enum-told2 .enum-told2 .given .1)
 
 returns-3 : tie.Need-returns-3
 unfolding addedF
-returns-3 c = 
+returns-3 c =
     let at-enum-told3 = c in
     let at-match = at-enum-told3 .before in
     rw (at-enum-told3 .enum-told3 .given .1)
 
 returns-4 : tie.Need-returns-4
 unfolding addedF
-returns-4 c = 
+returns-4 c =
     let at-enum-told4 = c in
     let at-match = at-enum-told4 .before in
     rw (at-enum-told4 .enum-told4 .given .1)
 
 returns-5 : tie.Need-returns-5
 unfolding addedF
-returns-5 c = 
+returns-5 c =
     let at-enum-told5 = c in
     let at-match = at-enum-told5 .before in
     rw (at-enum-told5 .enum-told5 .given .1)
 
 returns-6 : tie.Need-returns-6
 unfolding addedF
-returns-6 c = 
+returns-6 c =
     let at-enum-told6 = c in
     let at-match = at-enum-told6 .before in
     rw (at-enum-told6 .enum-told6 .given .1)
 
 returns-7 : tie.Need-returns-7
 unfolding addedF
-returns-7 c = 
+returns-7 c =
     let at-enum-told7 = c in
     let at-match = at-enum-told7 .before in
     rw (at-enum-told7 .enum-told7 .given .1)
 
 returns-8 : tie.Need-returns-8
 unfolding addedF
-returns-8 c = 
+returns-8 c =
     let at-enum-told8 = c in
     let at-match = at-enum-told8 .before in
     rw (at-enum-told8 .enum-told8 .given .1)

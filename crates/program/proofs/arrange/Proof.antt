@@ -6,7 +6,7 @@ use Rattle.program.proofs.arrange.Statement.{statement}
 use Rattle.program.proofs.arrange.Tie as tie
 
 same-length : tie.Need-same-length
-same-length c = 
+same-length c =
     let at-clear-places = c .before .before in
     let at-place = at-clear-places .before .before .before .before .before in
     let at-number-rows = at-place .before .before .before .before .before in
@@ -15,7 +15,7 @@ same-length c =
 
 returns : tie.Need-returns
 unfolding arrangeF
-returns c = 
+returns c =
     let at-clear-places = c .before .before in
     let at-minus = at-clear-places .before in
     let at-place = at-minus .before .before .before .before in

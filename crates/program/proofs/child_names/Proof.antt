@@ -6,7 +6,7 @@ use Rattle.program.proofs.child_names.Tie as tie
 
 returns : tie.Need-returns
 unfolding childNamesF
-returns c = 
+returns c =
     let at-count-names = c in
     let at-plus2 = at-count-names .before in
     let at-column = at-plus2 .before in

@@ -6,24 +6,24 @@ use Rattle.program.proofs.enter_program.Statement.{statement}
 use Rattle.program.proofs.enter_program.Tie as tie
 
 same-length : tie.Need-same-length
-same-length c = 
+same-length c =
     let at-rewrite-items = c .before .before .before .before .before .before .before .before .before .before in
     let at-pass-as = at-rewrite-items .before .before .before .before .before .before in
     at-rewrite-items .rewrite-items .kept .0 ∙ at-pass-as .pass-as .kept .0
 
 same-length-2 : tie.Need-same-length-2
-same-length-2 c = 
+same-length-2 c =
     let at-insert-scope-below = c .before .before .before in
     at-insert-scope-below .insert-scope-below .kept .1 .0
 
 same-length-3 : tie.Need-same-length-3
-same-length-3 c = 
+same-length-3 c =
     let at-rewrite-items = c .before .before .before .before .before .before .before .before .before .before in
     at-rewrite-items .rewrite-items .kept .1 .0
 
 returns : tie.Need-returns
 unfolding enterProgramF
-returns c = 
+returns c =
     let at-with-ctx = c in
     let at-insert-scope-below = at-with-ctx .before .before .before in
     let at-rewrite-items = at-insert-scope-below .before .before .before .before .before .before .before in

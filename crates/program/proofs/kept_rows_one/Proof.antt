@@ -6,7 +6,7 @@ use Rattle.program.proofs.kept_rows_one.Tie as tie
 
 returns : tie.Need-returns
 unfolding keptRowsOneF
-returns c = 
+returns c =
     let at-plus = c in
     let at-minus = at-plus .before in
     let at-if1 = at-minus .before in
@@ -17,7 +17,7 @@ returns c =
 
 returns-2 : tie.Need-returns-2
 unfolding keptRowsOneF
-returns-2 c = 
+returns-2 c =
     let at-if1 = c in
     let at-stays = at-if1 .before in
     let at-column = at-stays .before in

@@ -5,13 +5,13 @@ use Rattle.program.proofs.number_item.Statement.{statement}
 use Rattle.program.proofs.number_item.Tie as tie
 
 same-length : tie.Need-same-length
-same-length c = 
+same-length c =
     let at-number-rows = c .before .before .before in
     at-number-rows .number-rows .kept .0
 
 returns : tie.Need-returns
 unfolding numberItemF
-returns c = 
+returns c =
     let at-plus = c in
     let at-number-rows = at-plus .before .before .before in
     let at-if1 = at-number-rows .before .before in
@@ -22,13 +22,13 @@ returns c =
     rw (← at-end-after .end-after .ensures, ← at-minus .minus .ensures, ← at-column .column .ensures, ← at-stays .stays .ensures, at-if1 .if1 .taken, ← at-number-rows .number-rows .ensures, ← at-plus .plus .ensures)
 
 same-length-2 : tie.Need-same-length-2
-same-length-2 c = 
+same-length-2 c =
     let at-number-rows2 = c .before .before .before in
     at-number-rows2 .number-rows2 .kept .0
 
 returns-2 : tie.Need-returns-2
 unfolding numberItemF
-returns-2 c = 
+returns-2 c =
     let at-plus2 = c in
     let at-number-rows2 = at-plus2 .before .before .before in
     let at-if1 = at-number-rows2 .before .before in

@@ -6,7 +6,7 @@ use Rattle.program.proofs.plan_item.Tie as tie
 
 returns : tie.Need-returns
 unfolding planItemF
-returns c = 
+returns c =
     let at-plus3 = c in
     let at-moved = at-plus3 .before in
     let at-plus2 = at-moved .before in

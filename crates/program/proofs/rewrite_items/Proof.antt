@@ -6,20 +6,20 @@ use Rattle.program.proofs.rewrite_items.Statement.{statement}
 use Rattle.program.proofs.rewrite_items.Tie as tie
 
 same-length : tie.Need-same-length
-same-length c = 
+same-length c =
     let at-arrange = c .before .before .before .before in
     let at-emit = at-arrange .before .before .before .before .before .before .before in
     let at-transform-items = at-emit .before .before .before .before .before .before .before .before .before in
     at-arrange .arrange .kept .0 ∙ at-emit .emit .kept .0 ∙ at-transform-items .transform-items .kept .0
 
 same-length-2 : tie.Need-same-length-2
-same-length-2 c = 
+same-length-2 c =
     let at-transform-items = c .before .before .before .before .before .before .before .before .before .before .before .before .before .before .before .before .before .before .before .before in
     at-transform-items .transform-items .kept .1 .0
 
 returns : tie.Need-returns
 unfolding rewriteItemsF
-returns c = 
+returns c =
     let at-plus4 = c in
     let at-plus3 = at-plus4 .before in
     let at-arrange = at-plus3 .before .before .before in

@@ -6,27 +6,27 @@ use Rattle.program.proofs.stays.Statement.{statement}
 use Rattle.program.proofs.stays.Tie as tie
 
 returns : tie.Need-returns
-returns c = 
+returns c =
     let at-match = c in
     rw (at-match .match .keys1)
 
 returns-2 : tie.Need-returns-2
-returns-2 c = 
+returns-2 c =
     let at-match = c in
     rw (at-match .match .keys2)
 
 returns-3 : tie.Need-returns-3
-returns-3 c = 
+returns-3 c =
     let at-match = c in
     rw (at-match .match .keys3)
 
 returns-4 : tie.Need-returns-4
-returns-4 c = 
+returns-4 c =
     let at-match = c in
     rw (at-match .match .keys4)
 
 returns-5 : tie.Need-returns-5
-returns-5 c = 
+returns-5 c =
     let at-match = c in
     let away = other (19 ∷ 18 ∷ 17 ∷ 13 ∷ []) _ (at-match .match .rest) in
     rw (away 13 tt, away 17 tt, away 18 tt, away 19 tt)

@@ -22,16 +22,19 @@ loop-holds : tie.Need-loop-holds Inv-loop μ-loop
 loop-holds c = (search needs, refl, refl, rw sub-zero)
 
 loop-again : tie.Need-loop-again Inv-loop μ-loop
-loop-again c = 
+loop-again c =
     let at-transform-item = c .before .before .before .before in
     let at-loop-test = at-transform-item .before .before .before in
-    let at-loop = at-loop-test .before in
-    (search needs, at-transform-item .transform-item .kept .0 ∙ at-loop .loop .inv .1, at-transform-item .transform-item .kept .1 .0 ∙ at-loop .loop .inv .2,
-    rw (at-transform-item .transform-item .ensures) (next-turn _ _ _ _ _ (at-loop .loop .inv .3) (at-loop-test .loop-test .taken)))
+    let at-loop = at-loop-test .before in (
+      search needs,
+      at-transform-item .transform-item .kept .0 ∙ at-loop .loop .inv .1,
+      at-transform-item .transform-item .kept .1 .0 ∙ at-loop .loop .inv .2,
+      rw (at-transform-item .transform-item .ensures) (next-turn _ _ _ _ _ (at-loop .loop .inv .3) (at-loop-test .loop-test .taken)),
+    )
 
 returns : tie.Need-returns Inv-loop μ-loop
 unfolding transformItemsF
-returns c = 
+returns c =
     let at-loop-test = c in
     let at-loop = at-loop-test .before in
     last-turn _ _ _ _ _ (at-loop .loop .inv .3) (at-loop-test .loop-test .left)

@@ -8,14 +8,14 @@ use Rattle.scoping.proofs.binds_at.Tie as tie
 
 returns : tie.Need-returns
 unfolding binds symbolAt
-returns c = 
+returns c =
     let at-if1 = c in
     let at-get = at-if1 .before in
     rw (← at-get .get .ensures, ne-eqb _ _ (at-if1 .if1 .taken))
 
 returns-2 : tie.Need-returns-2
 unfolding binds symbolAt
-returns-2 c = 
+returns-2 c =
     let at-if2 = c in
     let at-get2 = at-if2 .before .before in
     let at-if1 = at-get2 .before in
@@ -24,7 +24,7 @@ returns-2 c =
 
 returns-3 : tie.Need-returns-3
 unfolding binds symbolAt
-returns-3 c = 
+returns-3 c =
     let at-get3 = c in
     let at-if2 = at-get3 .before in
     let at-get2 = at-if2 .before .before in

@@ -8,14 +8,14 @@ use Rattle.scoping.proofs.binds_name.Tie as tie
 
 returns : tie.Need-returns
 unfolding bindsName
-returns c = 
+returns c =
     let at-if1 = c in
     let at-symbol-number = at-if1 .before in
     rw (made-is _ _ _ _, ← at-symbol-number .symbol-number .ensures, ne-eqb _ _ (at-if1 .if1 .taken))
 
 returns-2 : tie.Need-returns-2
 unfolding bindsName
-returns-2 c = 
+returns-2 c =
     let at-get-binding = c .before in
     let at-symbol-number2 = at-get-binding .before in
     let at-if1 = at-symbol-number2 .before in

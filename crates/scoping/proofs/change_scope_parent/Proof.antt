@@ -6,7 +6,7 @@ use Rattle.scoping.proofs.change_scope_parent.Tie as tie
 
 returns : tie.Need-returns
 unfolding changeScopeParentF
-returns c = 
+returns c =
     let at-put-scope = c .before .before in
     at-put-scope .put-scope .ensures
 

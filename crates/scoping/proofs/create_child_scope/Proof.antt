@@ -6,7 +6,7 @@ use Rattle.scoping.proofs.create_child_scope.Tie as tie
 
 returns : tie.Need-returns
 unfolding createChildScopeF
-returns c = 
+returns c =
     let at-new-scope = c in
     let at-put2 = at-new-scope .before .before .before in
     let at-plus = at-put2 .before in

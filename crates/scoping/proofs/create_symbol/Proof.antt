@@ -6,7 +6,7 @@ use Rattle.scoping.proofs.create_symbol.Tie as tie
 
 returns : tie.Need-returns
 unfolding createSymbolF
-returns c = 
+returns c =
     let at-new-symbol = c in
     let at-put4 = at-new-symbol .before .before .before in
     let at-put3 = at-put4 .before .before .before .before in

@@ -21,7 +21,7 @@ loop-holds : tie.Need-loop-holds Inv-loop μ-loop
 loop-holds c = (search needs, rw sub-zero)
 
 returns : tie.Need-returns Inv-loop μ-loop
-returns c = 
+returns c =
     let at-if1 = c in
     let at-get-binding = at-if1 .before .before in
     let at-loop-test = at-get-binding .before in
@@ -29,7 +29,7 @@ returns c =
     sym (at-loop .loop .inv .1 ∙ find-here _ _ _ _ _ _ _ _ (at-loop-test .loop-test .taken) (at-get-binding .get-binding .ensures) (at-if1 .if1 .taken))
 
 returns-2 : tie.Need-returns-2 Inv-loop μ-loop
-returns-2 c = 
+returns-2 c =
     let at-if2 = c in
     let at-if1 = at-if2 .before in
     let at-get-binding = at-if1 .before .before in
@@ -38,7 +38,7 @@ returns-2 c =
     sym (at-loop .loop .inv .1 ∙ find-none _ _ _ _ _ _ _ _ (at-loop-test .loop-test .taken) (at-get-binding .get-binding .ensures) (at-if1 .if1 .left) (at-if2 .if2 .taken))
 
 loop-again : tie.Need-loop-again Inv-loop μ-loop
-loop-again c = 
+loop-again c =
     let at-scope-number = c in
     let at-if2 = at-scope-number .before in
     let at-if1 = at-if2 .before in
@@ -48,7 +48,7 @@ loop-again c =
     (search needs, at-loop .loop .inv .1 ∙ find-turn _ _ _ _ _ _ _ _ _ (at-loop-test .loop-test .taken) (at-get-binding .get-binding .ensures) (at-if1 .if1 .left) (at-if2 .if2 .left) (at-scope-number .scope-number .ensures))
 
 returns-3 : tie.Need-returns-3 Inv-loop μ-loop
-returns-3 c = 
+returns-3 c =
     let at-loop-test = c in
     let at-loop = at-loop-test .before in
     sym (at-loop .loop .inv .1 ∙ find-out _ _ _ _ _ _ _ (at-loop-test .loop-test .left))

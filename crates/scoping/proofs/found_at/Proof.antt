@@ -4,14 +4,14 @@ use Rattle.scoping.proofs.found_at.Statement.{statement}
 use Rattle.scoping.proofs.found_at.Tie as tie
 
 returns : tie.Need-returns
-returns c = 
+returns c =
     let at-plus = c in
     let at-if1 = at-plus .before in
     let at-binds-at = at-if1 .before in
     rw (← at-binds-at .binds-at .ensures, at-if1 .if1 .taken, ← at-plus .plus .ensures)
 
 returns-2 : tie.Need-returns-2
-returns-2 c = 
+returns-2 c =
     let at-if1 = c in
     let at-binds-at = at-if1 .before in
     rw (← at-binds-at .binds-at .ensures, at-if1 .if1 .left)

@@ -20,7 +20,7 @@ loop-holds : tie.Need-loop-holds Inv-loop μ-loop
 loop-holds c = (search needs, binding-first _ _ _ _ _)
 
 loop-again : tie.Need-loop-again Inv-loop μ-loop
-loop-again c = 
+loop-again c =
     let at-found-at = c in
     let at-loop-test = at-found-at .before in
     let at-loop = at-loop-test .before in
@@ -28,7 +28,7 @@ loop-again c =
     (search needs, at-loop .loop .inv .1 ∙ binding-turn _ _ _ _ _ _ _ _ (at-loop-test .loop-test .taken) (omega (arith, at-start .fits)) (at-found-at .found-at .ensures))
 
 returns : tie.Need-returns Inv-loop μ-loop
-returns c = 
+returns c =
     let at-loop-test = c in
     let at-loop = at-loop-test .before in
     sym (at-loop .loop .inv .1 ∙ binding-last _ _ _ _ _ _ _ (at-loop-test .loop-test .left))

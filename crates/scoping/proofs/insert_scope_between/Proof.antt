@@ -6,7 +6,7 @@ use Rattle.scoping.proofs.insert_scope_between.Tie as tie
 
 returns : tie.Need-returns
 unfolding insertScopeBetweenF
-returns c = 
+returns c =
     let at-change-scope-parent = c .before .before in
     let at-create-child-scope = at-change-scope-parent .before .before .before .before in
     let at-scope-number = at-create-child-scope .before .before in

@@ -7,13 +7,13 @@ use Rattle.scoping.proofs.is_block_scoped.Tie as tie
 
 returns : tie.Need-returns
 unfolding blockScoped
-returns c = 
+returns c =
     let at-if1 = c in
     rw (eq-eqb _ _ (at-if1 .if1 .taken))
 
 returns-2 : tie.Need-returns-2
 unfolding blockScoped
-returns-2 c = 
+returns-2 c =
     let at-if1 = c in
     rw (ne-eqb _ _ (at-if1 .if1 .left))
 

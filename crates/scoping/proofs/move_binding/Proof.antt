@@ -6,7 +6,7 @@ use Rattle.scoping.proofs.move_binding.Tie as tie
 
 returns : tie.Need-returns
 unfolding moveBindingF
-returns c = 
+returns c =
     let at-put-symbol = c .before .before in
     at-put-symbol .put-symbol .ensures
 

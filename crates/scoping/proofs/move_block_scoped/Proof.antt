@@ -23,7 +23,7 @@ loop-holds c = (search needs, refl, rw sub-zero)
 
 loop-again : tie.Need-loop-again Inv-loop μ-loop
 unfolding moveOne
-loop-again c = 
+loop-again c =
     let at-move-bound = c .before .before in
     let at-loop-test = at-move-bound .before .before in
     let at-loop = at-loop-test .before in
@@ -31,7 +31,7 @@ loop-again c =
 
 returns : tie.Need-returns Inv-loop μ-loop
 unfolding moveBlockScopedF
-returns c = 
+returns c =
     let at-loop-test = c in
     let at-loop = at-loop-test .before in
     ap (λ (s : Moving). s .t) (last-turn _ _ _ _ _ (at-loop .loop .inv .2) (at-loop-test .loop-test .left))

@@ -6,7 +6,7 @@ use Rattle.scoping.proofs.move_bound.Tie as tie
 
 returns : tie.Need-returns
 unfolding moveBoundF
-returns c = 
+returns c =
     let at-move-binding = c .before .before in
     let at-plus = at-move-binding .before in
     let at-if1 = at-plus .before .before in
@@ -15,7 +15,7 @@ returns c =
 
 returns-2 : tie.Need-returns-2
 unfolding moveBoundF
-returns-2 c = 
+returns-2 c =
     let at-if1 = c in
     let at-moves = at-if1 .before in
     rw (← at-moves .moves .ensures, at-if1 .if1 .left)

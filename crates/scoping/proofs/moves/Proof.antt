@@ -6,7 +6,7 @@ use Rattle.scoping.proofs.moves.Tie as tie
 
 returns : tie.Need-returns
 unfolding movesF
-returns c = 
+returns c =
     let at-is-block-scoped = c in
     let at-get = at-is-block-scoped .before in
     let at-if1 = at-get .before in
@@ -15,7 +15,7 @@ returns c =
 
 returns-2 : tie.Need-returns-2
 unfolding movesF
-returns-2 c = 
+returns-2 c =
     let at-if1 = c in
     let at-is-bound = at-if1 .before in
     rw (← at-is-bound .is-bound .ensures, at-if1 .if1 .left)

@@ -7,13 +7,13 @@ use Rattle.scoping.proofs.put_symbol.Tie as tie
 
 returns : tie.Need-returns
 unfolding setSymbolF
-returns c = 
+returns c =
     let at-if1 = c in
     rw (eq-eqb _ _ (at-if1 .if1 .taken))
 
 returns-2 : tie.Need-returns-2
 unfolding setSymbolF
-returns-2 c = 
+returns-2 c =
     let at-put = c .before .before in
     let at-if2 = at-put .before .before in
     let at-if1 = at-if2 .before in
@@ -21,7 +21,7 @@ returns-2 c =
 
 returns-3 : tie.Need-returns-3
 unfolding setSymbolF
-returns-3 c = 
+returns-3 c =
     let at-if2 = c in
     let at-if1 = at-if2 .before in
     rw (ne-eqb _ _ (at-if1 .if1 .left), lt-leb _ _ (at-if2 .if2 .left))

@@ -6,7 +6,7 @@ use Rattle.scoping.proofs.set_scope_flags.Tie as tie
 
 returns : tie.Need-returns
 unfolding setScopeFlagsF
-returns c = 
+returns c =
     let at-put-scope = c .before .before in
     at-put-scope .put-scope .ensures
 

@@ -6,7 +6,7 @@ use Rattle.scoping.proofs.set_symbol_flags.Tie as tie
 
 returns : tie.Need-returns
 unfolding setSymbolFlagsF
-returns c = 
+returns c =
     let at-put-symbol = c .before .before in
     at-put-symbol .put-symbol .ensures
 

@@ -27,10 +27,13 @@ loop-again c =
     let at-field-at = at-row-of .before .before in
     let at-loop-test = at-field-at .before in
     let at-loop = at-loop-test .before in
-    let i = at-loop .loop .inv in
-    (search needs, next-most _ _ _ _ (at-field-at .field-at .ensures) (i .1), at-put-row .put-row .kept .0 ∙ i .2,
-    fill-turn _ _ _ _ _ _ _ _ _ (i .3) (at-loop-test .loop-test .taken) (at-field-at .field-at .ensures) (at-row-of .row-of .ensures)
-    (at-put-row .put-row .ensures))
+    let i = at-loop .loop .inv in (
+      search needs,
+      next-most _ _ _ _ (at-field-at .field-at .ensures) (i .1),
+      at-put-row .put-row .kept .0 ∙ i .2,
+      fill-turn _ _ _ _ _ _ _ _ _ (i .3) (at-loop-test .loop-test .taken) (at-field-at .field-at .ensures) (at-row-of .row-of .ensures)
+          (at-put-row .put-row .ensures),
+    )
 
 returns : tie.Need-returns Inv-loop μ-loop
 unfolding recordsF

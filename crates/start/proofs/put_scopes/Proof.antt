@@ -25,9 +25,11 @@ unfolding nextScope
 loop-again c =
     let at-put-scope = c .before .before in
     let at-loop-test = at-put-scope .before .before in
-    let at-loop = at-loop-test .before in
-    (search needs, at-put-scope .put-scope .kept .1 .0 ∙ at-loop .loop .inv .1,
-    rw (at-put-scope .put-scope .ensures) (next-turn _ _ _ _ _ (at-loop .loop .inv .2) (at-loop-test .loop-test .taken)))
+    let at-loop = at-loop-test .before in (
+      search needs,
+      at-put-scope .put-scope .kept .1 .0 ∙ at-loop .loop .inv .1,
+      rw (at-put-scope .put-scope .ensures) (next-turn _ _ _ _ _ (at-loop .loop .inv .2) (at-loop-test .loop-test .taken)),
+    )
 
 returns : tie.Need-returns Inv-loop μ-loop
 unfolding scopesF

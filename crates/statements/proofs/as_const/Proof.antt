@@ -7,14 +7,14 @@ use Rattle.statements.proofs.as_const.Tie as tie
 
 returns : tie.Need-returns
 unfolding asConstF
-returns c = 
+returns c =
     let at-made = c in
     let at-if1 = at-made .before in
     rw (eq-eqb _ _ (at-if1 .if1 .taken), ← at-made .made .ensures)
 
 returns-2 : tie.Need-returns-2
 unfolding asConstF
-returns-2 c = 
+returns-2 c =
     let at-made2 = c in
     let at-if1 = at-made2 .before in
     rw (ne-eqb _ _ (at-if1 .if1 .left), ← at-made2 .made2 .ensures)

@@ -4,12 +4,12 @@ use Rattle.statements.proofs.awaits_now.Statement.{statement}
 use Rattle.statements.proofs.awaits_now.Tie as tie
 
 returns : tie.Need-returns
-returns c = 
+returns c =
     let at-if1 = c in
     rw (at-if1 .if1 .taken)
 
 returns-2 : tie.Need-returns-2
-returns-2 c = 
+returns-2 c =
     let at-is-await-using = c in
     let at-if1 = at-is-await-using .before in
     rw (at-if1 .if1 .left, ← at-is-await-using .is-await-using .ensures)

@@ -6,7 +6,7 @@ use Rattle.statements.proofs.count_one.Tie as tie
 
 returns : tie.Need-returns
 unfolding countOneF
-returns c = 
+returns c =
     let at-plus = c in
     let at-number-if = at-plus .before in
     let at-has-initializer = at-number-if .before in

@@ -6,7 +6,7 @@ use Rattle.statements.proofs.declare.Statement.{statement}
 use Rattle.statements.proofs.declare.Tie as tie
 
 same-length : tie.Need-same-length
-same-length c = 
+same-length c =
     let at-emit3 = c .before .before in
     let at-emit2 = at-emit3 .before .before .before .before .before in
     let at-emit = at-emit2 .before .before .before .before .before in
@@ -14,7 +14,7 @@ same-length c =
 
 returns : tie.Need-returns
 unfolding declareF
-returns c = 
+returns c =
     let at-emit3 = c .before .before in
     let at-made3 = at-emit3 .before in
     let at-emit2 = at-made3 .before .before .before .before in

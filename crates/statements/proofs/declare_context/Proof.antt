@@ -6,14 +6,14 @@ use Rattle.statements.proofs.declare_context.Statement.{statement}
 use Rattle.statements.proofs.declare_context.Tie as tie
 
 same-length : tie.Need-same-length
-same-length c = 
+same-length c =
     let at-emit = c .before .before in
     let at-declare = at-emit .before .before .before .before .before in
     at-emit .emit .kept .0 ∙ at-declare .declare .kept .0
 
 returns : tie.Need-returns
 unfolding declareContextF
-returns c = 
+returns c =
     let at-emit = c .before .before in
     let at-made = at-emit .before in
     let at-declare = at-made .before .before .before .before in

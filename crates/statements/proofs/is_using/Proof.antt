@@ -7,13 +7,13 @@ use Rattle.statements.proofs.is_using.Tie as tie
 
 returns : tie.Need-returns
 unfolding isUsing
-returns c = 
+returns c =
     let at-if1 = c in
     rw (ne-eqb _ _ (at-if1 .if1 .taken))
 
 returns-2 : tie.Need-returns-2
 unfolding isUsing
-returns-2 c = 
+returns-2 c =
     let at-if2 = c in
     let at-is-using-kind = at-if2 .before in
     let at-if1 = at-is-using-kind .before in
@@ -21,7 +21,7 @@ returns-2 c =
 
 returns-3 : tie.Need-returns-3
 unfolding isUsing
-returns-3 c = 
+returns-3 c =
     let at-is-using-kind2 = c in
     let at-if2 = at-is-using-kind2 .before in
     let at-is-using-kind = at-if2 .before in

@@ -6,7 +6,7 @@ use Rattle.statements.proofs.plan_one.Tie as tie
 
 returns : tie.Need-returns
 unfolding planOneF
-returns c = 
+returns c =
     let at-plus3 = c in
     let at-wraps = at-plus3 .before in
     let at-plus2 = at-wraps .before in

@@ -6,7 +6,7 @@ use Rattle.statements.proofs.take_up_declarator.Statement.{statement}
 use Rattle.statements.proofs.take_up_declarator.Tie as tie
 
 same-length : tie.Need-same-length
-same-length c = 
+same-length c =
     let at-copy2 = c .before .before in
     let at-emit = at-copy2 .before .before .before .before .before in
     let at-copy = at-emit .before .before .before .before .before in
@@ -15,7 +15,7 @@ same-length c =
 
 returns : tie.Need-returns
 unfolding takeUpDeclaratorF
-returns c = 
+returns c =
     let at-copy2 = c .before .before in
     let at-minus = at-copy2 .before in
     let at-emit = at-minus .before .before .before .before in
@@ -28,14 +28,14 @@ returns c =
     rw (← at-row-after .row-after .ensures, ← at-pass .pass .ensures, ← at-has-initializer .has-initializer .ensures, at-if1 .if1 .taken, ← at-copy .copy .ensures, ← at-made .made .ensures, ← at-emit .emit .ensures, ← at-minus .minus .ensures, ← at-copy2 .copy2 .ensures)
 
 same-length-2 : tie.Need-same-length-2
-same-length-2 c = 
+same-length-2 c =
     let at-copy3 = c .before .before in
     let at-pass = at-copy3 .before .before .before .before .before .before in
     at-copy3 .copy3 .kept .0 ∙ at-pass .pass .kept .0
 
 returns-2 : tie.Need-returns-2
 unfolding takeUpDeclaratorF
-returns-2 c = 
+returns-2 c =
     let at-copy3 = c .before .before in
     let at-if1 = at-copy3 .before .before in
     let at-has-initializer = at-if1 .before in

@@ -22,16 +22,18 @@ loop-holds : tie.Need-loop-holds Inv-loop μ-loop
 loop-holds c = (search needs, refl, rw sub-zero)
 
 loop-again : tie.Need-loop-again Inv-loop μ-loop
-loop-again c = 
+loop-again c =
     let at-take-up-declarator = c .before .before in
     let at-loop-test = at-take-up-declarator .before .before in
-    let at-loop = at-loop-test .before in
-    (search needs, at-take-up-declarator .take-up-declarator .kept .0 ∙ at-loop .loop .inv .1,
-    rw (at-take-up-declarator .take-up-declarator .ensures) (next-turn _ _ _ _ _ (at-loop .loop .inv .2) (at-loop-test .loop-test .taken)))
+    let at-loop = at-loop-test .before in (
+      search needs,
+      at-take-up-declarator .take-up-declarator .kept .0 ∙ at-loop .loop .inv .1,
+      rw (at-take-up-declarator .take-up-declarator .ensures) (next-turn _ _ _ _ _ (at-loop .loop .inv .2) (at-loop-test .loop-test .taken)),
+    )
 
 returns : tie.Need-returns Inv-loop μ-loop
 unfolding takeUpDeclaratorsF
-returns c = 
+returns c =
     let at-loop-test = c in
     let at-loop = at-loop-test .before in
     last-turn _ _ _ _ _ (at-loop .loop .inv .2) (at-loop-test .loop-test .left)

@@ -6,14 +6,14 @@ use Rattle.statements.proofs.take_up_item.Statement.{statement}
 use Rattle.statements.proofs.take_up_item.Tie as tie
 
 same-length : tie.Need-same-length
-same-length c = 
+same-length c =
     let at-take-up-declarators = c .before .before in
     let at-pass-as = at-take-up-declarators .before .before .before .before in
     at-take-up-declarators .take-up-declarators .kept .0 ∙ at-pass-as .pass-as .kept .0
 
 returns : tie.Need-returns
 unfolding takeUpItemF
-returns c = 
+returns c =
     let at-take-up-declarators = c .before .before in
     let at-pass-as = at-take-up-declarators .before .before .before .before in
     let at-as-const = at-pass-as .before in
@@ -24,7 +24,7 @@ returns c =
 
 returns-2 : tie.Need-returns-2
 unfolding takeUpItemF
-returns-2 c = 
+returns-2 c =
     let at-copy = c .before .before in
     let at-if1 = at-copy .before .before in
     let at-is-using = at-if1 .before in

@@ -6,7 +6,7 @@ use Rattle.statements.proofs.take_up_one.Tie as tie
 
 returns : tie.Need-returns
 unfolding takeUpOneF
-returns c = 
+returns c =
     let at-both = c in
     let at-take-up-item = at-both .before .before .before in
     let at-letter-if = at-take-up-item .before in

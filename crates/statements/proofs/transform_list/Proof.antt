@@ -6,7 +6,7 @@ use Rattle.statements.proofs.transform_list.Statement.{statement}
 use Rattle.statements.proofs.transform_list.Tie as tie
 
 same-length : tie.Need-same-length
-same-length c = 
+same-length c =
     let at-write-handlers = c .before .before in
     let at-take-up = at-write-handlers .before .before .before .before in
     let at-declare-context = at-take-up .before .before .before .before in
@@ -14,7 +14,7 @@ same-length c =
 
 returns : tie.Need-returns
 unfolding transformListF
-returns c = 
+returns c =
     let at-write-handlers = c .before .before in
     let at-take-up = at-write-handlers .before .before .before .before in
     let at-declare-context = at-take-up .before .before .before .before in

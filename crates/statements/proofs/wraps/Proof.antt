@@ -6,7 +6,7 @@ use Rattle.statements.proofs.wraps.Tie as tie
 
 returns : tie.Need-returns
 unfolding wrapsF
-returns c = 
+returns c =
     let at-initializers = c in
     let at-plus = at-initializers .before in
     let at-if1 = at-plus .before in
@@ -16,7 +16,7 @@ returns c =
 
 returns-2 : tie.Need-returns-2
 unfolding wrapsF
-returns-2 c = 
+returns-2 c =
     let at-if1 = c in
     let at-is-using = at-if1 .before in
     let at-row-after = at-is-using .before in

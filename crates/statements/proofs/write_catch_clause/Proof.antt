@@ -6,7 +6,7 @@ use Rattle.statements.proofs.write_catch_clause.Statement.{statement}
 use Rattle.statements.proofs.write_catch_clause.Tie as tie
 
 same-length : tie.Need-same-length
-same-length c = 
+same-length c =
     let at-emit4 = c .before .before in
     let at-emit3 = at-emit4 .before .before .before .before .before in
     let at-emit2 = at-emit3 .before .before .before .before .before .before in
@@ -15,7 +15,7 @@ same-length c =
 
 returns : tie.Need-returns
 unfolding catchClauseF
-returns c = 
+returns c =
     let at-emit4 = c .before .before in
     let at-made4 = at-emit4 .before in
     let at-emit3 = at-made4 .before .before .before .before in

@@ -6,7 +6,7 @@ use Rattle.tables.proofs.back.Tie as tie
 
 returns : tie.Need-returns
 unfolding backF
-returns c = 
+returns c =
     let at-move-row = c .before .before in
     let at-row-after = at-move-row .before .before in
     let at-minus2 = at-row-after .before .before in

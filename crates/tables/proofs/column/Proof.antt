@@ -6,7 +6,7 @@ use Rattle.tables.proofs.column.Tie as tie
 
 returns : tie.Need-returns
 unfolding columnF
-returns c = 
+returns c =
     let at-get = c in
     rw (← at-get .get .ensures)
 

@@ -25,27 +25,31 @@ loop-holds : tie.Need-loop-holds Inv-loop μ-loop
 loop-holds c = (search needs, search needs, search needs, refl, refl)
 
 loop-again : tie.Need-loop-again Inv-loop μ-loop
-loop-again c = 
+loop-again c =
     let at-plus = c .before in
     let at-move-row = at-plus .before .before .before in
     let at-row-after = at-move-row .before .before in
     let at-if1 = at-row-after .before .before in
     let at-loop-test = at-if1 .before in
     let at-loop = at-loop-test .before in
-    let i = at-loop .loop .inv in
-    (search needs, search needs, omega (arith, i .0, i .2, at-loop-test .loop-test .taken, at-if1 .if1 .left, at-row-after .row-after .ok), at-move-row .move-row .kept .0 ∙ i .3,
-    copy-turn _ _ _ _ _ _ _ _ (i .4) (at-loop-test .loop-test .taken) (at-if1 .if1 .left) (at-row-after .row-after .ensures) (at-move-row .move-row .ensures) (at-plus .plus .ensures))
+    let i = at-loop .loop .inv in (
+      search needs,
+      search needs,
+      omega (arith, i .0, i .2, at-loop-test .loop-test .taken, at-if1 .if1 .left, at-row-after .row-after .ok),
+      at-move-row .move-row .kept .0 ∙ i .3,
+      copy-turn _ _ _ _ _ _ _ _ (i .4) (at-loop-test .loop-test .taken) (at-if1 .if1 .left) (at-row-after .row-after .ensures) (at-move-row .move-row .ensures) (at-plus .plus .ensures),
+    )
 
 returns : tie.Need-returns Inv-loop μ-loop
 unfolding copyF
-returns c = 
+returns c =
     let at-loop-test = c in
     let at-loop = at-loop-test .before in
     ap (λ (s : Copying). s .buf) (run-out _ _ _ _ _ _ (at-loop .loop .inv .4) (at-loop-test .loop-test .left))
 
 returns-2 : tie.Need-returns-2 Inv-loop μ-loop
 unfolding copyF
-returns-2 c = 
+returns-2 c =
     let at-if1 = c in
     let at-loop = at-if1 .before .before in
     ap (λ (s : Copying). s .buf) (stopped _ _ _ _ _ (at-loop .loop .inv .4) (eq-eqb _ _ (at-if1 .if1 .taken)))

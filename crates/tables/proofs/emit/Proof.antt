@@ -6,7 +6,7 @@ use Rattle.tables.proofs.emit.Tie as tie
 
 returns : tie.Need-returns
 unfolding emitF
-returns c = 
+returns c =
     let at-plus = c in
     let at-put-row = at-plus .before .before .before in
     rw (← at-put-row .put-row .ensures, ← at-plus .plus .ensures)

@@ -22,7 +22,7 @@ loop-holds : tie.Need-loop-holds Inv-loop μ-loop
 loop-holds c = (search needs, search needs, search needs, refl)
 
 loop-again : tie.Need-loop-again Inv-loop μ-loop
-loop-again c = 
+loop-again c =
     let at-column = c in
     let at-if1 = at-column .before in
     let at-loop-test = at-if1 .before in
@@ -31,14 +31,14 @@ loop-again c =
 
 returns : tie.Need-returns Inv-loop μ-loop
 unfolding endF
-returns c = 
+returns c =
     let at-loop-test = c in
     let at-loop = at-loop-test .before in
     ap (λ (s : Skipping). s .at) (run-out _ _ _ _ _ _ (at-loop .loop .inv .3) (at-loop-test .loop-test .left))
 
 returns-2 : tie.Need-returns-2 Inv-loop μ-loop
 unfolding endF
-returns-2 c = 
+returns-2 c =
     let at-if1 = c in
     let at-loop = at-if1 .before .before in
     ap (λ (s : Skipping). s .at) (stopped _ _ _ _ _ (at-loop .loop .inv .3) (eq-eqb _ _ (at-if1 .if1 .taken)))

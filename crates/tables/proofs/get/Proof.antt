@@ -9,7 +9,7 @@ returns : tie.Need-returns
 returns c = search needs
 
 returns-2 : tie.Need-returns-2
-returns-2 c = 
+returns-2 c =
     let at-if1 = c in
     let at-start = at-if1 .before in
     sym (List·getD-eq-default (at-start .args .table .now) 0 (at-if1 .if1 .left))

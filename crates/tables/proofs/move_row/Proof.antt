@@ -6,7 +6,7 @@ use Rattle.tables.proofs.move_row.Tie as tie
 
 returns : tie.Need-returns
 unfolding moveRowF
-returns c = 
+returns c =
     let at-put-row2 = c .before .before in
     let at-put-row = at-put-row2 .before .before .before .before in
     let at-made = at-put-row .before in

@@ -6,7 +6,7 @@ use Rattle.tables.proofs.pass.Tie as tie
 
 returns : tie.Need-returns
 unfolding passF
-returns c = 
+returns c =
     let at-pass-as = c .before .before in
     let at-row-after = at-pass-as .before .before in
     rw (← at-row-after .row-after .ensures, ← at-pass-as .pass-as .ensures)

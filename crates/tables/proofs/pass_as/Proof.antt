@@ -6,7 +6,7 @@ use Rattle.tables.proofs.pass_as.Tie as tie
 
 returns : tie.Need-returns
 unfolding passAsF
-returns c = 
+returns c =
     let at-plus2 = c in
     let at-plus = at-plus2 .before in
     let at-move-row = at-plus .before .before .before in

@@ -9,7 +9,7 @@ returns : tie.Need-returns
 returns c = search needs
 
 returns-2 : tie.Need-returns-2
-returns-2 c = 
+returns-2 c =
     let at-if1 = c in
     sym (set-out _ _ _ (at-if1 .if1 .left))
 

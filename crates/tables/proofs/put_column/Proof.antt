@@ -6,7 +6,7 @@ use Rattle.tables.proofs.put_column.Tie as tie
 
 returns : tie.Need-returns
 unfolding setColumnF
-returns c = 
+returns c =
     let at-put = c .before .before in
     at-put .put .ensures
 

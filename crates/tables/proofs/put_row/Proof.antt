@@ -6,7 +6,7 @@ use Rattle.tables.proofs.put_row.Tie as tie
 
 returns : tie.Need-returns
 unfolding setRowF
-returns c = 
+returns c =
     let at-put-column7 = c .before .before in
     let at-put-column6 = at-put-column7 .before .before .before .before in
     let at-put-column5 = at-put-column6 .before .before .before .before in

@@ -6,7 +6,7 @@ use Rattle.tables.proofs.row_after.Tie as tie
 
 returns : tie.Need-returns
 unfolding rowF
-returns c = 
+returns c =
     let at-column7 = c in
     let at-column6 = at-column7 .before in
     let at-column5 = at-column6 .before in

@@ -20,7 +20,7 @@ loop-holds : tie.Need-loop-holds Inv-loop μ-loop
 loop-holds c = (search needs, refl, rw sub-zero)
 
 loop-again : tie.Need-loop-again Inv-loop μ-loop
-loop-again c = 
+loop-again c =
     let at-back = c .before .before in
     let at-loop-test = at-back .before .before in
     let at-loop = at-loop-test .before in
@@ -28,7 +28,7 @@ loop-again c =
 
 returns : tie.Need-returns Inv-loop μ-loop
 unfolding takeBackF
-returns c = 
+returns c =
     let at-loop-test = c in
     let at-loop = at-loop-test .before in
     last-turn _ _ _ _ _ (at-loop .loop .inv .2) (at-loop-test .loop-test .left)

@@ -7,13 +7,13 @@ use Rattle.walk.proofs.is_leaving.Tie as tie
 
 returns : tie.Need-returns
 unfolding isLeavingF
-returns c = 
+returns c =
     let at-if1 = c in
     rw (eq-eqb _ _ (at-if1 .if1 .taken))
 
 returns-2 : tie.Need-returns-2
 unfolding isLeavingF
-returns-2 c = 
+returns-2 c =
     let at-column = c in
     let at-if1 = at-column .before in
     rw (ne-eqb _ _ (at-if1 .if1 .left), ← at-column .column .ensures)

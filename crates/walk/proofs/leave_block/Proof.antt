@@ -8,7 +8,7 @@ use Rattle.walk.proofs.leave_block.Tie as tie
 
 returns : tie.Need-returns
 unfolding leaveBlockF
-returns c = 
+returns c =
     let at-if1 = c in
     let at-plan-list = at-if1 .before .before in
     let at-no-plan = at-plan-list .before in
@@ -17,24 +17,24 @@ returns c =
     rw (← at-minus .minus .ensures, ← at-column .column .ensures, ← at-no-plan .no-plan .ensures, ← at-plan-list .plan-list .ensures, eq-eqb _ _ (at-if1 .if1 .taken))
 
 same-length-2 : tie.Need-same-length-2
-same-length-2 c = 
+same-length-2 c =
     let at-exit-static-block = c .before .before .before .before .before .before in
     let at-take-back = at-exit-static-block .before .before .before .before .before .before .before in
     at-exit-static-block .exit-static-block .kept .0 ∙ at-take-back .take-back .kept .0
 
 same-length-3 : tie.Need-same-length-3
-same-length-3 c = 
+same-length-3 c =
     let at-exit-static-block = c .before .before .before .before .before .before in
     at-exit-static-block .exit-static-block .kept .1 .0
 
 same-length-4 : tie.Need-same-length-4
-same-length-4 c = 
+same-length-4 c =
     let at-exit-static-block = c .before .before .before .before .before .before in
     at-exit-static-block .exit-static-block .kept .1 .1 .0
 
 returns-2 : tie.Need-returns-2
 unfolding leaveBlockF
-returns-2 c = 
+returns-2 c =
     let at-exit-static-block = c .before .before .before .before .before .before in
     let at-with-cursor = at-exit-static-block .before in
     let at-take-back = at-with-cursor .before .before .before .before .before .before in

@@ -6,7 +6,7 @@ use Rattle.walk.proofs.plan_next.Tie as tie
 
 returns : tie.Need-returns
 unfolding planNextF
-returns c = 
+returns c =
     let at-plan-list = c in
     let at-no-plan = at-plan-list .before in
     let at-plus = at-no-plan .before in

@@ -5,18 +5,18 @@ use Rattle.walk.proofs.rewrite_for_of.Statement.{statement}
 use Rattle.walk.proofs.rewrite_for_of.Tie as tie
 
 same-length : tie.Need-same-length
-same-length c = 
+same-length c =
     let at-insert-using = c .before .before .before .before in
     at-insert-using .insert-using .kept .0
 
 same-length-3 : tie.Need-same-length-3
-same-length-3 c = 
+same-length-3 c =
     let at-insert-using = c .before .before .before .before in
     at-insert-using .insert-using .kept .1 .1 .0
 
 returns : tie.Need-returns
 unfolding rewriteForOfF
-returns c = 
+returns c =
     let at-insert-using = c .before .before .before .before in
     let at-if2 = at-insert-using .before .before .before .before in
     let at-inserts = at-if2 .before in
@@ -25,23 +25,23 @@ returns c =
     rw (← at-takes-using .takes-using .ensures, at-if1 .if1 .taken, ← at-inserts .inserts .ensures, at-if2 .if2 .taken, ← at-insert-using .insert-using .ensures)
 
 same-length-4 : tie.Need-same-length-4
-same-length-4 c = 
+same-length-4 c =
     let at-wrap-body = c .before .before .before .before .before .before in
     at-wrap-body .wrap-body .kept .0
 
 same-length-5 : tie.Need-same-length-5
-same-length-5 c = 
+same-length-5 c =
     let at-wrap-body = c .before .before .before .before .before .before in
     at-wrap-body .wrap-body .kept .1 .0
 
 same-length-6 : tie.Need-same-length-6
-same-length-6 c = 
+same-length-6 c =
     let at-wrap-body = c .before .before .before .before .before .before in
     at-wrap-body .wrap-body .kept .1 .1 .0
 
 returns-2 : tie.Need-returns-2
 unfolding rewriteForOfF
-returns-2 c = 
+returns-2 c =
     let at-wrap-body = c .before .before .before .before .before .before in
     let at-if2 = at-wrap-body .before .before .before .before in
     let at-inserts = at-if2 .before in
@@ -51,7 +51,7 @@ returns-2 c =
 
 returns-3 : tie.Need-returns-3
 unfolding rewriteForOfF
-returns-3 c = 
+returns-3 c =
     let at-if1 = c in
     let at-takes-using = at-if1 .before in
     rw (← at-takes-using .takes-using .ensures, at-if1 .if1 .left)

@@ -7,29 +7,29 @@ use Rattle.walk.proofs.rewrite_program.Tie as tie
 
 returns : tie.Need-returns
 unfolding rewriteProgramF
-returns c = 
+returns c =
     let at-if1 = c in
     let at-plan-next = at-if1 .before .before in
     rw (← at-plan-next .plan-next .ensures, eq-eqb _ _ (at-if1 .if1 .taken))
 
 same-length-2 : tie.Need-same-length-2
-same-length-2 c = 
+same-length-2 c =
     let at-enter-program = c .before .before .before .before .before .before in
     at-enter-program .enter-program .kept .0
 
 same-length-3 : tie.Need-same-length-3
-same-length-3 c = 
+same-length-3 c =
     let at-enter-program = c .before .before .before .before .before .before in
     at-enter-program .enter-program .kept .1 .0
 
 same-length-4 : tie.Need-same-length-4
-same-length-4 c = 
+same-length-4 c =
     let at-enter-program = c .before .before .before .before .before .before in
     at-enter-program .enter-program .kept .1 .1 .0
 
 returns-2 : tie.Need-returns-2
 unfolding rewriteProgramF
-returns-2 c = 
+returns-2 c =
     let at-enter-program = c .before .before .before .before .before .before in
     let at-if1 = at-enter-program .before .before .before .before in
     let at-plan-next = at-if1 .before .before in

@@ -7,47 +7,47 @@ use Rattle.walk.proofs.visit.Statement.{statement}
 use Rattle.walk.proofs.visit.Tie as tie
 
 same-length : tie.Need-same-length
-same-length c = 
+same-length c =
     let at-leave = c .before .before .before .before .before .before in
     at-leave .leave .kept .0
 
 same-length-2 : tie.Need-same-length-2
-same-length-2 c = 
+same-length-2 c =
     let at-leave = c .before .before .before .before .before .before in
     at-leave .leave .kept .1 .0
 
 same-length-3 : tie.Need-same-length-3
-same-length-3 c = 
+same-length-3 c =
     let at-leave = c .before .before .before .before .before .before in
     at-leave .leave .kept .1 .1 .0
 
 returns : tie.Need-returns
 unfolding visitF
-returns c = 
+returns c =
     let at-leave = c .before .before .before .before .before .before in
     let at-if1 = at-leave .before .before .before .before in
     let at-is-leaving = at-if1 .before in
     rw (← at-is-leaving .is-leaving .ensures, at-if1 .if1 .taken, ← at-leave .leave .ensures)
 
 same-length-4 : tie.Need-same-length-4
-same-length-4 c = 
+same-length-4 c =
     let at-enter = c .before .before in
     let at-rewrite = at-enter .before .before .before .before .before .before .before .before in
     at-enter .enter .kept .0 ∙ at-rewrite .rewrite .kept .0
 
 same-length-5 : tie.Need-same-length-5
-same-length-5 c = 
+same-length-5 c =
     let at-rewrite = c .before .before .before .before .before .before .before .before .before .before in
     at-rewrite .rewrite .kept .1 .0
 
 same-length-6 : tie.Need-same-length-6
-same-length-6 c = 
+same-length-6 c =
     let at-rewrite = c .before .before .before .before .before .before .before .before .before .before in
     at-rewrite .rewrite .kept .1 .1 .0
 
 returns-2 : tie.Need-returns-2
 unfolding visitF
-returns-2 c = 
+returns-2 c =
     let at-enter = c .before .before in
     let at-rewrite = at-enter .before .before .before .before .before .before .before .before in
     let at-if2 = at-rewrite .before .before .before .before in
@@ -57,7 +57,7 @@ returns-2 c =
 
 returns-3 : tie.Need-returns-3
 unfolding visitF
-returns-3 c = 
+returns-3 c =
     let at-if2 = c in
     let at-if1 = at-if2 .before .before in
     let at-is-leaving = at-if1 .before in

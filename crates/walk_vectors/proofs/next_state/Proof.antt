@@ -15,7 +15,7 @@ returns-3 : tie.Need-returns-3
 returns-3 c = search needs
 
 slice-aggregate-read-full-2 : tie.Need-slice-aggregate-read-full-2
-slice-aggregate-read-full-2 c = 
+slice-aggregate-read-full-2 c =
     let at-start = c .before .before .before .before .before .before .before .before .before in
     sym (length-take-le _ (at-start .args .state .now) (search needs))
 

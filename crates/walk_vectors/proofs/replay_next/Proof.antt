@@ -12,7 +12,7 @@ returns-2 : tie.Need-returns-2
 returns-2 c = search needs
 
 slice-aggregate-read-full-2 : tie.Need-slice-aggregate-read-full-2
-slice-aggregate-read-full-2 c = 
+slice-aggregate-read-full-2 c =
     let at-start = c .before .before .before .before .before .before .before .before .before in
     sym (length-take-le _ (at-start .args .file .now) (search needs))
 

@@ -14,20 +14,20 @@ abbrev μ-loop : tie.MeasureT-loop
 μ-loop fd count state₀ records₀ scopes₀ symbols₀ w₀ seen₀ len₀ k₀ state records scopes symbols w seen len k = count - k
 
 add-k : tie.Need-add-k Inv-loop μ-loop
-add-k c = 
+add-k c =
     let at-loop-test = c .before .before .before .before .before .before .before .before .before .before .before .before .before .before .before .before .before .before .before .before in
     let at-loop = at-loop-test .before in
     let at-start = at-loop .before .before .before .before .before in
     omega (arith, at-loop .loop .inv, at-loop-test .loop-test .taken, at-start .fits)
 
 loop-less : tie.Need-loop-less Inv-loop μ-loop
-loop-less c = 
+loop-less c =
     let at-loop-test = c .before .before .before .before .before .before .before .before .before .before .before .before .before .before .before .before .before .before .before .before in
     let at-loop = at-loop-test .before in
     omega (arith, at-loop .loop .inv, at-loop-test .loop-test .taken)
 
 loop-again : tie.Need-loop-again Inv-loop μ-loop
-loop-again c = 
+loop-again c =
     let at-visit = c .before .before .before .before .before .before in
     let at-next-state = at-visit .before .before .before .before .before .before .before .before .before .before .before .before in
     let at-loop-test = at-next-state .before .before in

@@ -6,7 +6,7 @@ use Rattle.path.proofs.Walk.charge.Tie as tie
 
 returns : tie.Need-returns
 unfolding chargedF
-returns c = 
+returns c =
     let at-minus = c in
     rw (← at-minus .minus .ensures)
 

@@ -6,7 +6,7 @@ use Rattle.path.proofs.Walk.step.Tie as tie
 
 returns : tie.Need-returns
 unfolding steppedF
-returns c = 
+returns c =
     let at-plus2 = c in
     let at-plus = at-plus2 .before in
     rw (← at-plus .plus .ensures, ← at-plus2 .plus2 .ensures)

@@ -6,7 +6,7 @@ use Rattle.scoping.proofs.Ctx.new_context.Tie as tie
 
 returns : tie.Need-returns
 unfolding withContext
-returns c = 
+returns c =
     let at-plus = c in
     rw (← at-plus .plus .ensures)
 
