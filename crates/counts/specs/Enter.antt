@@ -48,10 +48,16 @@ Begins none = ⊥
 Begins (more h none r) = ⊥
 Begins (more h (more h₁ k₁ r₁) r) = Unit {0}
 
+-- behind a ForOf's left side, the body is no Declaration
+abbrev pub Body : Forest → Type 0
+Body none = Unit {0}
+Body (more h k none) = Unit {0}
+Body (more h₂ k₂ (more h₃ k₃ r)) = eqb (h₃ .tag) 5 ≡ false
+
 -- the using of a ForOf begins with a Name, and is not recorded
 abbrev pub Left : Forest → Type 0
 Left none = Unit {0}
-Left (more h k r) = (isUsing h && bindsIdentifier k) ≡ true → Named k × Begins k × (oneOf (3 ∷ 4 ∷ []) (h .a) ≡ true)
+Left (more h k r) = (isUsing h && bindsIdentifier k) ≡ true → Named k × Begins k × (oneOf (3 ∷ 4 ∷ []) (h .a) ≡ true) × Body r
 
 -- none of the records of a list has this tag
 abbrev pub Lacks : ℕ → Forest → Type 0

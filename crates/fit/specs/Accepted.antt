@@ -25,11 +25,11 @@ use Rattle.growth.specs.ForOf.{Named}
 use Rattle.growth.specs.Program.{Exports}
 use Rattle.counts.specs.TakenUp.{Labelled}
 use Rattle.counts.specs.Program.{Kinds}
-use Rattle.counts.specs.Enter.{and-right, Begins, Left}
+use Rattle.counts.specs.Enter.{and-right, Begins, Body, Left}
 use Rattle.counts.specs.Fits.{Fits}
 use Rattle.counts.specs.Figures.{joined, after}
 use Rattle.fit.specs.Placed.{ReadAs, same-tag, Placed, accepted-placed}
-use Rattle.fit.specs.Barred.{no-catch}
+use Rattle.fit.specs.Barred.{Bars, barred, no-catch}
 
 -- ---- a field
 
@@ -100,6 +100,11 @@ module _ {syms : ℕ} {p : Place} {x : Field} {h : Head} {k : Forest} (q : ReadA
 
 -- ---- lists
 
+-- the body of a ForOf is no Declaration
+pub body-bars-5 : (p : Place) (x : Field) → x .tag ≡ 8 → Bars 5 (placeOf p x 2)
+unfolding Bars placeOf allowed tagsOf
+body-bars-5 p x e = rw e
+
 module _ (syms : ℕ) where
   exports : (f : Forest) (place : ℕ → Place) (i : ℕ) → Placed syms place i f → Exports f
   exports none place i q = tt
@@ -129,12 +134,17 @@ module _ (syms : ℕ) where
         tt,
       )
 
-  left : (f : Forest) (place : ℕ → Place) (i : ℕ) → Placed syms place i f → Left f
-  left none place i q = tt
-  left (more h k r) place i q =
+  body : (f : Forest) (place : ℕ → Place) (i : ℕ) → Bars 5 (place (suc i)) → Placed syms place i f → Body f
+  body none place i bars q = tt
+  body (more h k none) place i bars q = tt
+  body (more h₂ k₂ (more h₃ k₃ r)) place i bars q = barred 5 bars (q .3 .1)
+
+  left : (f : Forest) (place : ℕ → Place) → Bars 5 (place 2) → Placed syms place 0 f → Left f
+  left none place bars q = tt
+  left (more h k r) place bars q =
       λ e.
-      let n = named k (placeOf (place i) (q .0)) 0 (q .2) (and-right (isUsing h) (bindsIdentifier k) e) in
-      (n .0, n .1, using-kind (q .1) (and-left (isUsing h) (bindsIdentifier k) e))
+      let n = named k (placeOf (place 0) (q .0)) 0 (q .2) (and-right (isUsing h) (bindsIdentifier k) e) in
+      (n .0, n .1, using-kind (q .1) (and-left (isUsing h) (bindsIdentifier k) e), body r place 1 bars (q .3))
 
   fits : (f : Forest) (place : ℕ → Place) (i : ℕ) → Placed syms place i f → Fits f
   fits none place i q = tt
@@ -142,7 +152,7 @@ module _ (syms : ℕ) where
       let inside = placeOf (place i) (q .0) in (
         record {
           items = λ e u. (exports k inside 0 (q .2), kinds k inside 0 (q .2));
-          side = λ e. left k inside 0 (q .2);
+          side = λ e. left k inside (body-bars-5 (place i) (q .0) (eqb-true (q .0 .tag) 8 (rw (same-tag (q .1)) at e))) (q .2);
           label = λ e. labelled k inside 0 (q .2) (has-one (q .1) (rw e));
           handler = λ e. no-catch (q .1) (q .2) (rw (eqb-true (h .tag) 12 e));
         },

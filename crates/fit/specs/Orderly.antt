@@ -18,6 +18,7 @@ use Rattle.tags.specs.Tags.{clash}
 use Rattle.counts.specs.Enter.{Lacks}
 use Rattle.fit.specs.Placed.{same-tag, Placed, accepted-placed}
 use Rattle.fit.specs.Barred.{Bars, barred, lacks, no-catch}
+use Rattle.fit.specs.Accepted.{body-bars-5}
 
 pub or-none : (a b : Bool) → (a || b) ≡ false → (a ≡ false) × (b ≡ false)
 or-none true b e = absurd (clash e refl)
@@ -43,11 +44,6 @@ Orderly (more h k r) =
     (isTry (h .tag) ≡ false → Lacks 12 k) × (eqb (h .tag) 8 ≡ true → PlainBody k) × Orderly k × Orderly r
 
 -- ---- lists
-
--- the body of a ForOf is no Declaration
-body-bars-5 : (p : Place) (x : Field) → x .tag ≡ 8 → Bars 5 (placeOf p x 2)
-unfolding Bars placeOf allowed tagsOf
-body-bars-5 p x e = rw e
 
 no-using : (h : Head) → eqb (h .tag) 5 ≡ false → isUsing h ≡ false
 unfolding isUsing

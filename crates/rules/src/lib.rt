@@ -8,6 +8,7 @@ ghost use mathlib.Core.Bool.{_&&_, _||_, not};
 ghost use Prim.Native.Nat.{ℕ, _+_, _*_, _≤_};
 ghost use lib.Dec.{leb, eqb, ltb};
 ghost use Rattle.meaning.specs.Tree.{if_then_else_, oneOf};
+ghost use Rattle.meaning.specs.File.{hasChildren, ownNumbers};
 ghost use Rattle.meaning.specs.Grammar.{index, is, formFits, isRow, scopeRight, symbolRight, declarationRight, declaratorRight, tryRight, functionRight, classRight, right, childrenOf, placeOf, headOf, scopeOf, below};
 
 // ---- places
@@ -351,6 +352,36 @@ pub fn scope_below(cur: ScopeId, s: ScopeId) -> ScopeId
         return cur;
     }
     s
+}
+
+// Whether a record's last number counts its children.
+pub fn has_children(tag: u8) -> bool
+    ensures { λ r. ⌜ r ≡ hasChildren tag ⌝ }
+{
+    if tag == 0 {
+        return false;
+    }
+    if tag <= 19 {
+        return true;
+    }
+    if tag == 24 {
+        return true;
+    }
+    tag == 27
+}
+
+// How many numbers stand before that one.
+pub fn own_numbers(tag: u8) -> u8
+    ensures { λ r. ⌜ r ≡ ownNumbers tag ⌝ }
+{
+    let len = fields::numbers_of(tag);
+    if has_children(tag) {
+        if len == 0 {
+            return 0;
+        }
+        return len - 1;
+    }
+    len
 }
 
 // How many children a record has.

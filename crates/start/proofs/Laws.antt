@@ -45,16 +45,6 @@ pub next-most : (f : List ℕ) (at n : ℕ) (x : Field) → x ≡ fieldOf f at �
 unfolding fieldOf fieldBytes
 next-most f at n x e h = rw e (omega (arith, numbers-most (getD f at 0)))
 
--- ---- records with children
-
-pub first-tags : (t : ℕ) → (t ≡ 0 → ⊥) → t ≤ 19 → true ≡ hasChildren t
-unfolding hasChildren
-first-tags t n h = rw (le-leb 1 t (omega (arith, n)), le-leb t 19 h)
-
-pub last-tags : (t : ℕ) → 19 < t → (t ≡ 24 → ⊥) → eqb t 27 ≡ hasChildren t
-unfolding hasChildren
-last-tags t h n = rw (le-leb 1 t (omega arith), lt-leb t 19 h, ne-eqb t 24 n, or-false)
-
 -- ---- records
 
 pub count-turn : (r : Counting) (f : List ℕ) (at n : ℕ) (x : Field)

@@ -21,7 +21,6 @@ use Rattle.path.specs.declared.Walk.{Walk}
 use Rattle.path.specs.Path.{Tables, tables}
 use Rattle.start.specs.Start.{Begun, begun, ready}
 use Rattle.start.specs.declared.Layout.{Layout}
-use Rattle.start.specs.declared.Started.{Started}
 use Rattle.start.specs.declared.Started.the-variants.{Refused}
 
 -- ---- where the rows stand
@@ -149,18 +148,17 @@ fillF f end r s y =
     (symbolsF f (l .first) (l .symbols) (cleared y))
     (walkF f l free end)
 
-abbrev pub refusalF : Figured → Started
-refusalF (Fine g) = Refused 0 0
-refusalF (RefusedFigures c p) = Refused c p
-
--- by the figures of the check: the rows that are lent, and the tables
-unfoldable pub startBy : Figured → List ℕ → List ℕ → List ℕ → List ℕ → Begun
-startBy (Fine g) bytes r s y =
+-- by the figures of the check: the rows that are lent
+unfoldable pub admitBy : Figured → List ℕ → List ℕ → List ℕ → Figured
+admitBy (Fine g) r s y =
     if leb (g .records) (length r / 7)
     then (if leb (g .scopes) (length s / 2)
-    then (if leb (g .symbols) (length y / 5)
-    then ready (fillF bytes (min (g .records) 65535) r s y)
-    else begun (Refused 9 2) r s y)
-    else begun (Refused 9 1) r s y)
-    else begun (Refused 9 0) r s y
+    then (if leb (g .symbols) (length y / 5) then Fine g else RefusedFigures 9 2)
+    else RefusedFigures 9 1)
+    else RefusedFigures 9 0
+admitBy (RefusedFigures c p) r s y = RefusedFigures c p
+
+-- and the tables
+unfoldable pub startBy : Figured → List ℕ → List ℕ → List ℕ → List ℕ → Begun
+startBy (Fine g) bytes r s y = ready (fillF bytes (min (g .records) 65535) r s y)
 startBy (RefusedFigures c p) bytes r s y = begun (Refused c p) r s y

@@ -15,11 +15,11 @@ ghost use Prim.Native.Nat.{_≤_, min};
 ghost use lib.Dec.{ltb};
 ghost use lib.ListN.{length, replicate};
 ghost use Rattle.meaning.specs.Tree.{if_then_else_};
-ghost use Rattle.meaning.specs.File.{hasChildren, ownNumbers};
 ghost use Rattle.meaning.specs.Grammar.{number, fieldOf};
 ghost use Rattle.path.specs.Path.{tables};
-ghost use Rattle.start.specs.Flat.{layoutF, noLayout, scopeIntoF, scopesF, symbolIntoF, symbolsF, recordF, countF, recordsF, walkF, fillF, refusalF};
-ghost use Rattle.start.specs.Start.{begun, startF};
+ghost use Rattle.figures.specs.Figures.{figuredOf};
+ghost use Rattle.start.specs.Flat.{layoutF, noLayout, scopeIntoF, scopesF, symbolIntoF, symbolsF, recordF, countF, recordsF, walkF, fillF};
+ghost use Rattle.start.specs.Start.{begun, lentIn, admittedFigures, startF};
 
 // What start answers: where the walk stands, or a refusal's number and place.
 pub enum Started {
@@ -36,7 +36,7 @@ struct Layout {
 }
 
 // A number, or the largest that fits.
-fn capped(x: u64) -> u16
+pub fn capped(x: u64) -> u16
     ensures { λ r. ⌜ r ≡ min x 65535 ⌝ }
 {
     if x <= 65535 { x as u16 } else { 65535 }
@@ -76,7 +76,8 @@ fn find_rows(file: &[u8]) -> Layout
 
 // ---- scope and symbol rows
 
-fn clear(table: &mut [u16])
+// A table of zeros.
+pub fn clear(table: &mut [u16])
     ensures { λ _. ⌜ now (table .exit) ≡ replicate (length (now (table .entry))) 0 ⌝ }
 {
     let n = table.len();
@@ -161,34 +162,8 @@ fn field_at(file: &[u8], at: usize) -> Field
     }
 }
 
-fn has_children(tag: u8) -> bool
-    ensures { λ r. ⌜ r ≡ hasChildren tag ⌝ }
-{
-    if tag == 0 {
-        return false;
-    }
-    if tag <= 19 {
-        return true;
-    }
-    if tag == 24 {
-        return true;
-    }
-    tag == 27
-}
-
-// How many numbers stand before n.
-fn own_numbers(tag: u8) -> u16
-    ensures { λ r. ⌜ r ≡ ownNumbers tag ⌝ }
-{
-    let len = fields::numbers_of(tag) as u16;
-    if has_children(tag) {
-        return tables::minus(len, 1);
-    }
-    len
-}
-
 // Number i, or 0 if it is not one of a record's own.
-fn own_number(count: u16, i: u16, v: u16) -> u16
+fn own_number(count: u8, i: u8, v: u16) -> u16
     ensures { λ r. ⌜ r ≡ (if ltb i count then v else 0) ⌝ }
 {
     if i < count {
@@ -201,7 +176,7 @@ fn own_number(count: u16, i: u16, v: u16) -> u16
 fn row_of(x: Field) -> Row
     ensures { λ r. ⌜ r ≡ recordF x ⌝ }
 {
-    let count = own_numbers(x.tag);
+    let count = rules::own_numbers(x.tag);
     let n = rules::children_of(x);
     tables::made(
         x.tag as u16,
@@ -268,7 +243,7 @@ fn walk_of(file: &[u8], l: Layout, free: u16, end: u16) -> Walk
 }
 
 // The tree just read, with `end` rows in use.
-fn fill(file: &[u8], records: &mut [u16], scopes: &mut [u16], symbols: &mut [u16], end: u16) -> Walk
+pub fn fill(file: &[u8], records: &mut [u16], scopes: &mut [u16], symbols: &mut [u16], end: u16) -> Walk
     ensures { λ r. ⌜ tables (now (records .exit)) (now (scopes .exit)) (now (symbols .exit)) r ≡ fillF (now (file .entry)) end (now (records .entry)) (now (scopes .entry)) (now (symbols .entry)) ⌝ }
 {
     let l = find_rows(file);
@@ -282,34 +257,34 @@ fn fill(file: &[u8], records: &mut [u16], scopes: &mut [u16], symbols: &mut [u16
     walk_of(file, l, free, end)
 }
 
-// A refusal handed on; it is not called with figures.
-fn refusal(f: Figured) -> Started
-    ensures { λ r. ⌜ r ≡ refusalF f ⌝ }
-{
-    match f {
-        Figured::Fine(_) => Started::Refused(0, 0),
-        Figured::Refused(c, p) => Started::Refused(c, p),
-    }
-}
-
 // ---- public
+
+// The figures of a file that is accepted and for which enough rows are lent: 01's refusals 1 to 9.
+pub fn admit(file: &[u8], records: &[u16], scopes: &[u16], symbols: &[u16]) -> Figured
+    ensures { λ r. ⌜ r ≡ figuredOf (admittedFigures (now (file .entry)) (lentIn (now (records .entry)) (now (scopes .entry)) (now (symbols .entry)))) ⌝ }
+{
+    let f = checking::figures(file);
+    let Figured::Fine(g) = f else {
+        return f;
+    };
+    if ((records.len() / 7) as u64) < g.records {
+        return Figured::Refused(9, 0);
+    }
+    if ((scopes.len() / 2) as u64) < g.scopes {
+        return Figured::Refused(9, 1);
+    }
+    if ((symbols.len() / 5) as u64) < g.symbols {
+        return Figured::Refused(9, 2);
+    }
+    Figured::Fine(g)
+}
 
 // Reads an accepted file into the tables: 01's refusals 1 to 9, or the walk before its first visit.
 pub fn start(file: &[u8], records: &mut [u16], scopes: &mut [u16], symbols: &mut [u16]) -> Started
     ensures { λ r. ⌜ begun r (now (records .exit)) (now (scopes .exit)) (now (symbols .exit)) ≡ startF (now (file .entry)) (now (records .entry)) (now (scopes .entry)) (now (symbols .entry)) ⌝ }
 {
-    let f = checking::figures(file);
-    let Figured::Fine(g) = f else {
-        return refusal(f);
-    };
-    if ((records.len() / 7) as u64) < g.records {
-        return Started::Refused(9, 0);
+    match admit(file, records, scopes, symbols) {
+        Figured::Fine(g) => Started::Ready(fill(file, records, scopes, symbols, capped(g.records))),
+        Figured::Refused(c, p) => Started::Refused(c, p),
     }
-    if ((scopes.len() / 2) as u64) < g.scopes {
-        return Started::Refused(9, 1);
-    }
-    if ((symbols.len() / 5) as u64) < g.symbols {
-        return Started::Refused(9, 2);
-    }
-    Started::Ready(fill(file, records, scopes, symbols, capped(g.records)))
 }

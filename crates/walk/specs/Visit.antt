@@ -3,7 +3,7 @@
 use mathlib.Core.List.{List}
 use mathlib.Core.Bool.{Bool, not, _&&_}
 use Prim.Native.Nat.{ℕ, _-_}
-use lib.Dec.{eqb, ltb}
+use lib.Dec.{eqb, leb, ltb}
 use Rattle.meaning.specs.Tree.{if_then_else_}
 use Rattle.tables.specs.Table.{capped, columnF}
 use Rattle.tables.specs.Stream.{takeBackF}
@@ -100,6 +100,10 @@ leaveF q =
 -- the children of the innermost open record are all entered
 unfoldable pub isLeavingF : List ℕ → Walk → Bool
 isLeavingF t w = not (eqb (w .inner .0) 0) && eqb (columnF t (w .inner .0 - 1) 6) 0
+
+-- no visit is left
+unfoldable pub isOverF : List ℕ → Walk → Bool
+isOverF t w = not (isLeavingF t w) && leb (w .end .0) (w .gap .0)
 
 -- THE NEXT VISIT, on any tables.
 unfoldable pub visitF : Tables → Tables

@@ -5,7 +5,7 @@ use statements::Plan;
 use tables::Cursor;
 ghost use mathlib.Core.Path.{_≡_};
 ghost use Rattle.path.specs.Path.{tables};
-ghost use Rattle.walk.specs.Visit.{planNextF, rewriteProgramF, rewriteBlockF, rewriteBodyF, rewriteForF, rewriteSwitchF, rewriteTryF, rewriteForOfF, rewriteF, leaveBlockF, leaveF, isLeavingF, visitF};
+ghost use Rattle.walk.specs.Visit.{planNextF, rewriteProgramF, rewriteBlockF, rewriteBodyF, rewriteForF, rewriteSwitchF, rewriteTryF, rewriteForOfF, rewriteF, leaveBlockF, leaveF, isLeavingF, isOverF, visitF};
 
 // ---- what entering a record rewrites
 
@@ -180,6 +180,16 @@ fn is_leaving(records: &[u16], w: Walk) -> bool
         return false;
     }
     tables::column(records, RecordId(inner - 1), 6) == 0
+}
+
+// No visit is left.
+pub fn is_over(walk: Walk, records: &[u16]) -> bool
+    ensures { λ r. ⌜ r ≡ isOverF (now (records .entry)) walk ⌝ }
+{
+    if is_leaving(records, walk) {
+        return false;
+    }
+    walk.end.0 <= walk.gap.0
 }
 
 // The next visit; after the last nothing changes.

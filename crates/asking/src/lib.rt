@@ -1,0 +1,1 @@
+// The hints that an accepted source asks for: no code.

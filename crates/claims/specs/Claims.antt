@@ -1,0 +1,170 @@
+-- WHAT IS CLAIMED, demand by demand.
+--
+-- The public functions are `checking::check`, `checking::figures`, `start::start`, `walk::visit` (with `walk::is_over`) and `lowering::lower`.
+-- None has a `requires`, and each ensures an equation for all inputs, the lent memory included:
+--   check    answers `checkedOf (readFile file)`,
+--   figures  answers `figuredOf (figuresOf file)`,
+--   start    answers and leaves `startF file records scopes symbols`,
+--   visit    leaves `visitF` of the tables and the walk that it is handed,
+--   lower    answers and leaves `lowerF file records scopes symbols out`.
+-- The claims below are about these same definitions. `readFile`, `figuresOf`, `admit`, `visits`, `visitCharges`, `finalFigures`, `lastSpot`,
+-- `written` and `lower` are document 01 (crate meaning). A list of numbers stands for a lent slice; `lentIn r s y` are the rows of tables.
+-- Assumes nothing.
+use mathlib.Core.Path.{_≡_, refl, sym, ap, _∙_}
+use mathlib.Core.Bool.{true}
+use mathlib.Core.List.{List, map}
+use mathlib.Core.Logic.{_⊎_}
+use Prim.Native.Nat.{ℕ, _+_, _≤_}
+use lib.Dec.{eqb, leb}
+use lib.ListN.{length}
+use Rattle.meaning.specs.Tree.{size, flatten}
+use Rattle.meaning.specs.File.{File, written}
+use Rattle.meaning.specs.Reading.{Outcome, accepted, refused}
+use Rattle.meaning.specs.Walk.{visits, start, treeAt, storeAt, fileAt}
+use Rattle.meaning.specs.Charges.{_⊕_, total, figuresIn, finalFigures}
+use Rattle.meaning.specs.VisitCharges.{visitCharges}
+use Rattle.meaning.specs.Lowering.{Lent, Written, checkFile, admit, lastSpot, lower}
+use Rattle.meaning.specs.Table.{table, table-holds}
+use Rattle.counts.specs.Figures.{joined}
+use Rattle.fit.specs.Ends.{isOver, walk-ends}
+use Rattle.fit.specs.Final.{charges-final}
+use Rattle.room.specs.NumbersFit.{Bytes}
+use Rattle.figures.specs.Figures.{shownFigures}
+use Rattle.start.specs.declared.Started.the-variants.{Refused as NotStarted}
+use Rattle.start.specs.Start.{begun, lentIn, ready, startOf, startF}
+use Rattle.start.specs.Filled.{admitted}
+use Rattle.hints.specs.Hints.{ofRead, asked, given}
+use Rattle.ending.specs.Last.{last-spot, last-is}
+use Rattle.ending.specs.ReadBack.{fieldsOf, fieldCount, isRecord}
+use Rattle.shown.specs.Shown.{recordsIn, scopesIn, symbolsIn}
+use Rattle.refusing.specs.Numbers.{lower-numbers}
+use Rattle.refusing.specs.Small.{Short, firstShort, small-refused, refused-small, lower-total, enough-output}
+use Rattle.lowering.specs.declared.Lowered.the-variants.{Written as WrittenIn, Refused}
+use Rattle.lowering.specs.Lower.{finished, zerosFor, writtenOver, lowerOf, lowerF}
+use Rattle.lowering.specs.Law.{last-tagged, last-length}
+use Rattle.claims.specs.Hinting.{last-hints}
+use Rattle.claims.specs.Calls.{
+  firstTables,
+  afterCalls,
+  chargesOf,
+  calls-tree,
+  calls-scopes,
+  calls-symbols,
+  calls-count,
+  calls-most,
+  file-shows,
+}
+
+-- ---- DEMAND 1: refusals, and that every input is answered
+
+-- A refusal of lowering has a number from 1 to 10. Which one, and its place, `lower` says: its steps are 01's checks in 01's order.
+pub refusal-numbers : (bytes : List ℕ) (lent : Lent) (out c p : ℕ) → lower bytes lent out ≡ refused c p → (1 ≤ c) × (c ≤ 10)
+refusal-numbers = lower-numbers
+
+-- A refused lowering answers that number and place, and every lent slice keeps its contents;
+pub refused-keeps : (bytes r s y o : List ℕ) (c p : ℕ) → lower bytes (lentIn r s y) (length o) ≡ refused c p
+    → lowerF bytes r s y o ≡ finished (Refused c p) r s y o
+unfolding lowerF
+refused-keeps bytes r s y o c p e = ap (λ (a : Outcome Written). lowerOf a r s y o) e
+
+-- and so does a refused start.
+pub refused-start-keeps : (bytes r s y : List ℕ) (c p : ℕ) → admit bytes (lentIn r s y) ≡ refused c p
+    → startF bytes r s y ≡ begun (NotStarted c p) r s y
+unfolding startF
+refused-start-keeps bytes r s y c p e = ap (λ (a : Outcome File). startOf a r s y) e
+
+-- Every input is refused or lowered. That the code ends and does not misbehave is part of each function's proof.
+pub always-answered : (bytes : List ℕ) (lent : Lent) (out : ℕ)
+    → ((w : Written) × (lower bytes lent out ≡ accepted w)) ⊎ ((c : ℕ) × (p : ℕ) × (lower bytes lent out ≡ refused c p))
+always-answered = lower-total
+
+-- ---- DEMAND 2: the lowered file is 01's
+
+-- 01's proved cases, and more, as a table: each file gets the answer written beside it.
+pub cases-hold : map (λ c. lower (c .input) (c .rows) (c .output)) table ≡ map (λ c. c .answer) table
+cases-hold = table-holds
+
+-- An accepted lowering writes the file that the walk's last visit leaves, answers its figures and length, leaves the tables all 0, and the
+-- output behind the file as it was.
+pub lowering-is-01 : (bytes r s y o : List ℕ) (f : File) → admit bytes (lentIn r s y) ≡ accepted f → finalFigures f .bytes ≤ length o
+    → lowerF bytes r s y o
+    ≡ finished (WrittenIn (shownFigures (finalFigures f))) (zerosFor r) (zerosFor s) (zerosFor y)
+    (writtenOver (written (fileAt (lastSpot f))) o)
+unfolding lowerF
+lowering-is-01 bytes r s y o f e h =
+    ap (λ (a : Outcome Written). lowerOf a r s y o) (enough-output bytes (lentIn r s y) (length o) f e h)
+
+-- ---- DEMAND 3
+
+-- THE WHOLE CLAIM, for a file f that passes the checks through 9, with the tables r, s, y lent, and any number k of calls.
+pub record Demand3 (bytes r s y : List ℕ) (f : File) (k : ℕ) : Type 0 where
+  -- start leaves the first tables, and hands out their walk
+  pub started : startF bytes r s y ≡ ready (firstTables f r s y)
+  -- after k calls the tables show 01's tree, scopes and symbols after k visits
+  pub tree : recordsIn (afterCalls k f r s y) ≡ flatten (treeAt (visits k (start f)))
+  pub scopes : scopesIn (afterCalls k f r s y) ≡ storeAt (visits k (start f)) .scopes
+  pub symbols : symbolsIn (afterCalls k f r s y) ≡ storeAt (visits k (start f)) .symbols
+  -- they number those read and the charges of the visits made
+  pub recordCount : length (recordsIn (afterCalls k f r s y)) ≡ size (f .tree) + chargesOf k f .records
+  pub scopeCount : length (scopesIn (afterCalls k f r s y)) ≡ length (f .scopes) + chargesOf k f .scopes
+  pub symbolCount : length (symbolsIn (afterCalls k f r s y)) ≡ length (f .symbols) + chargesOf k f .symbols
+  -- none is above its final figure
+  pub recordsMost : length (recordsIn (afterCalls k f r s y)) ≤ finalFigures f .records
+  pub scopesMost : length (scopesIn (afterCalls k f r s y)) ≤ finalFigures f .scopes
+  pub symbolsMost : length (symbolsIn (afterCalls k f r s y)) ≤ finalFigures f .symbols
+  -- the final figures follow from the source alone: those read and all charges
+  pub final : finalFigures f ≡ figuresIn f ⊕ total (joined (visitCharges f))
+  -- the walk has as many visits as charges, and where it is over is its last spot
+  pub ends : isOver (visits k (start f)) ≡ leb (length (visitCharges f)) k
+  pub last : isOver (visits k (start f)) ≡ true → visits k (start f) ≡ lastSpot f
+  -- an accepted lowering writes what the last visit leaves, and answers the final figures
+  pub writes : (out : ℕ) → finalFigures f .bytes ≤ out
+      → lower bytes (lentIn r s y) out ≡ accepted (record { file = written (fileAt (lastSpot f)); figures = finalFigures f })
+  -- the written file shows them: reading its fields back counts them, and its length is the answer's
+  pub recordsShown : fieldCount isRecord (fieldsOf (written (fileAt (lastSpot f)))) ≡ finalFigures f .records
+  pub scopesShown : fieldCount (λ t. eqb t 41) (fieldsOf (written (fileAt (lastSpot f)))) ≡ finalFigures f .scopes
+  pub symbolsShown : fieldCount (λ t. eqb t 42) (fieldsOf (written (fileAt (lastSpot f)))) ≡ finalFigures f .symbols
+  pub lengthShown : length (written (fileAt (lastSpot f))) ≡ finalFigures f .bytes
+  -- and the number of contexts is how many the walk made
+  pub contextsShown : storeAt (lastSpot f) .contexts ≡ finalFigures f .contexts
+
+-- DEMAND 3. Each byte is at most 255, as in every `&[u8]`.
+pub demand-3 : (bytes r s y : List ℕ) (f : File) → Bytes bytes → admit bytes (lentIn r s y) ≡ accepted f → (k : ℕ) → Demand3 bytes r s y f k
+unfolding startF
+demand-3 bytes r s y f b e k =
+    let read = admitted bytes r s y f e .0 in
+    let count = calls-count bytes r s y f e k in
+    let most = calls-most bytes r s y f e k in
+    let shown = file-shows bytes r s y f e b in
+    record {
+      started = ap (λ (a : Outcome File). startOf a r s y) e;
+      tree = calls-tree bytes r s y f e k;
+      scopes = calls-scopes bytes r s y f e k;
+      symbols = calls-symbols bytes r s y f e k;
+      recordCount = count .0;
+      scopeCount = count .1;
+      symbolCount = count .2;
+      recordsMost = most .0;
+      scopesMost = most .1;
+      symbolsMost = most .2;
+      final = sym (charges-final bytes f read);
+      ends = walk-ends bytes f k read;
+      last = last-is bytes f k read;
+      writes = λ out h. enough-output bytes (lentIn r s y) out f e h;
+      recordsShown = shown .0;
+      scopesShown = shown .1;
+      symbolsShown = shown .2;
+      lengthShown = last-length bytes r s y f b e;
+      contextsShown = shown .3;
+    }
+
+-- REFUSAL 9 EXACTLY. Whatever file and tables are handed in: if the checks before it are passed and a final figure is above the rows lent,
+-- lowering is refused with 9, the place being the first that is short;
+pub small-tables : (bytes : List ℕ) (lent : Lent) (out : ℕ) (f : File) → checkFile bytes ≡ accepted f → Short lent (finalFigures f)
+    → lower bytes lent out ≡ refused 9 (firstShort lent (finalFigures f))
+small-tables = small-refused
+
+-- and if it is refused with 9, the checks before it are passed and a final figure is above the rows lent.
+pub only-small-tables : (bytes : List ℕ) (lent : Lent) (out p : ℕ) → lower bytes lent out ≡ refused 9 p
+    → (f : File) × (checkFile bytes ≡ accepted f) × Short lent (finalFigures f) × (p ≡ firstShort lent (finalFigures f))
+only-small-tables = refused-small

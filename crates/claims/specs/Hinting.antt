@@ -1,0 +1,105 @@
+-- What a lowered tree calls is what its source asks for.
+-- Assumes nothing.
+use mathlib.Core.Path.{_≡_, refl, sym, subst, _∙_}
+use mathlib.Core.Bool.{Bool, true, false, not, _&&_}
+use mathlib.Core.List.{List}
+use Prim.Native.Nat.{ℕ, _+_, _*_}
+use native.Mathlib.Omega.{arith}
+use lib.Dec.{eqb}
+use lib.ListN.{length}
+use Rattle.meaning.specs.Tree.{if_then_else_, Head, Forest, none, more}
+use Rattle.meaning.specs.File.{File}
+use Rattle.meaning.specs.Reading.{accepted, readFile}
+use Rattle.meaning.specs.Statements.{isUsing}
+use Rattle.meaning.specs.Walk.{Spot, at, leaving, over, visits, start, treeAt}
+use Rattle.meaning.specs.Charges.{finalFigures}
+use Rattle.meaning.specs.Lowering.{lastSpot}
+use Rattle.tags.specs.Tags.{clash}
+use Rattle.fit.specs.Ends.{isOver}
+use Rattle.hints.specs.Hints.{sumOver, overDeclarators, takesUp, ofRead, asked, called, given}
+use Rattle.asking.specs.Asked.{OldCalls, accepted-old, overs-none, calls-none, asked-by-kind, asked-of-read}
+use Rattle.hinted.specs.Balance.{letterIn, waits, doneIn, gives, balanceOf, balance}
+use Rattle.hinted.specs.Visit.{visits-balance}
+use Rattle.hinted.specs.Settled.{Settled, settled-gives}
+use Rattle.lowered.specs.Quiet.{Quiet, AllQuiet, nothing-asked}
+use Rattle.lowered.specs.Visits.{over-quiet}
+use Rattle.ending.specs.Last.{last-spot, last-over}
+
+both : (u v : Head → Forest → ℕ) (f : Forest) → sumOver (λ h k. u h k + v h k) f ≡ sumOver u f + sumOver v f
+unfolding sumOver
+both u v none = refl
+both u v (more h k r) = omega (arith, both u v k, both u v r)
+
+-- ---- the source gives nothing
+
+module _ (w : List ℕ → ℕ → ℕ) (read : ℕ) where
+  if-none : (b : Bool) (n m : ℕ) → n ≡ 0 → m ≡ 0 → (if b then n else 0) + m ≡ 0
+  if-none true n m e d = omega arith
+  if-none false n m e d = omega arith
+
+  done-none : (k : Forest) → OldCalls read k → doneIn w read k ≡ 0
+  unfolding doneIn
+  done-none none q = refl
+  done-none (more h k r) q =
+      if-none (eqb (h .tag) 5 && not (isUsing h)) (overDeclarators (called w read) k) (doneIn w read r) (overs-none w read k (q .1))
+      (done-none r (q .2))
+
+  either-none : (b : Bool) (n m : ℕ) → n ≡ 0 → m ≡ 0 → (if b then n else m) ≡ 0
+  either-none true n m e d = e
+  either-none false n m e d = d
+
+  gives-none : (f : Forest) → OldCalls read f → sumOver (gives w read) f ≡ 0
+  unfolding sumOver gives
+  gives-none none q = refl
+  gives-none (more h k r) q =
+      omega (
+        arith,
+        either-none (takesUp (h .tag)) (doneIn w read k) _ (done-none k (q .1)) (calls-none w read h k (q .1)),
+        gives-none k (q .1),
+        gives-none r (q .2),
+      )
+
+-- ---- the lowered tree asks for nothing
+
+quiet-settled : (f : Forest) → AllQuiet f → Settled f
+unfolding AllQuiet Settled Quiet
+quiet-settled none q = tt
+quiet-settled (more h k r) q = (q .0 .0, quiet-settled k (q .1), quiet-settled r (q .2))
+
+quiet-end : (f : File) (k : ℕ) (s : Spot) → visits k (start f) ≡ s → isOver s ≡ true → AllQuiet (treeAt s)
+unfolding isOver treeAt
+quiet-end f k (over tree st) e o = over-quiet k f tree st e
+quiet-end f k (at d h k₁ r p st) e o = absurd (clash refl o)
+quiet-end f k (leaving k₁ h d r p st) e o = absurd (clash refl o)
+
+-- ---- the two agree
+
+module _ (w : List ℕ → ℕ → ℕ) (b : List ℕ) (f : File) (e : readFile b ≡ accepted f) where
+  abbrev read : ℕ
+  read = length (f .symbols)
+
+  abbrev old : List ℕ → ℕ → ℕ
+  old = ofRead read w
+
+  at-source : balance w read (f .tree) ≡ asked w (f .tree)
+  unfolding balance balanceOf waits letterIn
+  at-source =
+      both (waits old) (gives old read) (f .tree)
+      ∙ omega (
+        arith,
+        gives-none old read (f .tree) (accepted-old b f e),
+        asked-by-kind old b f e,
+        asked-of-read w b f e,
+      )
+
+  at-end : (t : Forest) → AllQuiet t → balance w read t ≡ given old read t
+  unfolding balance balanceOf waits
+  at-end t q =
+      both (waits old) (gives old read) t ∙ omega (arith, nothing-asked old letterIn t q, settled-gives old read t (quiet-settled t q))
+
+  -- WHAT THE LOWERED TREE CALLS IS WHAT THE SOURCE ASKS FOR.
+  pub last-hints : given old read (treeAt (lastSpot f)) ≡ asked w (f .tree)
+  last-hints =
+      let n = 2 * finalFigures f .records in
+      let q : AllQuiet (treeAt (lastSpot f)) = quiet-end f n (lastSpot f) (sym (last-spot f)) (last-over b f e) in
+      sym (at-end (treeAt (lastSpot f)) q) ∙ (rw (last-spot f) (visits-balance w b f n e)) ∙ at-source

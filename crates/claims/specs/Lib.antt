@@ -1,0 +1,5 @@
+-- What is claimed, and the last steps of its proofs.
+pub mod Hinting
+pub mod Calls
+pub mod ShutOut
+pub mod Claims

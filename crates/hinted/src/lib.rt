@@ -1,0 +1,1 @@
+// What a tree gives and still asks for is kept by each visit: no code.

@@ -1,0 +1,102 @@
+-- The hints that the usings of a source ask for, and those with which a lowered tree calls their initializers.
+-- Both are sums over a tree. The summands are weights of the names that a Declarator binds and of a letter, and the weights may be chosen
+-- freely: two sums that agree for all weights go over the same names and letters, each as often.
+-- Assumes nothing.
+use mathlib.Core.List.{List, [], _∷_}
+use mathlib.Core.Bool.{Bool, true, _&&_}
+use Prim.Native.Nat.{ℕ, zero, suc, _+_}
+use lib.Dec.{eqb, leb, ltb}
+use Rattle.meaning.specs.Tree.{if_then_else_, oneOf, Head, Forest, none, more}
+use Rattle.meaning.specs.Hint.{hintOf, letterOf}
+use Rattle.meaning.specs.Statements.{isUsing}
+use Rattle.meaning.specs.ForOf.{bindsIdentifier}
+
+-- ---- sums
+
+-- over the records of a tree
+unfoldable pub sumOver : (Head → Forest → ℕ) → Forest → ℕ
+sumOver v none = 0
+sumOver v (more h k r) = v h k + (sumOver v k + sumOver v r)
+
+-- the symbols of m Names
+unfoldable pub namesOf : ℕ → Forest → List ℕ
+namesOf zero k = []
+namesOf (suc m) none = []
+namesOf (suc m) (more h k r) = (if eqb (h .tag) 26 then h .a else 0) ∷ namesOf m r
+
+-- of the initializer that follows m Names, if there is one
+unfoldable pub ofInitializer : (Head → ℕ) → ℕ → Forest → ℕ
+ofInitializer v m none = 0
+ofInitializer v zero (more h k r) = v h
+ofInitializer v (suc m) (more h k r) = ofInitializer v m r
+
+-- over the Declarators with an initializer
+unfoldable pub overDeclarators : (List ℕ → Head → ℕ) → Forest → ℕ
+overDeclarators v none = 0
+overDeclarators v (more h k r) = (if eqb (h .tag) 6 then ofInitializer (v (namesOf (h .b) k)) (h .b) k else 0) + overDeclarators v r
+
+-- the symbols are rows read, so many
+unfoldable pub allRead : ℕ → List ℕ → Bool
+allRead read [] = true
+allRead read (y ∷ ys) = leb y read && allRead read ys
+
+-- a weight for such names only
+unfoldable pub ofRead : ℕ → (List ℕ → ℕ → ℕ) → List ℕ → ℕ → ℕ
+ofRead read w names letter = if allRead read names then w names letter else 0
+
+-- ---- in the source
+
+-- the letter of the hint that TC39 gives a declaration
+abbrev pub letterFor : Head → ℕ
+letterFor h = letterOf (hintOf (h .a))
+
+-- the records that stand around usings which are taken up: lists, and a For around its first child. A Case's are a switch's, and have
+-- another letter; an exported using is not taken up.
+abbrev pub takesUp : ℕ → Bool
+takesUp t = oneOf (1 ∷ 2 ∷ 7 ∷ 14 ∷ 16 ∷ []) t
+
+module _ (w : List ℕ → ℕ → ℕ) where
+  -- the usings that stand directly in a list
+  unfoldable pub usingsIn : (Head → ℕ) → Forest → ℕ
+  usingsIn letter none = 0
+  usingsIn letter (more h k r) =
+      (if isUsing h then overDeclarators (λ names _. w names (letter h)) k else 0) + usingsIn letter r
+
+  -- the name of a ForOf's using, if it binds an identifier
+  unfoldable pub forOfUsing : Forest → ℕ
+  forOfUsing none = 0
+  forOfUsing (more h₁ k₁ none) = 0
+  forOfUsing (more h₁ none (more h₂ k₂ r)) = 0
+  forOfUsing (more h₁ (more d kids s) (more h₂ k₂ none)) = 0
+  forOfUsing (more h₁ (more d kids s) (more h₂ k₂ (more h₃ k₃ r))) =
+      if isUsing h₁ && bindsIdentifier (more d kids s) then w (namesOf 1 kids) (letterFor h₁) else 0
+
+  -- by a record
+  unfoldable pub asksFor : (Head → ℕ) → Head → Forest → ℕ
+  asksFor letter h k =
+      if takesUp (h .tag) then usingsIn letter k
+      else if eqb (h .tag) 8 then forOfUsing k
+      else 0
+
+  -- WHAT THE SOURCE ASKS FOR: the names of each using that is taken up outside a switch, with the letter of its TC39 hint.
+  unfoldable pub asked : Forest → ℕ
+  asked tree = sumOver (asksFor letterFor) tree
+
+  -- ---- in the lowered tree
+
+  -- a Call through a context that lowering made: its symbol's row is behind the rows read
+  unfoldable pub called : ℕ → List ℕ → Head → ℕ
+  called read names h = if eqb (h .tag) 27 && ltb read (h .b) then w names (h .a) else 0
+
+  -- the Declarations that stand directly in a list
+  unfoldable pub callsIn : ℕ → Forest → ℕ
+  callsIn read none = 0
+  callsIn read (more h k r) = (if eqb (h .tag) 5 then overDeclarators (called read) k else 0) + callsIn read r
+
+  -- by a record; a Declaration in a Case is a switch's, and that of a ForOf has no initializer
+  unfoldable pub calls : ℕ → Head → Forest → ℕ
+  calls read h k = if oneOf (8 ∷ 10 ∷ []) (h .tag) then 0 else callsIn read k
+
+  -- WHAT A TREE CALLS: the names of each Declarator outside a switch whose initializer lowering has wrapped, with the letter of the Call.
+  unfoldable pub given : ℕ → Forest → ℕ
+  given read tree = sumOver (calls read) tree

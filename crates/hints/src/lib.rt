@@ -1,0 +1,1 @@
+// What hints a source asks for and a lowered tree gives: no code.

@@ -1,0 +1,1 @@
+// No using is left when the walk is over: no code.

@@ -1,0 +1,55 @@
+-- `lowering::visit_all` meets its contract. Assumes nothing.
+use mathlib.Core.Path.{_≡_, refl, sym, _∙_}
+use Prim.Native.Nat.{_-_, _≤_}
+use native.Mathlib.Nat.{sub-zero}
+use lib.ListN.{length}
+use Rattle.tables.specs.Loops.{until, go-on, run-out, stopped}
+use Rattle.path.specs.Path.{tables}
+use Rattle.walk.specs.Visit.{visitF}
+use Rattle.lowering.specs.Flat.{isOverIn, visitAllF}
+use borrow.Author.Needs.{needs}
+use Rattle.lowering.proofs.visit_all.Statement.{statement}
+use Rattle.lowering.proofs.visit_all.Tie as tie
+
+abbrev Inv-loop : tie.InvT-loop
+Inv-loop limit records₀ scopes₀ symbols₀ w₀ k₀ records scopes symbols w k =
+    (k ≤ limit) × (length records ≡ length records₀) × (length scopes ≡ length scopes₀) × (length symbols ≡ length symbols₀)
+    × (until limit isOverIn visitF (tables records₀ scopes₀ symbols₀ w₀)
+    ≡ until (limit - k) isOverIn visitF (tables records scopes symbols w))
+
+abbrev μ-loop : tie.MeasureT-loop
+μ-loop limit records₀ scopes₀ symbols₀ w₀ k₀ records scopes symbols w k =
+    limit - k
+
+loop-holds : tie.Need-loop-holds Inv-loop μ-loop
+loop-holds c = (search needs, refl, refl, refl, rw sub-zero)
+
+loop-again : tie.Need-loop-again Inv-loop μ-loop
+loop-again c =
+    let at-visit = c .before .before .before .before .before .before in
+    let at-if1 = at-visit .before .before .before .before in
+    let at-is-over = at-if1 .before in
+    let at-loop-test = at-is-over .before .before in
+    let at-loop = at-loop-test .before in
+    (search needs, at-visit .visit .kept .1 .0 ∙ at-loop .loop .inv .1, at-visit .visit .kept .1 .1 .0 ∙ at-loop .loop .inv .2, at-visit .visit .kept .1 .1 .1 .0 ∙ at-loop .loop .inv .3, rw (at-visit .visit .ensures) (go-on _ _ _ _ _ _ (at-loop .loop .inv .4) (at-loop-test .loop-test .taken) ((sym (at-is-over .is-over .ensures)) ∙ at-if1 .if1 .left)))
+
+returns : tie.Need-returns Inv-loop μ-loop
+unfolding visitAllF
+returns c =
+    let at-loop-test = c in
+    let at-loop = at-loop-test .before in
+    run-out _ _ _ _ _ _ (at-loop .loop .inv .4) (at-loop-test .loop-test .left)
+
+returns-2 : tie.Need-returns-2 Inv-loop μ-loop
+unfolding visitAllF
+returns-2 c =
+    let at-if1 = c in
+    let at-is-over = at-if1 .before in
+    let at-loop = at-is-over .before .before .before in
+    stopped _ _ _ _ _ (at-loop .loop .inv .4) (sym (at-is-over .is-over .ensures) ∙ at-if1 .if1 .taken)
+
+pub visit-all-spec : {M : Type 1} → statement M
+visit-all-spec =
+    tie.close
+    (tie.spec
+    Inv-loop μ-loop loop-holds (λ c κs. search needs) (λ c κs. search needs) (λ c. search needs) (λ c. search needs) loop-again (λ c. search needs) (λ c. search needs) (λ c. search needs) returns (λ c. search needs) (λ c. search needs) (λ c. search needs) returns-2)

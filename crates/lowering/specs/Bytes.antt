@@ -1,0 +1,168 @@
+-- The bytes of tables that hold the end of a walk are 01's file.
+-- Assumes nothing.
+use mathlib.Core.Path.{_≡_, refl, sym, ap, ap₂, _∙_}
+use mathlib.Core.Bool.{Bool, true, false}
+use mathlib.Core.List.{List, [], _∷_, _++_, append-assoc, append-nil}
+use Prim.Native.Nat.{ℕ, zero, suc, _+_, _*_, _%_, _≤_}
+use native.Mathlib.Nat.{zero-add}
+use native.Mathlib.Omega.{arith}
+use lib.ListN.{length, getD, take, drop}
+use lib.Dec.{ltb, leb}
+use borrow.Author.Tests.{leb-true, eqb-true, le-leb}
+use Rattle.meaning.specs.Tree.{if_then_else_, Head, Forest, none, more, count, row, flatten}
+use Rattle.meaning.specs.File.{
+  Scope,
+  Symbol,
+  numbersOf,
+  hasChildren,
+  ownNumbers,
+  field,
+  recordNumbers,
+  scopeFields,
+  symbolFields,
+  recordFields,
+  written,
+}
+use Rattle.meaning.specs.Scoping.{Store, noSymbol}
+use Rattle.meaning.specs.Walk.{over, storeAt, treeAt, fileAt}
+use Rattle.tags.specs.Tags.{and-left}
+use Rattle.counts.specs.Enter.{and-right}
+use Rattle.tables.specs.Table.{columnF, rowF}
+use Rattle.tables.specs.declared.Row.{Row}
+use Rattle.gap.specs.Cells.{table, free, line, rowsOf}
+use Rattle.store.specs.Held.{scopeCells, symbolCells, ctxOf}
+use Rattle.spots.specs.Spots.{Rest, visitedAt, restAt, walkAt, held}
+use Rattle.writing.specs.Writing.{fieldWith, scopeBytes, symbolBytes, ownOr, recordBytes, rowsBytes, recordAt, fileBytes}
+use Rattle.ending.specs.ReadBack.{isRecord, Tagged}
+use Rattle.ending.specs.Length.{complete, record-complete}
+
+-- ---- rows behind the first
+
+module _ (f g : ℕ → List ℕ) (e : (k : ℕ) → f (k + 1) ≡ g k) where
+  behind : (k n : ℕ) → rowsBytes f (k + 1) n ≡ rowsBytes g k n
+  unfolding rowsBytes
+  behind k zero = refl
+  behind k (suc n) = ap₂ _++_ (e k) (behind (k + 1) n)
+
+  behind-first : (n : ℕ) → rowsBytes f (0 + 1) n ≡ rowsBytes g 0 n
+  behind-first n = behind 0 n
+
+-- ---- scope and symbol rows
+
+next-scope : (p f : ℕ) (t : List ℕ) (k : ℕ) → scopeBytes (p ∷ f ∷ t) (k + 1) ≡ scopeBytes t k
+unfolding scopeBytes
+next-scope p f t k =
+    let e₀ : (k + 1) * 2 ≡ suc (suc (k * 2)) = omega arith in
+    let e₁ : suc (suc (k * 2)) + 1 ≡ suc (suc (k * 2 + 1)) = omega arith in
+    rw (e₀, e₁)
+
+first-scope : (p f : ℕ) (t : List ℕ) → scopeBytes (p ∷ f ∷ t) 0 ≡ field 41 (p ∷ f ∷ [])
+unfolding scopeBytes fieldWith numbersOf
+first-scope p f t = refl
+
+scopes-are : (ss : List Scope) (z : List ℕ) → rowsBytes (scopeBytes (scopeCells ss z)) 0 (length ss) ≡ scopeFields ss
+unfolding rowsBytes scopeCells scopeFields
+scopes-are [] z = refl
+scopes-are (s ∷ ss) z =
+    let t = scopeCells ss z in
+    ap₂ _++_ (first-scope (s .parent) (s .flags) t)
+    (behind-first (scopeBytes (s .parent ∷ s .flags ∷ t)) (scopeBytes t) (next-scope (s .parent) (s .flags) t) (length ss) ∙ scopes-are ss z)
+
+next-symbol : (a b c d e : ℕ) (t : List ℕ) (k : ℕ) → symbolBytes (a ∷ b ∷ c ∷ d ∷ e ∷ t) (k + 1) ≡ symbolBytes t k
+unfolding symbolBytes
+next-symbol a b c d e t k =
+    let e₀ : (k + 1) * 5 ≡ suc (suc (suc (suc (suc (k * 5))))) = omega arith in
+    let e₁ : suc (suc (suc (suc (suc (k * 5))))) + 1 ≡ suc (suc (suc (suc (suc (k * 5 + 1))))) = omega arith in
+    let e₂ : suc (suc (suc (suc (suc (k * 5))))) + 2 ≡ suc (suc (suc (suc (suc (k * 5 + 2))))) = omega arith in
+    let e₃ : suc (suc (suc (suc (suc (k * 5))))) + 3 ≡ suc (suc (suc (suc (suc (k * 5 + 3))))) = omega arith in
+    rw (e₀, e₁, e₂, e₃)
+
+first-symbol : (a b c d e : ℕ) (t : List ℕ) → symbolBytes (a ∷ b ∷ c ∷ d ∷ e ∷ t) 0 ≡ field 42 (a ∷ b ∷ c ∷ d ∷ [])
+unfolding symbolBytes fieldWith numbersOf
+first-symbol a b c d e t = refl
+
+symbols-are : (ys rs : List Symbol) (z : List ℕ) → rowsBytes (symbolBytes (symbolCells ys rs z)) 0 (length ys) ≡ symbolFields ys
+unfolding rowsBytes symbolCells symbolFields
+symbols-are [] rs z = refl
+symbols-are (y ∷ ys) rs z =
+    let t = symbolCells ys (drop 1 rs) z in
+    let r = getD rs 0 noSymbol .scope in
+    ap₂ _++_ (first-symbol (y .name) (y .flags) (y .scope) (y .made) r t)
+    (behind-first _ (symbolBytes t) (next-symbol (y .name) (y .flags) (y .scope) (y .made) r t) (length ys) ∙ symbols-are ys (drop 1 rs) z)
+
+-- ---- records
+
+unfoldable bytesOf : List Row → List ℕ
+bytesOf [] = []
+bytesOf (r ∷ rs) = recordBytes r ++ bytesOf rs
+
+seven : (i f : ℕ) → (i + 1) * 7 + f ≡ suc (suc (suc (suc (suc (suc (suc (i * 7 + f)))))))
+seven i f = omega arith
+
+next-record : (r : Row) (t : List ℕ) (k : ℕ)
+    → recordAt (r .tag ∷ r .a ∷ r .b ∷ r .c ∷ r .n ∷ r .up ∷ r .left ∷ t) (k + 1) ≡ recordAt t k
+unfolding rowF columnF
+next-record r t k = rw (seven k 0, seven k 1, seven k 2, seven k 3, seven k 4, seven k 5, seven k 6)
+
+records-are : (rs vs : List Row) (z : List ℕ) → rowsBytes (recordAt (table (rs ++ vs) z)) 0 (length rs) ≡ bytesOf rs
+unfolding rowsBytes table bytesOf rowF columnF
+records-are [] vs z = refl
+records-are (r ∷ rs) vs z =
+    ap (_++_ (recordBytes r))
+    (behind-first _ (recordAt (table (rs ++ vs) z)) (next-record r (table (rs ++ vs) z)) (length rs) ∙ records-are rs vs z)
+
+bytes-++ : (rs qs : List Row) → bytesOf (rs ++ qs) ≡ bytesOf rs ++ bytesOf qs
+unfolding bytesOf
+bytes-++ [] qs = refl
+bytes-++ (r ∷ rs) qs = rw (bytes-++ rs qs, append-assoc)
+
+fields-++ : (rs qs : List Rattle.meaning.specs.Tree.Row) → recordFields (rs ++ qs) ≡ recordFields rs ++ recordFields qs
+unfolding recordFields
+fields-++ [] qs = refl
+fields-++ (r ∷ rs) qs = rw (fields-++ rs qs, append-assoc)
+
+-- a record's own numbers, and n behind them if it has children
+own-numbers : (own : ℕ) (has : Bool) (a b c n : ℕ) → own ≤ 3
+    → take (own + (if has then 1 else 0)) (ownOr own 0 a n ∷ ownOr own 1 b n ∷ ownOr own 2 c n ∷ n ∷ [])
+    ≡ take own (a ∷ b ∷ c ∷ []) ++ (if has then n ∷ [] else [])
+unfolding ownOr
+own-numbers zero true a b c n h = refl
+own-numbers zero false a b c n h = refl
+own-numbers (suc zero) true a b c n h = refl
+own-numbers (suc zero) false a b c n h = refl
+own-numbers (suc (suc zero)) true a b c n h = refl
+own-numbers (suc (suc zero)) false a b c n h = refl
+own-numbers (suc (suc (suc zero))) true a b c n h = refl
+own-numbers (suc (suc (suc zero))) false a b c n h = refl
+own-numbers (suc (suc (suc (suc m)))) has a b c n h = absurd (omega arith)
+
+record-is : (h : Head) (n : ℕ) → isRecord (h .tag) ≡ true → recordBytes (line h n) ≡ field (h .tag) (recordNumbers (row h n))
+unfolding recordBytes fieldWith recordNumbers complete
+record-is h n e =
+    let t = h .tag in
+    let c = record-complete t e in
+    let few = leb (ownNumbers t) 3 in
+    let all = ownNumbers t + (if hasChildren t then 1 else 0) in
+    let small : t % 256 ≡ t = omega (arith, leb-true t 29 e) in
+    let sum : all ≡ numbersOf t = eqb-true all (numbersOf t) (and-right few _ c) in
+    rw (small, ← sum) (ap (field t) (own-numbers (ownNumbers t) (hasChildren t) (h .a) (h .b) (h .c) n (leb-true (ownNumbers t) 3 (and-left few _ c))))
+
+tree-is : (f : Forest) → Tagged f → bytesOf (rowsOf f) ≡ recordFields (flatten f)
+unfolding bytesOf rowsOf flatten recordFields
+tree-is none q = refl
+tree-is (more h k r) q =
+    ap₂ _++_ (record-is h (count k) (q .0))
+    (bytes-++ (rowsOf k) (rowsOf r) ∙ (ap₂ _++_ (tree-is k (q .1)) (tree-is r (q .2)) ∙ sym (fields-++ (flatten k) (flatten r))))
+
+-- ---- the file
+
+-- THE BYTES of tables that hold the end of a walk are the file as written.
+pub held-bytes : (tree : Forest) (st : Store) (g : ℕ) (z : Rest) → Tagged tree
+    → let q = held (over tree st) g z in
+    fileBytes (q .records) (q .scopes) (q .symbols) (q .walk) ≡ written (fileAt (over tree st))
+unfolding held fileBytes walkAt visitedAt restAt written fileAt storeAt treeAt fieldWith numbersOf
+held-bytes tree st g z q =
+    ap (_++_ (field 40 (st .mode ∷ st .isModule ∷ [])))
+    (ap₂ _++_ (scopes-are (st .scopes) (z .scopes))
+    (ap₂ _++_ (symbols-are (st .symbols) (st .asRead) (z .symbols))
+    (records-are (rowsOf tree) (free g ++ []) (z .records) ∙ tree-is tree q)))

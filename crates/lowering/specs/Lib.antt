@@ -1,0 +1,5 @@
+-- What lower answers and leaves; what its code computes; and that the two agree.
+pub mod Lower
+pub mod Flat
+pub mod Bytes
+pub mod Law

@@ -1,0 +1,1 @@
+// The numbers of refusals: no code.

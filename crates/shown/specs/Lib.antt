@@ -1,0 +1,3 @@
+-- The tree, the scopes and the symbols that tables show.
+pub mod Shown
+pub mod Held

@@ -1,0 +1,1 @@
+// The tree, the scopes and the symbols that tables show: no code.

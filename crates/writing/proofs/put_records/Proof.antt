@@ -1,0 +1,43 @@
+-- `writing::put_records` meets its contract. Assumes nothing.
+use mathlib.Core.Path.{_≡_, refl, _∙_}
+use Prim.Native.Nat.{_+_, _*_, _-_, _≤_}
+use native.Mathlib.Nat.{sub-zero}
+use lib.ListN.{length}
+use Rattle.writing.specs.Writing.{stored, rowsBytes, recordAt}
+use Rattle.writing.specs.Stored.{rows-last}
+use Rattle.writing.proofs.Laws.{next-most, records-turn}
+use borrow.Author.Needs.{needs}
+use Rattle.writing.proofs.put_records.Statement.{statement}
+use Rattle.writing.proofs.put_records.Tie as tie
+
+abbrev Inv-loop : tie.InvT-loop
+Inv-loop out₀ tree records count at₀ k₀ out at k =
+    (k ≤ count) × (at ≤ tree + 11 * k) × (length out ≡ length out₀)
+    × (stored out₀ tree (rowsBytes (recordAt records) 0 count) ≡ stored out at (rowsBytes (recordAt records) k (count - k)))
+
+abbrev μ-loop : tie.MeasureT-loop
+μ-loop out₀ tree records count at₀ k₀ out at k =
+    count - k
+
+loop-holds : tie.Need-loop-holds Inv-loop μ-loop
+loop-holds c = (search needs, search needs, refl, rw sub-zero)
+
+loop-again : tie.Need-loop-again Inv-loop μ-loop
+loop-again c =
+    let at-put-record = c .before .before in
+    let at-row-after = at-put-record .before in
+    let at-loop-test = at-row-after .before .before in
+    let at-loop = at-loop-test .before in
+    (search needs, next-most _ _ _ _ _ (at-put-record .put-record .ensures .1) (at-loop .loop .inv .1), at-put-record .put-record .kept .0 ∙ at-loop .loop .inv .2, records-turn _ _ _ _ _ _ _ _ _ (at-loop .loop .inv .3) (at-loop-test .loop-test .taken) (at-row-after .row-after .ensures) (at-put-record .put-record .ensures .0) (at-put-record .put-record .ensures .1))
+
+returns : tie.Need-returns Inv-loop μ-loop
+returns c =
+    let at-loop-test = c in
+    let at-loop = at-loop-test .before in
+    rows-last _ _ _ _ _ _ (at-loop .loop .inv .3) (at-loop-test .loop-test .left)
+
+pub put-records-spec : {M : Type 1} → statement M
+put-records-spec =
+    tie.close
+    (tie.spec
+    Inv-loop μ-loop loop-holds (λ c κs. search needs) (λ c κs. search needs) (λ c. search needs) (λ c. search needs) loop-again (λ c. search needs) returns)

@@ -1,0 +1,56 @@
+-- The bytes that the code writes from tables, whatever numbers they hold.
+-- Assumes nothing.
+use mathlib.Core.List.{List, [], _∷_, _++_}
+use Prim.Native.Nat.{ℕ, zero, suc, _+_, _*_, _%_}
+use lib.ListN.{getD, set, take}
+use lib.Dec.{ltb}
+use Rattle.meaning.specs.Tree.{if_then_else_}
+use Rattle.meaning.specs.File.{numbersOf, ownNumbers, field}
+use Rattle.tables.specs.Table.{rowF}
+use Rattle.tables.specs.declared.Row.{Row}
+use Rattle.path.specs.declared.Walk.{Walk}
+
+-- bytes stored one after another from an offset on; past the end nothing is stored
+unfoldable pub stored : List ℕ → ℕ → List ℕ → List ℕ
+stored out at [] = out
+stored out at (b ∷ bs) = stored (set out at b) (at + 1) bs
+
+-- a field with as many of these numbers as its tag has
+unfoldable pub fieldWith : ℕ → ℕ → ℕ → ℕ → ℕ → List ℕ
+fieldWith t a b c d = field t (take (numbersOf t) (a ∷ b ∷ c ∷ d ∷ []))
+
+-- ---- rows
+
+unfoldable pub scopeBytes : List ℕ → ℕ → List ℕ
+scopeBytes t k = fieldWith 41 (getD t (k * 2) 0) (getD t (k * 2 + 1) 0) 0 0
+
+unfoldable pub symbolBytes : List ℕ → ℕ → List ℕ
+symbolBytes t k =
+    fieldWith 42 (getD t (k * 5) 0) (getD t (k * 5 + 1) 0) (getD t (k * 5 + 2) 0) (getD t (k * 5 + 3) 0)
+
+-- a record's own number, or n behind them
+unfoldable pub ownOr : ℕ → ℕ → ℕ → ℕ → ℕ
+ownOr own i v n = if ltb i own then v else n
+
+unfoldable pub recordBytes : Row → List ℕ
+recordBytes r =
+    let t = r .tag % 256 in
+    let own = ownNumbers t in
+    fieldWith t (ownOr own 0 (r .a) (r .n)) (ownOr own 1 (r .b) (r .n)) (ownOr own 2 (r .c) (r .n)) (r .n)
+
+-- so many rows, from the row k on
+unfoldable pub rowsBytes : (ℕ → List ℕ) → ℕ → ℕ → List ℕ
+rowsBytes f k zero = []
+rowsBytes f k (suc n) = f k ++ rowsBytes f (k + 1) n
+
+abbrev pub recordAt : List ℕ → ℕ → List ℕ
+recordAt t k = recordBytes (rowF t k)
+
+-- THE FILE in the tables, of the rows visited.
+unfoldable pub fileBytes : List ℕ → List ℕ → List ℕ → Walk → List ℕ
+fileBytes r s y w =
+    let x = w .ctx in
+    fieldWith 40 (x .mode) (x .esm) 0 0
+    ++ (rowsBytes (scopeBytes s) 0 (x .scopes)
+    ++ (rowsBytes (symbolBytes y) 0 (x .symbols)
+    ++ rowsBytes (recordAt r) 0 (w .visited .0)))

@@ -1,0 +1,142 @@
+// The file in the tables, written to the lent output.
+//
+// Bytes go to an offset; past the end of the output nothing is stored. An offset is at most 65,535 fields of 11 bytes for each kind of row,
+// and the settings.
+use meaning::RecordId;
+use path::Walk;
+use tables::Row;
+ghost use mathlib.Core.Path.{_≡_};
+ghost use mathlib.Core.List.{[], _∷_};
+ghost use Prim.Native.Nat.{_+_, _*_, _≤_};
+ghost use lib.Dec.{ltb};
+ghost use lib.ListN.{length, set};
+ghost use Rattle.meaning.specs.Tree.{if_then_else_};
+ghost use Rattle.meaning.specs.File.{twoBytes};
+ghost use Rattle.writing.specs.Writing.{stored, fieldWith, ownOr, scopeBytes, symbolBytes, recordBytes, rowsBytes, recordAt, fileBytes};
+
+// ---- bytes
+
+// Stores a byte; past the end nothing happens.
+fn put(out: &mut [u8], at: usize, v: u8)
+    ensures { λ _. ⌜ now (out .exit) ≡ set (now (out .entry)) at v ⌝ }
+{
+    if at < out.len() {
+        out[at] = v;
+    }
+}
+
+// A number, high byte first.
+fn put_two(out: &mut [u8], at: usize, v: u16)
+    requires { ⌜ at ≤ 3000000 ⌝ }
+    ensures { λ _. ⌜ now (out .exit) ≡ stored (now (out .entry)) at (twoBytes (v ∷ [])) ⌝ }
+{
+    put(out, at, (v / 256) as u8);
+    put(out, at + 1, (v % 256) as u8);
+}
+
+// Number i of the field at an offset, if it has as many.
+fn put_number(out: &mut [u8], at: usize, count: u8, i: u8, v: u16)
+    requires { ⌜ at ≤ 2500000 ⌝ }
+    ensures { λ _. ⌜ now (out .exit) ≡ (if ltb i count then stored (now (out .entry)) (at + 3 + 2 * i) (twoBytes (v ∷ [])) else now (out .entry)) ⌝ }
+{
+    if i < count {
+        put_two(out, at + 3 + 2 * (i as usize), v);
+    }
+}
+
+// A field with as many of these numbers as its tag has.
+fn put_field(out: &mut [u8], at: usize, tag: u8, a: u16, b: u16, c: u16, d: u16)
+    requires { ⌜ at ≤ 2500000 ⌝ }
+    ensures { λ _. ⌜ now (out .exit) ≡ stored (now (out .entry)) at (fieldWith tag a b c d) ⌝ }
+{
+    let count = fields::numbers_of(tag);
+    put(out, at, tag);
+    put_two(out, at + 1, 2 * (count as u16));
+    put_number(out, at, count, 0, a);
+    put_number(out, at, count, 1, b);
+    put_number(out, at, count, 2, c);
+    put_number(out, at, count, 3, d);
+}
+
+// ---- rows
+
+fn put_scopes(out: &mut [u8], scopes: &[u16], count: u16)
+    ensures { λ _. ⌜ now (out .exit) ≡ stored (now (out .entry)) 7 (rowsBytes (scopeBytes (now (scopes .entry))) 0 count) ⌝ }
+{
+    let mut k: u16 = 0;
+    while k < count {
+        let at = (k as usize) * 2;
+        put_field(out, 7 + 7 * (k as usize), 41, tables::get(scopes, at), tables::get(scopes, at + 1), 0, 0);
+        k += 1;
+    }
+}
+
+fn put_symbol(out: &mut [u8], to: usize, symbols: &[u16], k: u16)
+    requires { ⌜ to ≤ 2500000 ⌝ }
+    ensures { λ _. ⌜ now (out .exit) ≡ stored (now (out .entry)) to (symbolBytes (now (symbols .entry)) k) ⌝ }
+{
+    let at = (k as usize) * 5;
+    let name = tables::get(symbols, at);
+    let flags = tables::get(symbols, at + 1);
+    let scope = tables::get(symbols, at + 2);
+    put_field(out, to, 42, name, flags, scope, tables::get(symbols, at + 3));
+}
+
+fn put_symbols(out: &mut [u8], first: usize, symbols: &[u16], count: u16)
+    requires { ⌜ first ≤ 500000 ⌝ }
+    ensures { λ _. ⌜ now (out .exit) ≡ stored (now (out .entry)) first (rowsBytes (symbolBytes (now (symbols .entry))) 0 count) ⌝ }
+{
+    let mut k: u16 = 0;
+    while k < count {
+        put_symbol(out, first + 11 * (k as usize), symbols, k);
+        k += 1;
+    }
+}
+
+// ---- records
+
+// Number i of a record's own, or n behind them.
+fn own_or(own: u8, i: u8, v: u16, n: u16) -> u16
+    ensures { λ r. ⌜ r ≡ ownOr own i v n ⌝ }
+{
+    if i < own { v } else { n }
+}
+
+// A record at an offset; the offset behind it.
+fn put_record(out: &mut [u8], at: usize, r: Row) -> usize
+    requires { ⌜ at ≤ 2500000 ⌝ }
+    ensures bytes { λ _. ⌜ now (out .exit) ≡ stored (now (out .entry)) at (recordBytes r) ⌝ }
+    ensures next { λ e. ⌜ e ≡ at + length (recordBytes r) ⌝ }
+{
+    let tag = (r.tag % 256) as u8;
+    let own = rules::own_numbers(tag);
+    let n = r.n;
+    put_field(out, at, tag, own_or(own, 0, r.a, n), own_or(own, 1, r.b, n), own_or(own, 2, r.c, n), n);
+    at + 3 + 2 * (fields::numbers_of(tag) as usize)
+}
+
+fn put_records(out: &mut [u8], tree: usize, records: &[u16], count: u16)
+    requires { ⌜ tree ≤ 1500000 ⌝ }
+    ensures { λ _. ⌜ now (out .exit) ≡ stored (now (out .entry)) tree (rowsBytes (recordAt (now (records .entry))) 0 count) ⌝ }
+{
+    let mut at = tree;
+    let mut k: u16 = 0;
+    while k < count {
+        at = put_record(out, at, tables::row_after(records, RecordId(k)));
+        k += 1;
+    }
+}
+
+// ---- the file
+
+// Writes the settings, the scope and symbol rows and the records visited.
+pub fn write(walk: Walk, records: &[u16], scopes: &[u16], symbols: &[u16], out: &mut [u8])
+    ensures { λ _. ⌜ now (out .exit) ≡ stored (now (out .entry)) 0 (fileBytes (now (records .entry)) (now (scopes .entry)) (now (symbols .entry)) walk) ⌝ }
+{
+    let ctx = walk.ctx;
+    let first = 7 + 7 * (ctx.scopes as usize);
+    put_field(out, 0, 40, ctx.mode, ctx.esm, 0, 0);
+    put_scopes(out, scopes, ctx.scopes);
+    put_symbols(out, first, symbols, ctx.symbols);
+    put_records(out, first + 11 * (ctx.symbols as usize), records, walk.visited.0);
+}
