@@ -13,8 +13,8 @@ use Rattle.tables.specs.Table.{endF}
 use Rattle.tables.specs.declared.Row.{Row}
 use Rattle.gap.specs.Cells.{table, line, rowsOf, length-rows}
 use Rattle.statements.specs.Plan.{counting}
-use Rattle.lists.specs.Plan.{cap-sum}
-use Rattle.streamed.specs.Places.{tag-here, end-here}
+use Rattle.lists.specs.Plan.{cap-sum, end-here}
+use Rattle.streamed.specs.Places.{tag-here}
 use Rattle.placing.specs.Placing.{numberRowsF}
 use Rattle.placed.specs.Numbers.{numbered, length-numbered, number-law}
 use Rattle.placed.specs.Merge.{Merge, nil, lefts, rights, numbered-append}

@@ -47,8 +47,7 @@ use Rattle.tables.specs.declared.Row.{Row}
 use Rattle.gap.specs.Cells.{table, line, rowsOf, count-size, count-&, size-&}
 use Rattle.gap.specs.Rows.{length-snoc}
 use Rattle.lists.specs.TakeUp.{length-line}
-use Rattle.lists.specs.Plan.{cap-sum}
-use Rattle.streamed.specs.Places.{parted, row-here, end-here}
+use Rattle.lists.specs.Plan.{cap-sum, parted, row-here, end-here}
 use Rattle.items.specs.Kinds.{itemF, defaultItemF, defaultClassItemF, exportedItemF}
 use Rattle.items.specs.declared.Item.{Item}
 use Rattle.items.specs.declared.Item.the-variants.{Kept, DefaultClass, DefaultValue, ExportedClass, ExportedDeclaration}

@@ -14,7 +14,7 @@ use mathlib.Core.Path.{_≡_, refl, sym, ap, _∙_}
 use mathlib.Core.Bool.{true}
 use mathlib.Core.List.{List, map}
 use mathlib.Core.Logic.{_⊎_}
-use Prim.Native.Nat.{ℕ, _+_, _≤_}
+use Prim.Native.Nat.{ℕ, _+_, _*_, _≤_}
 use lib.Dec.{eqb, leb}
 use lib.ListN.{length}
 use Rattle.meaning.specs.Tree.{size, flatten}
@@ -36,6 +36,9 @@ use Rattle.start.specs.Filled.{admitted}
 use Rattle.hints.specs.Hints.{ofRead, asked, given}
 use Rattle.ending.specs.Last.{last-spot, last-is}
 use Rattle.ending.specs.ReadBack.{fieldsOf, fieldCount, isRecord}
+use Rattle.decoded.specs.Decoded.{treeIn}
+use Rattle.decoded.specs.Back.{Childless, hints-back}
+use Rattle.decoded.specs.Childless.{accepted-childless}
 use Rattle.shown.specs.Shown.{recordsIn, scopesIn, symbolsIn}
 use Rattle.refusing.specs.Numbers.{lower-numbers}
 use Rattle.refusing.specs.Small.{Short, firstShort, small-refused, refused-small, lower-total, enough-output}
@@ -93,6 +96,22 @@ pub lowering-is-01 : (bytes r s y o : List ℕ) (f : File) → admit bytes (lent
 unfolding lowerF
 lowering-is-01 bytes r s y o f e h =
     ap (λ (a : Outcome Written). lowerOf a r s y o) (enough-output bytes (lentIn r s y) (length o) f e h)
+
+-- THE HINTS. In the tree that the written bytes say, the Declarators outside a switch whose initializer lowering has wrapped are those of
+-- the source's usings that are taken up (in lists and Fors, Program's recorded ones, and ForOf's), and each Call has the letter of the
+-- hint that TC39 gives the source's declaration. Said with weights: whatever a Declarator's names and a letter are weighted by, the sum
+-- over the one side is the sum over the other, so each pair of names and letter is there as often. `given` counts Calls through contexts
+-- that lowering made (their symbols are behind those read), of names that are symbols read.
+pub hints : (w : List ℕ → ℕ → ℕ) (bytes r s y : List ℕ) (f : File) → Bytes bytes → admit bytes (lentIn r s y) ≡ accepted f
+    → let read = length (f .symbols) in
+    given (ofRead read w) read (treeIn (written (fileAt (lastSpot f)))) ≡ asked w (f .tree)
+unfolding fileAt
+hints w bytes r s y f b e =
+    let read = length (f .symbols) in
+    let read-is = admitted bytes r s y f e .0 in
+    let childless : Childless (treeAt (lastSpot f)) =
+    rw (last-spot f) (accepted-childless bytes f (2 * finalFigures f .records) read-is) in
+    hints-back (ofRead read w) read (fileAt (lastSpot f)) (last-tagged bytes r s y f b e) childless ∙ last-hints w bytes f read-is
 
 -- ---- DEMAND 3
 

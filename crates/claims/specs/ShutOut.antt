@@ -6,7 +6,7 @@ use mathlib.Core.List.{List, []}
 use Prim.Native.Nat.{ℕ, zero, suc}
 use native.Mathlib.Omega.{arith}
 use lib.ListN.{length}
-use Rattle.meaning.specs.Tree.{none}
+use Rattle.meaning.specs.Tree.{Forest, none}
 use Rattle.meaning.specs.File.{File, written}
 use Rattle.meaning.specs.Reading.{Outcome, accepted, refused, _>>=_, _>>_, readFile}
 use Rattle.meaning.specs.Walk.{Spot, visits, start, fileAt}
@@ -14,7 +14,9 @@ use Rattle.meaning.specs.Charges.{Figures, figures, figuresAt, finalFigures}
 use Rattle.meaning.specs.Lowering.{Lent, Written, checkOutput, checkFile, admit, lastSpot, lower}
 use Rattle.meaning.specs.Notation.{bytes}
 use Rattle.meaning.specs.Computing.{computing}
+use Rattle.meaning.specs.Hint.{hintOf, letterOf}
 use Rattle.tags.specs.Tags.{clash}
+use Rattle.hints.specs.Hints.{sumOver, namesOf, ofInitializer, overDeclarators, usingsIn, asksFor, asked}
 
 -- ---- two files and what is seen of an answer
 
@@ -193,3 +195,34 @@ invented-records = refl
 
 pub no-inventing : inventing ≡ lower → ⊥
 no-inventing e = omega (arith, invented-records, whole-records, ap (λ (l : Lowering). recordsSaid (on l whole)) e)
+
+-- ---- one letter for all (excluded by `hints`)
+
+-- a block with an `await using`
+abbrev awaited : List ℕ
+awaited = bytes "40:1,0 41:0,16 41:1,0 42:10,6,2,0 1:1,1 2:2,1 5:4,1 6:0,1,2 26:1 24:7,0"
+
+-- every using is taken for a plain one
+unfoldable pub askedPlain : (List ℕ → ℕ → ℕ) → Forest → ℕ
+askedPlain w tree = sumOver (asksFor w (λ _. 0)) tree
+
+-- each using counts its letter
+abbrev byLetter : List ℕ → ℕ → ℕ
+byLetter names letter = letter
+
+asked-letter : asked byLetter (fileOf (readFile awaited) .tree) ≡ 1
+unfolding asked sumOver asksFor usingsIn overDeclarators ofInitializer namesOf hintOf letterOf computing
+asked-letter = refl
+
+plain-letter : askedPlain byLetter (fileOf (readFile awaited) .tree) ≡ 0
+unfolding askedPlain sumOver asksFor usingsIn overDeclarators ofInitializer namesOf computing
+plain-letter = refl
+
+pub no-one-letter : asked ≡ askedPlain → ⊥
+no-one-letter e =
+    omega (
+      arith,
+      asked-letter,
+      plain-letter,
+      ap (λ (a : (List ℕ → ℕ → ℕ) → Forest → ℕ). a byLetter (fileOf (readFile awaited) .tree)) e,
+    )

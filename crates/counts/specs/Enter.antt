@@ -27,6 +27,7 @@ use Rattle.meaning.specs.Walk.{isStaticBlock, Act, keep, forOfAct, actOf, enter
 use Rattle.meaning.specs.Charges.{Line, ofStaticBlock, initializers, wraps, contextLines}
 use Rattle.meaning.specs.VisitCharges.{standing, enterLines, visitsAs, visitsIn}
 use Rattle.tags.specs.Tags.{Seen, other, here, there, seen, clash, and-left}
+use Rattle.totals.specs.Roles.{Lacks}
 use Rattle.growth.specs.ForOf.{Named}
 use Rattle.growth.specs.Program.{Exports}
 use Rattle.growth.specs.Enter.{NamedLeft, Proper}
@@ -58,11 +59,6 @@ Body (more h₂ k₂ (more h₃ k₃ r)) = eqb (h₃ .tag) 5 ≡ false
 abbrev pub Left : Forest → Type 0
 Left none = Unit {0}
 Left (more h k r) = (isUsing h && bindsIdentifier k) ≡ true → Named k × Begins k × (oneOf (3 ∷ 4 ∷ []) (h .a) ≡ true) × Body r
-
--- none of the records of a list has this tag
-abbrev pub Lacks : ℕ → Forest → Type 0
-Lacks t none = Unit {0}
-Lacks t (more h k r) = (eqb (h .tag) t ≡ false) × Lacks t r
 
 -- The exports of a Program with a using have one child each, and its usings are not recorded; a ForOf's left side is as said; a Label
 -- has one child; a Catch has no Catch among its children.

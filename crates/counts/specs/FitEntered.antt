@@ -93,7 +93,8 @@ use Rattle.meaning.specs.Walk.{
   enter,
 }
 use Rattle.tags.specs.Tags.{Seen, other, here, there, seen, clash, and-left}
-use Rattle.counts.specs.Enter.{Lacks, Fit, and-right}
+use Rattle.totals.specs.Roles.{Lacks}
+use Rattle.counts.specs.Enter.{Fit, and-right}
 use Rattle.counts.specs.Fits.{Fits, easy, catch-fit, fits-&, list-fits, cases-fit, loop-fits, declared-fits, try-fits}
 
 -- ---- contexts

@@ -27,7 +27,8 @@ use Rattle.meaning.specs.Statements.{
 use Rattle.meaning.specs.Contexts.{forList, takeUpFor, takeUpCases}
 use Rattle.tags.specs.Tags.{Seen, other, here, there, seen, clash}
 use Rattle.counts.specs.TakenUp.{Labelled}
-use Rattle.counts.specs.Enter.{Lacks, Fit}
+use Rattle.totals.specs.Roles.{Lacks}
+use Rattle.counts.specs.Enter.{Fit}
 
 -- each record of a tree is fit
 abbrev pub Fits : Forest → Type 0

@@ -144,6 +144,7 @@ enough b f e = go (isOver s) refl
   where
     s : Spot
     s = visits (2 * finalFigures f .records) (start f)
+
     go : (o : Bool) → isOver s ≡ o → isOver s ≡ true
     go true o = o
     go false o =
@@ -177,6 +178,7 @@ last-is b f k e o = go (leb n k) refl ∙ sym (last-spot f)
   where
     n : ℕ
     n = 2 * finalFigures f .records
+
     go : (d : Bool) → leb n k ≡ d → visits k (start f) ≡ visits n (start f)
     go true d = more-stays n k (start f) (leb-true n k d) (enough b f e)
     go false d = sym (more-stays k n (start f) (omega (arith, leb-false n k d)) o)

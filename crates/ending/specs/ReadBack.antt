@@ -227,9 +227,8 @@ pub counts-back : (g : File) → Tagged (g .tree)
     → (fieldCount isRecord (fieldsOf (written g)) ≡ size (g .tree))
     × (fieldCount (λ t. eqb t 41) (fieldsOf (written g)) ≡ length (g .scopes))
     × (fieldCount (λ t. eqb t 42) (fieldsOf (written g)) ≡ length (g .symbols))
-counts-back g q =
-    (
-      omega (arith, file-count isRecord g false false true refl refl refl (λ t e. e) q),
-      omega (arith, file-count (λ t. eqb t 41) g true false false refl refl refl no-scope q),
-      omega (arith, file-count (λ t. eqb t 42) g false true false refl refl refl no-symbol q),
-    )
+counts-back g q = (
+  omega (arith, file-count isRecord g false false true refl refl refl (λ t e. e) q),
+  omega (arith, file-count (λ t. eqb t 41) g true false false refl refl refl no-scope q),
+  omega (arith, file-count (λ t. eqb t 42) g false true false refl refl refl no-symbol q),
+)

@@ -13,7 +13,7 @@ use Rattle.meaning.specs.declared.Place.the-variants.{ForOfLeft, SwitchExpressi
 use Rattle.meaning.specs.declared.Field.{Field}
 use Rattle.tags.specs.Tags.{clash}
 use Rattle.totals.specs.Accepted.{either}
-use Rattle.counts.specs.Enter.{Lacks}
+use Rattle.totals.specs.Roles.{Lacks}
 use Rattle.fit.specs.Placed.{ReadAs, same-tag, Placed}
 
 unfoldable pub Bars : ℕ → Place → Type 0

@@ -15,7 +15,7 @@ use Rattle.meaning.specs.declared.Place.{Place}
 use Rattle.meaning.specs.declared.Place.the-variants.{Program}
 use Rattle.meaning.specs.declared.Field.{Field}
 use Rattle.tags.specs.Tags.{clash}
-use Rattle.counts.specs.Enter.{Lacks}
+use Rattle.totals.specs.Roles.{Lacks}
 use Rattle.fit.specs.Placed.{same-tag, Placed, accepted-placed}
 use Rattle.fit.specs.Barred.{Bars, barred, lacks, no-catch}
 use Rattle.fit.specs.Accepted.{body-bars-5}

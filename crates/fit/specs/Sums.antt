@@ -44,7 +44,7 @@ use Rattle.meaning.specs.VisitCharges.{
   visitsIn,
 }
 use Rattle.tags.specs.Tags.{Seen, other, here, there, seen, and-left}
-use Rattle.counts.specs.Enter.{Lacks}
+use Rattle.totals.specs.Roles.{Lacks}
 use Rattle.fit.specs.Orderly.{or-none, isTry, PlainBody, Orderly}
 use Rattle.fit.specs.Modes.{
   Linear,

@@ -143,7 +143,8 @@ module _ (z : List ℕ) (a : List Row) (g : ℕ) where
       let r : length (a ++ x ∷ []) + g - 1 ≡ length a + g = omega (arith, length-snoc a x) in
       buf-eq (rw (w, r, append-snoc a x u, row-at z a x u, set-row z a x u zeros, ← slide g v) (set-right zeros v x)) r w
 
-turns-last : {A : Type 0} (n : ℕ) (f : A → A) (x : A) → turns n f (f x) ≡ f (turns n f x)
+-- one turn more, before the others or behind them
+pub turns-last : {A : Type 0} (n : ℕ) (f : A → A) (x : A) → turns n f (f x) ≡ f (turns n f x)
 unfolding turns
 turns-last zero f x = refl
 turns-last (suc n) f x = turns-last n f (f x)

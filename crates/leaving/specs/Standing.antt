@@ -15,12 +15,8 @@ use Rattle.gap.specs.Cells.{table, free, rowsOf, length-rows, count-&, size-&, 
 use Rattle.store.specs.Held.{scopeCells, symbolCells, ctxOf}
 use Rattle.spots.specs.Spots.{afterRowsOf, opensAt, restAt, Rest, walkAt, held}
 use Rattle.spots.specs.Scopes.{depth-law, outer, under, inner-number}
-use Rattle.spots.specs.Settle.{recordsAt, recordsIn, close-law, settle-law}
+use Rattle.spots.specs.Settle.{recordsAt, recordsIn, counted, close-law, settle-law}
 use Rattle.spots.specs.Lengths.{visited-leaving, visited-settled, rest-settled, store-settled, walk-eq}
-
-counted : (h : Head) (k before after : Forest) → count (before & one h k) + count after ≡ count before + suc (count after)
-unfolding count
-counted h k before after = omega (arith, count-& before (one h k))
 
 module _ (before after : Forest) (path : List Crumb) where
   -- the rows behind the StaticBlock
@@ -54,7 +50,7 @@ module _ (before after : Forest) (path : List Crumb) where
   -- the record counts among those done
   among-done : (h : Head) (k : Forest) (g : ℕ) (z : List ℕ)
       → recordsIn (before & one h k) after path g z ≡ openRows (rowsIn h k g z) (length (outer before after path))
-  among-done h k g z = rw (counted h k before after, rows-& before (one h k)) (simp append-assoc)
+  among-done h k g z = rw (← counted h k before after, rows-& before (one h k)) (simp append-assoc)
 
   module _ (h : Head) (k : Forest) (st : Store) (g : ℕ) (z : Rest) where
     -- ITS ROW IS CLOSED

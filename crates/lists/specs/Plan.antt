@@ -91,7 +91,7 @@ counts-size (more h k r) =
 -- ---- the initializers of a using
 
 -- the first of some records, and what comes after it
-parted : (z : List ℕ) (h : Head) (k r : Forest) (a v : List Row) (t : List ℕ) → t ≡ table (a ++ (rowsOf (more h k r) ++ v)) z
+pub parted : (z : List ℕ) (h : Head) (k r : Forest) (a v : List Row) (t : List ℕ) → t ≡ table (a ++ (rowsOf (more h k r) ++ v)) z
     → (t ≡ table (a ++ line h (count k) ∷ (rowsOf k ++ (rowsOf r ++ v))) z)
     × (t ≡ table ((a ++ line h (count k) ∷ rowsOf k) ++ (rowsOf r ++ v)) z)
 unfolding rowsOf
@@ -99,10 +99,10 @@ parted z h k r a v t e = (e ∙ simp append-assoc, e ∙ simp append-assoc)
 
 module _ (z : List ℕ) (h : Head) (k : Forest) (a v : List Row) (t : List ℕ)
     (e : t ≡ table (a ++ line h (count k) ∷ (rowsOf k ++ v)) z) (q : length a + suc (size k) ≤ 65535) where
-  row-here : rowF t (length a) ≡ line h (count k)
+  pub row-here : rowF t (length a) ≡ line h (count k)
   row-here = rw e (row-at z a (line h (count k)) (rowsOf k ++ v))
 
-  end-here : endF t (length a) 1 ≡ length (a ++ line h (count k) ∷ rowsOf k)
+  pub end-here : endF t (length a) 1 ≡ length (a ++ line h (count k) ∷ rowsOf k)
   end-here = end-one z h k a v t e q ∙ sym (length-line a (line h (count k)) k)
 
   count-one : (s : ℕ) → s + initializer h k ≤ 65535
@@ -125,7 +125,7 @@ counting-law z (more h k r) a v s t e q i =
 
 -- ---- an item
 
-plan-eq : {p u w x p′ u′ w′ x′ : ℕ} → p ≡ p′ → u ≡ u′ → w ≡ w′ → x ≡ x′ → plan p u w x ≡ plan p′ u′ w′ x′
+pub plan-eq : {p u w x p′ u′ w′ x′ : ℕ} → p ≡ p′ → u ≡ u′ → w ≡ w′ → x ≡ x′ → plan p u w x ≡ plan p′ u′ w′ x′
 plan-eq e₁ e₂ e₃ e₄ = λ i. plan (e₁ i) (e₂ i) (e₃ i) (e₄ i)
 
 module _ (z : List ℕ) (h : Head) (k : Forest) (a v : List Row) (t : List ℕ)

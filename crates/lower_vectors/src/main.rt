@@ -8,6 +8,7 @@ ghost use Prim.Native.Nat.{_≤_};
 
 // What stands in the lent memory before a call.
 const NUMBER: u16 = 43981;
+
 const BYTE: u8 = 170;
 
 struct Seen {
@@ -125,7 +126,15 @@ fn same_refusal(number: u8, place: usize, head: &[u8; 30]) -> bool {
     place == three(head[12], head[13], head[14])
 }
 
-fn agrees(answer: Lowered, head: &[u8; 30], expected: &[u8], records: &[u16], scopes: &[u16], symbols: &[u16], out: &[u8]) -> bool {
+fn agrees(
+    answer: Lowered,
+    head: &[u8; 30],
+    expected: &[u8],
+    records: &[u16],
+    scopes: &[u16],
+    symbols: &[u16],
+    out: &[u8],
+) -> bool {
     match answer {
         Lowered::Written(g) => {
             if !same_figures(g, head) {
@@ -153,7 +162,15 @@ fn agrees(answer: Lowered, head: &[u8; 30], expected: &[u8], records: &[u16], sc
 
 // ---- a lowering
 
-fn replay(head: &[u8; 30], file: &[u8], expected: &[u8], records: &mut [u16], scopes: &mut [u16], symbols: &mut [u16], out: &mut [u8]) -> bool {
+fn replay(
+    head: &[u8; 30],
+    file: &[u8],
+    expected: &[u8],
+    records: &mut [u16],
+    scopes: &mut [u16],
+    symbols: &mut [u16],
+    out: &mut [u8],
+) -> bool {
     fill_numbers(records);
     fill_numbers(scopes);
     fill_numbers(symbols);
@@ -249,10 +266,7 @@ fn replay_all(fd: i32) -> Seen {
     let mut file = io::large_buffer();
     let mut expected = io::large_buffer();
     let mut out = io::large_buffer();
-    let mut seen = Seen {
-        all: 0,
-        right: 0,
-    };
+    let mut seen = Seen { all: 0, right: 0 };
     let mut k: usize = 0;
     while k < 2000 {
         seen = replay_next(fd, &mut file, &mut expected, &mut out, seen);

@@ -129,8 +129,8 @@ exit-quiet h k st p =
       (
         calm _ _ refl refl,
         try-quiet (h .a) (takeUp false (c .0) false k) (c .0) (h .a) (c .0) (s .0) (anyAwaitUsing k) (c .1) (f .1)
-        (taken-list k false (c .0) false)
-        (taken-quiet k false (c .0) false p),
+            (taken-list k false (c .0) false)
+            (taken-quiet k false (c .0) false p),
         tt,
       ),
       tt,

@@ -17,7 +17,13 @@ pub enum Lowered {
 }
 
 // Visits until the walk is over, so many at most.
-fn visit_all(walk: Walk, limit: u32, records: &mut [u16], scopes: &mut [u16], symbols: &mut [u16]) -> Walk
+fn visit_all(
+    walk: Walk,
+    limit: u32,
+    records: &mut [u16],
+    scopes: &mut [u16],
+    symbols: &mut [u16],
+) -> Walk
     ensures { λ r. ⌜ tables (now (records .exit)) (now (scopes .exit)) (now (symbols .exit)) r ≡ visitAllF limit (tables (now (records .entry)) (now (scopes .entry)) (now (symbols .entry)) walk) ⌝ }
 {
     let mut w = walk;
@@ -33,7 +39,14 @@ fn visit_all(walk: Walk, limit: u32, records: &mut [u16], scopes: &mut [u16], sy
 }
 
 // Reads, walks and writes a file that takes so many record rows. A record is entered once, and a StaticBlock left once.
-fn write_lowered(file: &[u8], rows: u16, records: &mut [u16], scopes: &mut [u16], symbols: &mut [u16], out: &mut [u8])
+fn write_lowered(
+    file: &[u8],
+    rows: u16,
+    records: &mut [u16],
+    scopes: &mut [u16],
+    symbols: &mut [u16],
+    out: &mut [u8],
+)
     ensures { λ _. ⌜ now (out .exit) ≡ outputF (now (file .entry)) rows (now (records .entry)) (now (scopes .entry)) (now (symbols .entry)) (now (out .entry)) ⌝ }
 {
     let first = start::fill(file, records, scopes, symbols, rows);
@@ -42,14 +55,28 @@ fn write_lowered(file: &[u8], rows: u16, records: &mut [u16], scopes: &mut [u16]
 }
 
 // An admitted file: 01's refusal 10, or the file written and the tables cleared.
-fn lower_admitted(g: FinalFigures, file: &[u8], records: &mut [u16], scopes: &mut [u16], symbols: &mut [u16], out: &mut [u8]) -> Lowered
+fn lower_admitted(
+    g: FinalFigures,
+    file: &[u8],
+    records: &mut [u16],
+    scopes: &mut [u16],
+    symbols: &mut [u16],
+    out: &mut [u8],
+) -> Lowered
     ensures { λ r. ⌜ finished r (now (records .exit)) (now (scopes .exit)) (now (symbols .exit)) (now (out .exit)) ≡ lowerBy (Fine g) (now (file .entry)) (now (records .entry)) (now (scopes .entry)) (now (symbols .entry)) (now (out .entry)) ⌝ }
 {
     let size = out.len();
     if (size as u64) < g.bytes {
         Lowered::Refused(10, size)
     } else {
-        write_lowered(file, start::capped(g.records), records, scopes, symbols, out);
+        write_lowered(
+            file,
+            start::capped(g.records),
+            records,
+            scopes,
+            symbols,
+            out,
+        );
         start::clear(records);
         start::clear(scopes);
         start::clear(symbols);
@@ -58,7 +85,13 @@ fn lower_admitted(g: FinalFigures, file: &[u8], records: &mut [u16], scopes: &mu
 }
 
 // Lowers a file: 01's refusals 1 to 10, which change nothing, or the lowered file at the front of the output.
-pub fn lower(file: &[u8], records: &mut [u16], scopes: &mut [u16], symbols: &mut [u16], out: &mut [u8]) -> Lowered
+pub fn lower(
+    file: &[u8],
+    records: &mut [u16],
+    scopes: &mut [u16],
+    symbols: &mut [u16],
+    out: &mut [u8],
+) -> Lowered
     ensures { λ r. ⌜ finished r (now (records .exit)) (now (scopes .exit)) (now (symbols .exit)) (now (out .exit)) ≡ lowerF (now (file .entry)) (now (records .entry)) (now (scopes .entry)) (now (symbols .entry)) (now (out .entry)) ⌝ }
 {
     match start::admit(file, records, scopes, symbols) {

@@ -23,7 +23,7 @@ use Rattle.spots.specs.Spots.{visitedAt, restAt, Rest, held}
 use Rattle.created.specs.Held.{freeScopes, freeSymbols, Room, room-before}
 use Rattle.created.specs.Scopes.{below-symbols, below-number}
 use Rattle.for_of.specs.ForOf.{makeTempF, insertUsingF, wrapBodyF}
-use Rattle.streamed.specs.ForOf.{insert-rows-law, wrap-rows-law}
+use Rattle.streamed.specs.ForOf.{size-rebind, insert-rows-law, wrap-rows-law}
 use Rattle.rewritten.specs.Standing.{before, behind, a-is}
 use Rattle.rewritten.specs.Replaced.{withFree, rewritten, start-law, start-room, replaced-law}
 use Rattle.rewritten.specs.Sides.{symbols-are, symbol-is, kind-is, scope-is, below-is}
@@ -55,12 +55,6 @@ unfolding moveBinding
 moved-held y scope st zs zy = (binding-moved st y zy scope, refl, sym (binding-ctx st y scope))
 
 -- ---- what is put in its place
-
-size-rebind : (y : ℕ) (f : Forest) → size (rebind y f) ≡ size f
-unfolding rebind size
-size-rebind y none = refl
-size-rebind y (more h none r) = refl
-size-rebind y (more h (more h₁ k₁ r₁) r) = refl
 
 module _ (h h₁ : Head) (k₁ : Forest) (h₂ : Head) (k₂ : Forest) (h₃ : Head) (k₃ r₃ : Forest) (kind y temp : ℕ) where
   -- with a body

@@ -27,7 +27,8 @@ use Rattle.creation.specs.Scopes.{insertScopeBelowF}
 use Rattle.created.specs.Held.{freeScopes}
 use Rattle.created.specs.Scopes.{insert-below-law}
 use Rattle.for_of.specs.ForOf.{takesUsingF, usingSymbolF, bodyAfterF, insertsF}
-use Rattle.streamed.specs.Places.{more-rows, parted}
+use Rattle.lists.specs.Plan.{parted}
+use Rattle.streamed.specs.Places.{more-rows}
 use Rattle.streamed.specs.Sides.{sides-rows, takes-none-law, takes-using-law, using-symbol-law, body-after-law, body-row-law}
 use Rattle.rewritten.specs.Standing.{before, toList, behind, rows-here, gap-here, room-here, list-here}
 

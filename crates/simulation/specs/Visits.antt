@@ -3,7 +3,6 @@
 use mathlib.Core.Path.{_≡_, refl, sym, ap, _∙_}
 use mathlib.Core.List.{List, [], _∷_}
 use Prim.Native.Nat.{ℕ, zero, suc, _+_, _-_, _≤_}
-use native.Mathlib.Nat.{zero-add, suc-add}
 use native.Mathlib.Omega.{arith}
 use lib.ListN.{length, take}
 use Rattle.meaning.specs.Tree.{none, size}
@@ -44,6 +43,7 @@ use Rattle.counts.specs.Pending.{Pending, spot-fits}
 use Rattle.fit.specs.Accepted.{accepted-fit, accepted-after}
 use Rattle.fit.specs.Final.{never-above}
 use Rattle.tables.specs.Loops.{turns}
+use Rattle.gap.specs.Rows.{turns-last}
 use Rattle.store.specs.Held.{Agrees}
 use Rattle.store.specs.Agreed.{Agreed}
 use Rattle.path.specs.Path.{Tables}
@@ -51,7 +51,7 @@ use Rattle.spots.specs.Spots.{Rest, held}
 use Rattle.spots.specs.Lengths.{store-settled}
 use Rattle.created.specs.Held.{freeScopes, freeSymbols, Room}
 use Rattle.rewritten.specs.Replaced.{withFree}
-use Rattle.tried.specs.Passing.{newScopes, newSymbols}
+use Rattle.tried.specs.Passing.{newScopes, newSymbols, scopes-more, symbols-more}
 use Rattle.walk.specs.Visit.{visitF}
 use Rattle.simulation.specs.Rewrite.{newRecords}
 use Rattle.simulation.specs.Visit.{visit-grows, visit-kept, visit-law}
@@ -63,16 +63,6 @@ abbrev pub heldIn : Figures → Rest → Spot → Tables
 heldIn x z s =
     held s (x .records - size (treeAt s))
     (withFree (x .scopes - length (storeAt s .scopes)) (x .symbols - length (storeAt s .symbols)) z)
-
-scopes-more : (m n : ℕ) (z : List ℕ) → freeScopes (m + n) z ≡ freeScopes m (freeScopes n z)
-unfolding freeScopes
-scopes-more zero n z = rw zero-add
-scopes-more (suc m) n z = rw (suc-add m n) (ap (λ (t : List ℕ). 0 ∷ 0 ∷ t) (scopes-more m n z))
-
-symbols-more : (m n : ℕ) (z : List ℕ) → freeSymbols (m + n) z ≡ freeSymbols m (freeSymbols n z)
-unfolding freeSymbols
-symbols-more zero n z = rw zero-add
-symbols-more (suc m) n z = rw (suc-add m n) (ap (λ (t : List ℕ). 0 ∷ 0 ∷ 0 ∷ 0 ∷ 0 ∷ t) (symbols-more m n z))
 
 -- ONE VISIT, in tables that have the rows for what it leaves
 visit-in : (x : Figures) (z : Rest) (s : Spot) → Pending s → Agreed (storeAt s) → Room (storeAt (visit s)) → x .records ≤ 65535
@@ -136,11 +126,6 @@ unfolding visits
 visits-last zero s = refl
 visits-last (suc k) s = visits-last k (visit s)
 
-turns-last : (k : ℕ) (q : Tables) → turns (suc k) visitF q ≡ visitF (turns k visitF q)
-unfolding turns
-turns-last zero q = refl
-turns-last (suc k) q = turns-last k (visitF q)
-
 same-rows : (ys : List Symbol) → Agrees ys ys
 same-rows [] = tt
 same-rows (y ∷ ys) = (refl, refl, same-rows ys)
@@ -176,7 +161,7 @@ module _ (b : List ℕ) (f : File) (e : readFile b ≡ accepted f) where
   visits-hold-tables zero z = refl
   visits-hold-tables (suc k) z =
       let next = visits-last k (start f) in
-      turns-last k _
+      turns-last k visitF _
       ∙ ap visitF (visits-hold-tables k z)
       ∙ visit-in (finalFigures f) z (spot k) (spot-fits k f (accepted-fit b f e)) (agreed-at k) (rw (← next) (room-at (suc k)))
       (accepted-fits b f e .0)

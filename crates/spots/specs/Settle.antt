@@ -50,7 +50,7 @@ module _ (g : ℕ) (z : List ℕ) (done : Forest) (st : Store) where
 -- ---- one row is left
 
 -- its record counts among those done
-counted : (h : Head) (kids before after : Forest) → count before + suc (count after) ≡ count (before & one h kids) + count after
+pub counted : (h : Head) (kids before after : Forest) → count before + suc (count after) ≡ count (before & one h kids) + count after
 unfolding count
 counted h kids before after = omega (arith, count-& before (one h kids))
 

@@ -17,6 +17,7 @@ use Rattle.meaning.specs.declared.Field.{Field}
 use Rattle.tables.specs.Loops.{turns, until, next-turn, go-on}
 use Rattle.tables.specs.Table.{setRowF}
 use Rattle.tables.specs.declared.Row.{Row}
+use Rattle.rules.specs.Numbers.{numbers-most}
 use Rattle.start.specs.Flat.{recordF, Counting, counting, counted, countOne, Filling, filling, nextRecord}
 
 -- ---- clearing
@@ -28,18 +29,6 @@ pub clear-last : (t₀ t : List ℕ) (i : ℕ) → take i t ≡ replicate i 0 �
 clear-last t₀ t i e l d = sym (take-all i t (omega arith)) ∙ (e ∙ ap (λ (k : ℕ). replicate k 0) d)
 
 -- ---- the offset behind a field
-
-most : (b : Bool) (x y : ℕ) → x ≤ 4 → y ≤ 4 → (if b then x else y) ≤ 4
-most true x y h l = h
-most false x y h l = l
-
-numbers-most : (t : ℕ) → numbersOf t ≤ 4
-unfolding numbersOf
-numbers-most t =
-    most (oneOf (14 ∷ 18 ∷ 19 ∷ 25 ∷ 26 ∷ []) t) 1 _ (omega arith)
-    (most (oneOf (1 ∷ 2 ∷ 4 ∷ 5 ∷ 7 ∷ 9 ∷ 10 ∷ 11 ∷ 16 ∷ 20 ∷ 24 ∷ 28 ∷ 40 ∷ 41 ∷ []) t) 2 _ (omega arith)
-    (most (oneOf (3 ∷ 6 ∷ 8 ∷ 17 ∷ 27 ∷ 29 ∷ []) t) 3 _ (omega arith)
-    (most (oneOf (12 ∷ 13 ∷ 15 ∷ 42 ∷ []) t) 4 0 (omega arith) (omega arith))))
 
 pub next-most : (f : List ℕ) (at n : ℕ) (x : Field) → x ≡ fieldOf f at → at ≤ 65535 + 11 * n → x .next ≤ 65535 + 11 * (n + 1)
 unfolding fieldOf fieldBytes

@@ -243,7 +243,13 @@ fn walk_of(file: &[u8], l: Layout, free: u16, end: u16) -> Walk
 }
 
 // The tree just read, with `end` rows in use.
-pub fn fill(file: &[u8], records: &mut [u16], scopes: &mut [u16], symbols: &mut [u16], end: u16) -> Walk
+pub fn fill(
+    file: &[u8],
+    records: &mut [u16],
+    scopes: &mut [u16],
+    symbols: &mut [u16],
+    end: u16,
+) -> Walk
     ensures { λ r. ⌜ tables (now (records .exit)) (now (scopes .exit)) (now (symbols .exit)) r ≡ fillF (now (file .entry)) end (now (records .entry)) (now (scopes .entry)) (now (symbols .entry)) ⌝ }
 {
     let l = find_rows(file);

@@ -19,9 +19,9 @@ use Rattle.gap.specs.Cells.{table, line, rowsOf}
 use Rattle.gap.specs.Rows.{length-snoc}
 use Rattle.statements.specs.Plan.{plan, planF}
 use Rattle.lists.specs.TakeUp.{length-line}
-use Rattle.lists.specs.Plan.{usings, awaits, any-usings, any-awaits, plan-law}
+use Rattle.lists.specs.Plan.{usings, awaits, any-usings, any-awaits, plan-law, parted, plan-eq, row-here, end-here}
 use Rattle.for_switch.specs.Switch.{planCaseF, planCasesF}
-use Rattle.streamed.specs.Places.{some-both, parted, row-here, end-here, below-here, rows-below}
+use Rattle.streamed.specs.Places.{some-both, below-here, rows-below}
 
 -- a number of a Case's list, or 0
 abbrev pub inCase : Head → ℕ → ℕ
@@ -93,9 +93,6 @@ cases-size (more h k r) =
     omega (arith, at-most c (usings k), at-most c (awaits k), at-most c (wraps k), list-size k, cases-size r)
 
 -- ---- counted on the rows
-
-plan-eq : {p u w x p′ u′ w′ x′ : ℕ} → p ≡ p′ → u ≡ u′ → w ≡ w′ → x ≡ x′ → plan p u w x ≡ plan p′ u′ w′ x′
-plan-eq e₁ e₂ e₃ e₄ = λ i. plan (e₁ i) (e₂ i) (e₃ i) (e₄ i)
 
 module _ (z : List ℕ) where
   -- by whether it is a Case

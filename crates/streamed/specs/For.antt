@@ -25,11 +25,11 @@ use Rattle.statements.specs.Plan.{plan, noPlan, planF}
 use Rattle.statements.specs.declared.Parts.{Parts}
 use Rattle.statements.specs.declared.Plan.{Plan}
 use Rattle.lists.specs.TakeUp.{size-taken, count-taken, take-up-law}
-use Rattle.lists.specs.Plan.{usings, awaits, any-usings}
+use Rattle.lists.specs.Plan.{usings, awaits, any-usings, parted, row-here}
 use Rattle.lists.specs.Try.{contextOf, handlersOf}
 use Rattle.contexts.specs.Lists.{listScope}
 use Rattle.for_switch.specs.For.{isLoopF, nextRow, labelsEndF, planForF, passRowsF, forRowsF}
-use Rattle.streamed.specs.Places.{one-row, parted, row-here, tag-here, rows-below, plan-below, length-left, n-gapped}
+use Rattle.streamed.specs.Places.{one-row, tag-here, rows-below, plan-below, length-left, n-gapped}
 use Rattle.streamed.specs.Frame.{frame-law}
 
 -- how many Labels stand before a record

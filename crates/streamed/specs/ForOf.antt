@@ -55,7 +55,7 @@ module _ (k r s : Forest) (h₂ : Head) (k₂ : Forest) where
       (cap-sum (count k + count r) (suc (count s)) (omega arith)
       ∙ omega (arith, count-& k (r & (s & one h₂ k₂)), count-& r (s & one h₂ k₂), count-& s (one h₂ k₂)))
 
-size-rebind : (y : ℕ) (f : Forest) → size (rebind y f) ≡ size f
+pub size-rebind : (y : ℕ) (f : Forest) → size (rebind y f) ≡ size f
 unfolding rebind size
 size-rebind y none = refl
 size-rebind y (more h none r) = refl

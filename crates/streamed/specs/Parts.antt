@@ -14,7 +14,7 @@ use Rattle.meaning.specs.Statements.{anyUsing}
 use Rattle.meaning.specs.Contexts.{anyPartUsing, lastBlockScope}
 use Rattle.meaning.specs.Charges.{wraps}
 use Rattle.tags.specs.Tags.{Seen, other, here, there, seen}
-use Rattle.counts.specs.Enter.{Lacks}
+use Rattle.totals.specs.Roles.{Lacks}
 use Rattle.tables.specs.Loops.{turns}
 use Rattle.tables.specs.Table.{capped, rowF}
 use Rattle.tables.specs.declared.Row.{Row}
@@ -23,7 +23,7 @@ use Rattle.gap.specs.Rows.{length-snoc}
 use Rattle.statements.specs.Plan.{counting, noPlan, planF}
 use Rattle.statements.specs.declared.Counting.{Counting}
 use Rattle.lists.specs.TakeUp.{length-line}
-use Rattle.lists.specs.Plan.{any-usings, cap-sum}
+use Rattle.lists.specs.Plan.{any-usings, cap-sum, parted, row-here, end-here}
 use Rattle.contexts.specs.Tries.{
   isPartF,
   partRowsF,
@@ -35,7 +35,7 @@ use Rattle.contexts.specs.Tries.{
   blockScopeF,
   lastBlockScopeF,
 }
-use Rattle.streamed.specs.Places.{some-both, parted, row-here, end-here, below-here, rows-below, plan-below}
+use Rattle.streamed.specs.Places.{some-both, below-here, rows-below, plan-below}
 
 -- the rows that a part gets
 abbrev pub ownRows : Head → Forest → ℕ

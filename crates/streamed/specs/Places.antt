@@ -18,7 +18,7 @@ use Rattle.gap.specs.Rows.{row-at, length-snoc, next-gapped}
 use Rattle.gap.specs.Streams.{end-one}
 use Rattle.statements.specs.Plan.{plan, noPlan, planF}
 use Rattle.lists.specs.TakeUp.{length-line}
-use Rattle.lists.specs.Plan.{usings, awaits, cap-sum, plan-list-law}
+use Rattle.lists.specs.Plan.{usings, awaits, cap-sum, plan-list-law, row-here, end-here}
 
 -- of two numbers, one is not 0
 pub some-both : (b c : Bool) (m n : ℕ) → b ≡ not (eqb m 0) → c ≡ not (eqb n 0) → (b || c) ≡ not (eqb (m + n) 0)
@@ -43,25 +43,11 @@ next-rows h k r v = ap (_∷_ (line h (count k))) (append-assoc (rowsOf k) (rows
 pub more-rows : (h : Head) (k r : Forest) (v : List Row) → rowsOf (more h k r) ++ v ≡ rowsOf (one h k) ++ (rowsOf r ++ v)
 more-rows h k r v = next-rows h k r v ∙ ap (λ (u : List Row). u ++ (rowsOf r ++ v)) (sym (one-row h k))
 
--- the first of some records, and what comes after it
-pub parted : (z : List ℕ) (h : Head) (k r : Forest) (a v : List Row) (t : List ℕ) → t ≡ table (a ++ (rowsOf (more h k r) ++ v)) z
-    → (t ≡ table (a ++ line h (count k) ∷ (rowsOf k ++ (rowsOf r ++ v))) z)
-    × (t ≡ table ((a ++ line h (count k) ∷ rowsOf k) ++ (rowsOf r ++ v)) z)
-parted z h k r a v t e =
-    let e₁ = rw (next-rows h k r v) at e in
-    (e₁, e₁ ∙ simp append-assoc)
-
 module _ (z : List ℕ) (h : Head) (k : Forest) (a v : List Row) (t : List ℕ)
     (e : t ≡ table (a ++ line h (count k) ∷ (rowsOf k ++ v)) z) (q : length a + suc (size k) ≤ 65535) where
-  pub row-here : rowF t (length a) ≡ line h (count k)
-  row-here = rw e (row-at z a (line h (count k)) (rowsOf k ++ v))
-
   pub tag-here : columnF t (length a) 0 ≡ h .tag
   unfolding rowF
-  tag-here = ap (λ (r : Row). r .tag) row-here
-
-  pub end-here : endF t (length a) 1 ≡ length (a ++ line h (count k) ∷ rowsOf k)
-  end-here = end-one z h k a v t e q ∙ sym (length-line a (line h (count k)) k)
+  tag-here = ap (λ (r : Row). r .tag) (row-here z h k a v t e q)
 
   -- the place below it
   pub below-here : capped (length a) 1 ≡ length (a ++ line h (count k) ∷ [])

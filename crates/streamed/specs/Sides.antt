@@ -17,9 +17,9 @@ use Rattle.tables.specs.declared.Row.{Row}
 use Rattle.gap.specs.Cells.{table, line, rowsOf, length-rows}
 use Rattle.gap.specs.Rows.{a-at, n-at, row-at, length-snoc}
 use Rattle.gap.specs.Streams.{end-all}
-use Rattle.lists.specs.Plan.{cap-sum}
+use Rattle.lists.specs.Plan.{cap-sum, parted}
 use Rattle.for_of.specs.ForOf.{isIdentifierF, takesUsingF, usingSymbolF, bodyAfterF}
-use Rattle.streamed.specs.Places.{one-row, more-rows, parted}
+use Rattle.streamed.specs.Places.{one-row, more-rows}
 
 -- the rows of a record with two children and others
 pub sides-rows : (h h₁ : Head) (k₁ : Forest) (h₂ : Head) (k₂ rest : Forest) (v : List Row)

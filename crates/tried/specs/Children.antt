@@ -8,7 +8,7 @@ use lib.Dec.{eqb}
 use Rattle.meaning.specs.Tree.{if_then_else_, Head, Forest, none, more, one, Node, single, count}
 use Rattle.meaning.specs.Scoping.{Store, Change}
 use Rattle.meaning.specs.Contexts.{transformHandler, transformTryParts}
-use Rattle.counts.specs.Enter.{Lacks}
+use Rattle.totals.specs.Roles.{Lacks}
 use Rattle.tables.specs.Table.{rowF}
 use Rattle.tables.specs.declared.Row.{Row}
 use Rattle.gap.specs.Cells.{line, rowsOf}

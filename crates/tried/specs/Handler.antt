@@ -10,7 +10,7 @@ use lib.ListN.{length}
 use Rattle.meaning.specs.Tree.{if_then_else_, Head, Forest, one, single, count, size}
 use Rattle.meaning.specs.Scoping.{Store, Change, return, moveBinding, moveBindings}
 use Rattle.meaning.specs.Contexts.{namesIn, lastBlockScope, anyPartUsing, transformHandler, transformTryParts}
-use Rattle.counts.specs.Enter.{Lacks}
+use Rattle.totals.specs.Roles.{Lacks}
 use Rattle.tables.specs.Table.{capped, columnF}
 use Rattle.tables.specs.Stream.{Buf, passF}
 use Rattle.tables.specs.declared.Row.{Row}

@@ -19,7 +19,7 @@ use Rattle.store.specs.Held.{symbolCells, ctxOf, symbolsHeld}
 use Rattle.store.specs.Symbols.{binding-moved, binding-ctx}
 use Rattle.lists.specs.TakeUp.{length-line}
 use Rattle.contexts.specs.Tries.{Naming, naming, moveNameF, moveNamesF}
-use Rattle.streamed.specs.Places.{parted, row-here, end-here}
+use Rattle.lists.specs.Plan.{parted, row-here, end-here}
 
 -- a symbol moves, or not
 abbrev movedIf : Bool → ℕ → ℕ → Store → Store

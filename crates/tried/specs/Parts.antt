@@ -14,7 +14,7 @@ use Rattle.meaning.specs.Scoping.{Store}
 use Rattle.meaning.specs.Statements.{anyUsing}
 use Rattle.meaning.specs.Contexts.{transformTryBlock, namesIn, transformTryParts}
 use Rattle.tags.specs.Tags.{and-left}
-use Rattle.counts.specs.Enter.{Lacks}
+use Rattle.totals.specs.Roles.{Lacks}
 use Rattle.tables.specs.Loops.{turns}
 use Rattle.gap.specs.Cells.{rowsOf, rows-&}
 use Rattle.store.specs.Agreed.{Agreed}

@@ -46,12 +46,12 @@ room-earlier st st′ l r = omega arith
 pub none-new : (n : ℕ) → n - n ≡ 0
 none-new n = omega arith
 
-scopes-more : (m n : ℕ) (z : List ℕ) → freeScopes (m + n) z ≡ freeScopes m (freeScopes n z)
+pub scopes-more : (m n : ℕ) (z : List ℕ) → freeScopes (m + n) z ≡ freeScopes m (freeScopes n z)
 unfolding freeScopes
 scopes-more zero n z = rw zero-add
 scopes-more (suc m) n z = rw (suc-add m n) (ap (λ (t : List ℕ). 0 ∷ 0 ∷ t) (scopes-more m n z))
 
-symbols-more : (m n : ℕ) (z : List ℕ) → freeSymbols (m + n) z ≡ freeSymbols m (freeSymbols n z)
+pub symbols-more : (m n : ℕ) (z : List ℕ) → freeSymbols (m + n) z ≡ freeSymbols m (freeSymbols n z)
 unfolding freeSymbols
 symbols-more zero n z = rw zero-add
 symbols-more (suc m) n z = rw (suc-add m n) (ap (λ (t : List ℕ). 0 ∷ 0 ∷ 0 ∷ 0 ∷ 0 ∷ t) (symbols-more m n z))

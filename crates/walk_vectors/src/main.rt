@@ -60,7 +60,7 @@ fn same_records(state: &[u8], records: &[u16], w: Walk, n: u16) -> bool {
     true
 }
 
-// Rows of a table, `width` numbers to a row, of which the first `count` are compared, from the number `first` on.
+// The scope rows, whose numbers stand in the state from `first` on.
 fn same_scopes(state: &[u8], first: u32, scopes: &[u16], n: u16) -> bool
     requires { ⌜ first ≤ 1000000 ⌝ }
 {

@@ -1,15 +1,15 @@
 -- Bytes stored one after another, and how many bytes fields and rows take.
 -- Assumes nothing.
 use mathlib.Core.Path.{_≡_, refl, sym, ap, _∙_}
-use mathlib.Core.Bool.{Bool, true, false}
 use mathlib.Core.List.{List, [], _∷_, _++_}
 use Prim.Native.Nat.{ℕ, zero, suc, _+_, _*_, _-_, _/_, _%_, _≤_, _<_}
 use native.Mathlib.Omega.{arith}
 use lib.ListN.{length, set, take, drop, length-append}
 use lib.Seq.{set-at, append-snoc}
 use lib.Dec.{ltb}
-use Rattle.meaning.specs.Tree.{if_then_else_, oneOf}
+use Rattle.meaning.specs.Tree.{if_then_else_}
 use Rattle.meaning.specs.File.{numbersOf, twoBytes, field}
+use Rattle.rules.specs.Numbers.{numbers-most}
 use Rattle.writing.specs.Writing.{stored, fieldWith, scopeBytes, symbolBytes, recordBytes, rowsBytes}
 use Rattle.tables.specs.declared.Row.{Row}
 
@@ -35,18 +35,6 @@ pub stored-over : (bs out : List ℕ) → length bs ≤ length out → stored ou
 stored-over bs out h = over-front bs [] out h
 
 -- ---- a field
-
-most : (b : Bool) (x y : ℕ) → x ≤ 4 → y ≤ 4 → (if b then x else y) ≤ 4
-most true x y h l = h
-most false x y h l = l
-
-pub numbers-most : (t : ℕ) → numbersOf t ≤ 4
-unfolding numbersOf
-numbers-most t =
-    most (oneOf (14 ∷ 18 ∷ 19 ∷ 25 ∷ 26 ∷ []) t) 1 _ (omega arith)
-    (most (oneOf (1 ∷ 2 ∷ 4 ∷ 5 ∷ 7 ∷ 9 ∷ 10 ∷ 11 ∷ 16 ∷ 20 ∷ 24 ∷ 28 ∷ 40 ∷ 41 ∷ []) t) 2 _ (omega arith)
-    (most (oneOf (3 ∷ 6 ∷ 8 ∷ 17 ∷ 27 ∷ 29 ∷ []) t) 3 _ (omega arith)
-    (most (oneOf (12 ∷ 13 ∷ 15 ∷ 42 ∷ []) t) 4 0 (omega arith) (omega arith))))
 
 two-length : (ns : List ℕ) → length (twoBytes ns) ≡ 2 * length ns
 unfolding twoBytes

@@ -66,7 +66,15 @@ fn put_scopes(out: &mut [u8], scopes: &[u16], count: u16)
     let mut k: u16 = 0;
     while k < count {
         let at = (k as usize) * 2;
-        put_field(out, 7 + 7 * (k as usize), 41, tables::get(scopes, at), tables::get(scopes, at + 1), 0, 0);
+        put_field(
+            out,
+            7 + 7 * (k as usize),
+            41,
+            tables::get(scopes, at),
+            tables::get(scopes, at + 1),
+            0,
+            0,
+        );
         k += 1;
     }
 }
@@ -79,7 +87,15 @@ fn put_symbol(out: &mut [u8], to: usize, symbols: &[u16], k: u16)
     let name = tables::get(symbols, at);
     let flags = tables::get(symbols, at + 1);
     let scope = tables::get(symbols, at + 2);
-    put_field(out, to, 42, name, flags, scope, tables::get(symbols, at + 3));
+    put_field(
+        out,
+        to,
+        42,
+        name,
+        flags,
+        scope,
+        tables::get(symbols, at + 3),
+    );
 }
 
 fn put_symbols(out: &mut [u8], first: usize, symbols: &[u16], count: u16)
@@ -111,7 +127,15 @@ fn put_record(out: &mut [u8], at: usize, r: Row) -> usize
     let tag = (r.tag % 256) as u8;
     let own = rules::own_numbers(tag);
     let n = r.n;
-    put_field(out, at, tag, own_or(own, 0, r.a, n), own_or(own, 1, r.b, n), own_or(own, 2, r.c, n), n);
+    put_field(
+        out,
+        at,
+        tag,
+        own_or(own, 0, r.a, n),
+        own_or(own, 1, r.b, n),
+        own_or(own, 2, r.c, n),
+        n,
+    );
     at + 3 + 2 * (fields::numbers_of(tag) as usize)
 }
 
@@ -138,5 +162,10 @@ pub fn write(walk: Walk, records: &[u16], scopes: &[u16], symbols: &[u16], out: 
     put_field(out, 0, 40, ctx.mode, ctx.esm, 0, 0);
     put_scopes(out, scopes, ctx.scopes);
     put_symbols(out, first, symbols, ctx.symbols);
-    put_records(out, first + 11 * (ctx.symbols as usize), records, walk.visited.0);
+    put_records(
+        out,
+        first + 11 * (ctx.symbols as usize),
+        records,
+        walk.visited.0,
+    );
 }

@@ -1,0 +1,1 @@
+// The tree that the bytes of a file say: no code.

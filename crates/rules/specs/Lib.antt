@@ -1,0 +1,2 @@
+-- How many numbers a field has.
+pub mod Numbers
