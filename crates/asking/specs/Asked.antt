@@ -1,6 +1,6 @@
 -- An accepted file asks by the kinds of its usings and for names of its rows, and calls nothing through a context that lowering made.
 -- Assumes nothing.
-use mathlib.Core.Path.{_≡_, refl, ap, _∙_}
+use mathlib.Core.Path.{_≡_, refl, ap}
 use mathlib.Core.Bool.{Bool, true, false, _||_, _&&_}
 use mathlib.Core.List.{List, [], _∷_}
 use Prim.Native.Nat.{ℕ, zero, suc}
@@ -15,23 +15,7 @@ use Rattle.meaning.specs.Hint.{syncDispose, asyncDispose, hintOf, letterOf}
 use Rattle.meaning.specs.Statements.{isUsing, isAwaitUsing, letterIf}
 use Rattle.meaning.specs.ForOf.{bindsIdentifier}
 use Rattle.tags.specs.Tags.{and-left}
-use Rattle.hints.specs.Hints.{
-  sumOver,
-  namesOf,
-  ofInitializer,
-  overDeclarators,
-  allRead,
-  ofRead,
-  letterFor,
-  usingsIn,
-  forOfUsing,
-  asksFor,
-  asked,
-  called,
-  callsIn,
-  calls,
-  given,
-}
+use Rattle.hints.specs.Hints.{sumOver, namesOf, ofInitializer, overDeclarators, allRead, ofRead, letterFor, usingsIn, forOfUsing, asksFor, asked, called, callsIn, calls}
 use Rattle.asking.specs.Everywhere.{Everywhere, everywhere, sums-same}
 use Rattle.asking.specs.Known.{Known, accepted-known}
 
@@ -210,15 +194,3 @@ module _ (w : List ℕ → ℕ → ℕ) (read : ℕ) where
   pub calls-none : (h : Head) (k : Forest) → OldCalls read k → calls w read h k ≡ 0
   unfolding calls
   calls-none h k o = unless-none (oneOf (8 ∷ 10 ∷ []) (h .tag)) (callsIn w read k) (calls-in-none k o)
-
-nothing : (f : Forest) → sumOver (λ h k. 0) f ≡ 0
-unfolding sumOver
-nothing none = refl
-nothing (more h k r) = omega (arith, nothing k, nothing r)
-
--- AN ACCEPTED FILE CALLS NOTHING.
-pub given-none : (w : List ℕ → ℕ → ℕ) (b : List ℕ) (f : File) → readFile b ≡ accepted f → given w (length (f .symbols)) (f .tree) ≡ 0
-unfolding given
-given-none w b f e =
-    let n = length (f .symbols) in
-    sums-same (OldCall n) (calls w n) (λ h k. 0) (calls-none w n) (f .tree) (accepted-old b f e) ∙ nothing (f .tree)

@@ -1,38 +1,16 @@
 -- The whole file: what the check computes is what the reader answers.
 -- Assumes nothing.
 use mathlib.Core.Path.{_≡_, refl, sym, ap, subst, _∙_}
-use mathlib.Core.Bool.{Bool, true, false, _&&_, _||_, or-false}
-use mathlib.Core.List.{List, [], _∷_}
+use mathlib.Core.Bool.{Bool, true, false, _&&_}
+use mathlib.Core.List.{List}
 use Prim.Native.Nat.{ℕ, zero, suc, _+_, _*_}
 use native.Mathlib.Omega.{arith}
-use lib.Dec.{eqb, leb}
-use lib.ListN.{length, getD, replicate, length-replicate}
-use Rattle.meaning.specs.Tree.{if_then_else_, Forest}
-use Rattle.meaning.specs.File.{Scope, Symbol, File, numbersOf, fieldBytes}
+use lib.Dec.{leb}
+use lib.ListN.{length, replicate, length-replicate}
+use Rattle.meaning.specs.Tree.{if_then_else_}
+use Rattle.meaning.specs.File.{Symbol, File, numbersOf, fieldBytes}
 use Rattle.meaning.specs.Grammar.{tagsOf, fieldOf, fieldAt, scopeRight, unnamed}
-use Rattle.meaning.specs.Reading.{
-  Outcome,
-  accepted,
-  refused,
-  _>>=_,
-  _>>_,
-  ensure,
-  field,
-  judged,
-  andRows,
-  Records,
-  Counted,
-  rows,
-  scopeAt,
-  symbolAt,
-  readRows,
-  readScopes,
-  readSymbols,
-  scopesIn,
-  symbolsIn,
-  readForest,
-  readFile,
-}
+use Rattle.meaning.specs.Reading.{Outcome, accepted, refused, _>>=_, _>>_, ensure, field, judged, andRows, Records, Counted, rows, scopeAt, readRows, readScopes, readSymbols, scopesIn, symbolsIn, readForest, readFile}
 use Rattle.meaning.specs.declared.Place.the-variants.{Settings, ScopeRow, Program}
 use Rattle.meaning.specs.declared.Field.{Field}
 use Rattle.meaning.specs.declared.Reading.{Reading}
@@ -41,10 +19,7 @@ use Rattle.meaning.specs.declared.Rows.{Rows}
 use Rattle.meaning.specs.declared.Rows.the-variants.{Read, Refused as RefusedRows}
 use Rattle.tallies.specs.Tally.{noTally, _⊞_, cap, tallyOf}
 use Rattle.tallies.specs.declared.Tally.{Tally}
-use Rattle.tallies.specs.declared.Up.{Up}
 use Rattle.tallies.specs.declared.Up.the-variants.{Plain}
-use Rattle.checking.specs.declared.Answer.{Answer}
-use Rattle.checking.specs.declared.Answer.the-variants.{Next, Refused as RefusedAnswer}
 use Rattle.checking.specs.declared.RowCounts.{RowCounts}
 use Rattle.checking.specs.declared.Whole.{Whole}
 use Rattle.checking.specs.declared.Whole.the-variants.{Accepted, Refused as RefusedFile}

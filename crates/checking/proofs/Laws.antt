@@ -11,7 +11,7 @@ use lib.Dec.{eqb}
 use borrow.Author.Tests.{ne-eqb, le-leb, lt-leb}
 use Rattle.meaning.specs.Tree.{if_then_else_}
 use Rattle.meaning.specs.Grammar.{scopeOf, headOf, below, childrenOf, unnamed}
-use Rattle.meaning.specs.Reading.{Outcome, accepted, refused, _>>=_, symbolsIn, readRows, andRows, mostRows}
+use Rattle.meaning.specs.Reading.{Outcome, refused, _>>=_, symbolsIn, readRows, andRows, mostRows}
 use Rattle.meaning.specs.declared.Place.{Place}
 use Rattle.meaning.specs.declared.Place.the-variants.{Program}
 use Rattle.meaning.specs.declared.Field.{Field}

@@ -1,12 +1,12 @@
 -- What the check computes is what the reader answers, with the tally of its tree in place of the tree.
 -- Assumes nothing.
-use mathlib.Core.Path.{_≡_, refl, sym, ap, subst, _∙_}
+use mathlib.Core.Path.{_≡_, refl, sym, ap, _∙_}
 use mathlib.Core.Bool.{Bool, true, false, _&&_}
-use mathlib.Core.List.{List, [], _∷_}
+use mathlib.Core.List.{List}
 use Prim.Native.Nat.{ℕ, zero, suc, _+_, _*_}
 use native.Mathlib.Omega.{arith}
 use lib.Dec.{eqb, leb}
-use Rattle.meaning.specs.Tree.{if_then_else_, Head, Forest, none, more, count}
+use Rattle.meaning.specs.Tree.{Head, Forest, more, count}
 use Rattle.meaning.specs.File.{Symbol, numbersOf, hasChildren, ownNumbers}
 use Rattle.meaning.specs.Grammar.{
   fieldAt,

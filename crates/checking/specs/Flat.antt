@@ -2,11 +2,9 @@
 -- Assumes nothing.
 use Prim.Native.Nat.{ℕ, zero, suc, _+_, _*_}
 use mathlib.Core.List.{List}
-use mathlib.Core.Bool.{Bool, _&&_}
 use lib.Dec.{leb}
 use lib.ListN.{length, replicate}
 use Rattle.meaning.specs.Tree.{if_then_else_}
-use Rattle.meaning.specs.File.{File}
 use Rattle.meaning.specs.Grammar.{fieldAt, right, scopeOf, below, childrenOf, placeOf, headOf, mayName, naming, unnamed}
 use Rattle.meaning.specs.Reading.{Outcome, accepted, refused, _>>=_, _>>_, ensure, field, symbolsIn, readScopes, readSymbols}
 use Rattle.meaning.specs.declared.Place.{Place}

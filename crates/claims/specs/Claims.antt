@@ -10,16 +10,16 @@
 -- The claims below are about these same definitions. `readFile`, `figuresOf`, `admit`, `visits`, `visitCharges`, `finalFigures`, `lastSpot`,
 -- `written` and `lower` are document 01 (crate meaning). A list of numbers stands for a lent slice; `lentIn r s y` are the rows of tables.
 -- Assumes nothing.
-use mathlib.Core.Path.{_≡_, refl, sym, ap, _∙_}
+use mathlib.Core.Path.{_≡_, sym, ap, _∙_}
 use mathlib.Core.Bool.{true}
 use mathlib.Core.List.{List, map}
 use mathlib.Core.Logic.{_⊎_}
-use Prim.Native.Nat.{ℕ, _+_, _*_, _≤_}
+use Prim.Native.Nat.{ℕ, _+_, _*_, _≤_, _<_}
 use lib.Dec.{eqb, leb}
 use lib.ListN.{length}
 use Rattle.meaning.specs.Tree.{size, flatten}
 use Rattle.meaning.specs.File.{File, written}
-use Rattle.meaning.specs.Reading.{Outcome, accepted, refused}
+use Rattle.meaning.specs.Reading.{Outcome, accepted, refused, readFile}
 use Rattle.meaning.specs.Walk.{visits, start, treeAt, storeAt, fileAt}
 use Rattle.meaning.specs.Charges.{_⊕_, total, figuresIn, finalFigures}
 use Rattle.meaning.specs.VisitCharges.{visitCharges}
@@ -40,8 +40,8 @@ use Rattle.decoded.specs.Decoded.{treeIn}
 use Rattle.decoded.specs.Back.{Childless, hints-back}
 use Rattle.decoded.specs.Childless.{accepted-childless}
 use Rattle.shown.specs.Shown.{recordsIn, scopesIn, symbolsIn}
-use Rattle.refusing.specs.Numbers.{lower-numbers}
-use Rattle.refusing.specs.Small.{Short, firstShort, small-refused, refused-small, lower-total, enough-output}
+use Rattle.refusing.specs.Numbers.{read-numbers, check-numbers, admit-numbers, lower-numbers}
+use Rattle.refusing.specs.Small.{Short, firstShort, small-refused, refused-small, lower-total, short-output, enough-output}
 use Rattle.lowering.specs.declared.Lowered.the-variants.{Written as WrittenIn, Refused}
 use Rattle.lowering.specs.Lower.{finished, zerosFor, writtenOver, lowerOf, lowerF}
 use Rattle.lowering.specs.Law.{last-tagged, last-length}
@@ -60,9 +60,24 @@ use Rattle.claims.specs.Calls.{
 
 -- ---- DEMAND 1: refusals, and that every input is answered
 
--- A refusal of lowering has a number from 1 to 10. Which one, and its place, `lower` says: its steps are 01's checks in 01's order.
-pub refusal-numbers : (bytes : List ℕ) (lent : Lent) (out c p : ℕ) → lower bytes lent out ≡ refused c p → (1 ≤ c) × (c ≤ 10)
-refusal-numbers = lower-numbers
+-- Check refuses with the numbers 1 to 7, figures up to 8, start up to 9, and lower up to 10. Which number and which place, `readFile`,
+-- `figuresOf`, `admit` and `lower` say: their steps are 01's checks in 01's order.
+pub check-refusals : (bytes : List ℕ) (c p : ℕ) → readFile bytes ≡ refused c p → (1 ≤ c) × (c ≤ 7)
+check-refusals = read-numbers
+
+pub figures-refusals : (bytes : List ℕ) (c p : ℕ) → checkFile bytes ≡ refused c p → (1 ≤ c) × (c ≤ 8)
+figures-refusals = check-numbers
+
+pub start-refusals : (bytes : List ℕ) (lent : Lent) (c p : ℕ) → admit bytes lent ≡ refused c p → (1 ≤ c) × (c ≤ 9)
+start-refusals = admit-numbers
+
+pub lower-refusals : (bytes : List ℕ) (lent : Lent) (out c p : ℕ) → lower bytes lent out ≡ refused c p → (1 ≤ c) × (c ≤ 10)
+lower-refusals = lower-numbers
+
+-- A file that is admitted, with an output too short for the file to write, is refused with 10 at the output's length.
+pub output-refusal : (bytes : List ℕ) (lent : Lent) (out : ℕ) (f : File) → admit bytes lent ≡ accepted f → out < finalFigures f .bytes
+    → lower bytes lent out ≡ refused 10 out
+output-refusal = short-output
 
 -- A refused lowering answers that number and place, and every lent slice keeps its contents;
 pub refused-keeps : (bytes r s y o : List ℕ) (c p : ℕ) → lower bytes (lentIn r s y) (length o) ≡ refused c p

@@ -85,7 +85,3 @@ pending-visits (suc k) s q = pending-visits k (visit s) (pending-visit s q)
 -- At every spot of the walk of a fit file, what is still to be visited is fit.
 pub spot-fits : (k : ℕ) (f : File) → Fits (f .tree) → Pending (visits k (start f))
 spot-fits k f q = pending-visits k (start f) (pending-start f q)
-
--- So the record that is entered next is fit.
-pub next-fit : (k : ℕ) (f : File) → Fits (f .tree) → Ready (visits k (start f))
-next-fit k f q = ready (visits k (start f)) (spot-fits k f q)

@@ -8,7 +8,6 @@ use Rattle.scoping.specs.Changes.{SymbolRows, inScopes, inSymbols, createChildS
 use Rattle.scoping.specs.declared.Ctx.{Ctx}
 use Rattle.helper_loader.specs.Load.{helperLoadF}
 use Rattle.statements.specs.Try.{stepForm}
-use Rattle.statements.specs.declared.Parts.{Parts}
 use Rattle.creation.specs.declared.Transformed.{Transformed}
 use Rattle.creation.specs.declared.Created.{Created}
 

@@ -1,6 +1,6 @@
 -- The figures of a tally, summed in parts.
 -- Assumes nothing.
-use mathlib.Core.Path.{_≡_, refl}
+use mathlib.Core.Path.{_≡_}
 use Prim.Native.Nat.{ℕ, _+_, _*_}
 use native.Mathlib.Omega.{arith}
 use Rattle.tallies.specs.Tally.{tallyFigures}

@@ -1,6 +1,6 @@
 -- 01's figures of a file, from its mode, its rows and the tally of its tree.
 -- Assumes nothing.
-use mathlib.Core.Bool.{Bool, not, _&&_}
+use mathlib.Core.Bool.{not, _&&_}
 use Prim.Native.Nat.{ℕ, _+_, _*_}
 use lib.Dec.{eqb, leb}
 use Rattle.meaning.specs.Tree.{if_then_else_}

@@ -13,7 +13,6 @@ use Rattle.meaning.specs.Reading.{accepted, readFile}
 use Rattle.meaning.specs.Statements.{isUsing}
 use Rattle.meaning.specs.declared.Place.{Place}
 use Rattle.meaning.specs.declared.Place.the-variants.{Program}
-use Rattle.meaning.specs.declared.Field.{Field}
 use Rattle.tags.specs.Tags.{clash}
 use Rattle.totals.specs.Roles.{Lacks}
 use Rattle.fit.specs.Placed.{same-tag, Placed, accepted-placed}

@@ -54,14 +54,6 @@ module _ (z : List ℕ) (a : List Row) (x : Row) (v : List Row) where
   unfolding rowF
   a-at = ap (λ (r : Row). r .a) (row-at z a x v)
 
-  pub b-at : columnF (table (a ++ x ∷ v) z) (length a) 2 ≡ x .b
-  unfolding rowF
-  b-at = ap (λ (r : Row). r .b) (row-at z a x v)
-
-  pub c-at : columnF (table (a ++ x ∷ v) z) (length a) 3 ≡ x .c
-  unfolding rowF
-  c-at = ap (λ (r : Row). r .c) (row-at z a x v)
-
   pub n-at : columnF (table (a ++ x ∷ v) z) (length a) 4 ≡ x .n
   unfolding rowF
   n-at = ap (λ (r : Row). r .n) (row-at z a x v)

@@ -7,38 +7,10 @@ use Prim.Native.Nat.{ℕ}
 use lib.Dec.{eqb}
 use Rattle.meaning.specs.Tree.{if_then_else_, oneOf, Head, hd, Forest, none, more, one, _&_}
 use Rattle.meaning.specs.Scoping.{Store, return}
-use Rattle.meaning.specs.Program.{
-  transformClassDecl,
-  Split,
-  split,
-  topLevelDeclaration,
-  exportedDeclaration,
-  exportedClass,
-  exportedItem,
-  defaultClass,
-  defaultValue,
-  keepsDefault,
-  defaultItem,
-  programItem,
-  programItems,
-}
+use Rattle.meaning.specs.Program.{transformClassDecl, Split, split, topLevelDeclaration, exportedDeclaration, exportedClass, exportedItem, defaultClass, defaultValue, keepsDefault, defaultItem, programItem}
 use Rattle.tags.specs.Tags.{Seen, other, here, there, seen}
-use Rattle.gap.specs.Cells.{rowsOf, rows-&}
-use Rattle.placed.specs.Merge.{Merge, nil, lefts, rights}
-use Rattle.itemized.specs.Program.{mixed}
 
 -- ---- their order
-
--- THE ROWS OF THE TWO PARTS stand among each other, each in its order
-pub items-merge : (f : Forest) (st : Store)
-    → (let p = programItems f st .0 in Merge (rowsOf (p .kept)) (rowsOf (p .moved)) (mixed f st))
-unfolding programItems mixed rowsOf
-items-merge none st = nil
-items-merge (more h k r) st =
-    let (item, st′) = programItem h k st in
-    let p = programItems r st′ .0 in
-    rw (rows-& (item .kept) (p .kept), rows-& (item .moved) (p .moved))
-    (lefts (rowsOf (item .kept)) (rights (rowsOf (item .moved)) (items-merge r st′)))
 
 -- ---- their tags
 
@@ -107,19 +79,3 @@ item-by a b c k st (there e₁₃ (there e₁₇ (there e₁₈ (there e₁₉ (
 -- WHAT STAYS OF AN ITEM, and what moves, is told by its tag
 pub item-parted : (h : Head) (k : Forest) (st : Store) → Parted (programItem h k st .0)
 item-parted h k st = item-by (h .a) (h .b) (h .c) k st (seen (13 ∷ 17 ∷ 18 ∷ 19 ∷ 15 ∷ 5 ∷ []) (h .tag))
-
-stay-& : (b : Bool) (f g : Forest) → Stay b f → Stay b g → Stay b (f & g)
-unfolding _&_
-stay-& b none g p q = q
-stay-& b (more h k r) g p q = (p .0, stay-& b r g (p .1) q)
-
--- and so for all items
-pub items-parted : (f : Forest) (st : Store) → Parted (programItems f st .0)
-unfolding programItems
-items-parted none st = (tt, tt)
-items-parted (more h k r) st =
-    let (item, st′) = programItem h k st in
-    let p = item-parted h k st in
-    let q = items-parted r st′ in
-    let rest = programItems r st′ .0 in
-    (stay-& true (item .kept) (rest .kept) (p .0) (q .0), stay-& false (item .moved) (rest .moved) (p .1) (q .1))

@@ -1,10 +1,9 @@
 -- What becomes of an item.
 -- Assumes nothing.
-use mathlib.Core.List.{List, [], _∷_}
-use mathlib.Core.Bool.{not, _&&_}
+use mathlib.Core.List.{List}
 use Prim.Native.Nat.{ℕ}
 use lib.Dec.{eqb}
-use Rattle.meaning.specs.Tree.{if_then_else_, oneOf}
+use Rattle.meaning.specs.Tree.{if_then_else_}
 use Rattle.tables.specs.Table.{capped, rowF}
 use Rattle.tables.specs.declared.Row.{Row}
 use Rattle.items.specs.declared.Item.{Item}

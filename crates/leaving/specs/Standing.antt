@@ -11,7 +11,7 @@ use Rattle.meaning.specs.Walk.{Crumb, leaving, settle, storeAt}
 use Rattle.tables.specs.declared.Row.{Row}
 use Rattle.path.specs.Path.{Tables, tables, openRows, withInnerF, closeF, settleF}
 use Rattle.path.specs.declared.Walk.{Walk}
-use Rattle.gap.specs.Cells.{table, free, rowsOf, length-rows, count-&, size-&, rows-&}
+use Rattle.gap.specs.Cells.{table, free, rowsOf, length-rows, size-&, rows-&}
 use Rattle.store.specs.Held.{scopeCells, symbolCells, ctxOf}
 use Rattle.spots.specs.Spots.{afterRowsOf, opensAt, restAt, Rest, walkAt, held}
 use Rattle.spots.specs.Scopes.{depth-law, outer, under, inner-number}

@@ -20,7 +20,6 @@ use Rattle.gap.specs.Rows.{row-at, length-snoc}
 use Rattle.gap.specs.Streams.{end-one}
 use Rattle.statements.specs.TakeUp.{hasInitializerF}
 use Rattle.statements.specs.Plan.{counting, countOneF, initializersF, wrapsF, plan, noPlan, planOneF, planF}
-use Rattle.statements.specs.Try.{stepForm}
 use Rattle.statements.specs.declared.Counting.{Counting}
 use Rattle.lists.specs.TakeUp.{initializer, itemWraps, length-line}
 
@@ -50,15 +49,6 @@ pub any-awaits : (f : Forest) → anyAwaitUsing f ≡ not (eqb (awaits f) 0)
 unfolding anyAwaitUsing awaits
 any-awaits none = refl
 any-awaits (more h k r) = some (isAwaitUsing h) (anyAwaitUsing r) (awaits r) (any-awaits r)
-
--- the form of the last Step
-pub step-is : (f : Forest) → stepForm (awaits f) ≡ (if anyAwaitUsing f then 2 else 1)
-unfolding stepForm
-step-is f = rw (any-awaits f) (by (eqb (awaits f) 0))
-  where
-    by : (b : Bool) → _≡_ {A = ℕ} (if b then 1 else 2) (if not b then 2 else 1)
-    by true = refl
-    by false = refl
 
 -- ---- nothing is capped
 

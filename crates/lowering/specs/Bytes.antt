@@ -2,13 +2,12 @@
 -- Assumes nothing.
 use mathlib.Core.Path.{_≡_, refl, sym, ap, ap₂, _∙_}
 use mathlib.Core.Bool.{Bool, true, false}
-use mathlib.Core.List.{List, [], _∷_, _++_, append-assoc, append-nil}
+use mathlib.Core.List.{List, [], _∷_, _++_, append-assoc}
 use Prim.Native.Nat.{ℕ, zero, suc, _+_, _*_, _%_, _≤_}
-use native.Mathlib.Nat.{zero-add}
 use native.Mathlib.Omega.{arith}
 use lib.ListN.{length, getD, take, drop}
-use lib.Dec.{ltb, leb}
-use borrow.Author.Tests.{leb-true, eqb-true, le-leb}
+use lib.Dec.{leb}
+use borrow.Author.Tests.{leb-true, eqb-true}
 use Rattle.meaning.specs.Tree.{if_then_else_, Head, Forest, none, more, count, row, flatten}
 use Rattle.meaning.specs.File.{
   Scope,
@@ -30,7 +29,7 @@ use Rattle.counts.specs.Enter.{and-right}
 use Rattle.tables.specs.Table.{columnF, rowF}
 use Rattle.tables.specs.declared.Row.{Row}
 use Rattle.gap.specs.Cells.{table, free, line, rowsOf}
-use Rattle.store.specs.Held.{scopeCells, symbolCells, ctxOf}
+use Rattle.store.specs.Held.{scopeCells, symbolCells}
 use Rattle.spots.specs.Spots.{Rest, visitedAt, restAt, walkAt, held}
 use Rattle.writing.specs.Writing.{fieldWith, scopeBytes, symbolBytes, ownOr, recordBytes, rowsBytes, recordAt, fileBytes}
 use Rattle.ending.specs.ReadBack.{isRecord, Tagged}

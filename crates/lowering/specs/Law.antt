@@ -1,19 +1,19 @@
 -- What the code computes is 01's lowering.
 -- Assumes nothing.
 use mathlib.Core.Path.{_≡_, refl, sym, ap, _∙_}
-use mathlib.Core.Bool.{Bool, true, false, not, _&&_}
-use mathlib.Core.List.{List, _++_}
+use mathlib.Core.Bool.{Bool, true, false, not}
+use mathlib.Core.List.{List}
 use Prim.Native.Nat.{ℕ, zero, suc, _*_, _≤_, min}
 use native.Mathlib.Omega.{arith}
 use lib.Dec.{leb}
-use lib.ListN.{length, drop}
+use lib.ListN.{length}
 use borrow.Author.Tests.{leb-true, le-leb, le-ltb}
 use Rattle.meaning.specs.Tree.{if_then_else_, Forest, none, more}
 use Rattle.meaning.specs.File.{File, written}
 use Rattle.meaning.specs.Reading.{Outcome, accepted, refused, _>>=_, _>>_, ensure}
 use Rattle.meaning.specs.Walk.{Spot, at, leaving, over, visits, start, treeAt, fileAt}
 use Rattle.meaning.specs.Charges.{Figures, figuresAt, finalFigures}
-use Rattle.meaning.specs.Lowering.{Written, checkOutput, admit, lastSpot, lower}
+use Rattle.meaning.specs.Lowering.{checkOutput, admit, lastSpot, lower}
 use Rattle.tags.specs.Tags.{clash, and-left}
 use Rattle.totals.specs.Fits.{accepted-fits}
 use Rattle.counts.specs.Enter.{and-right}
@@ -31,12 +31,12 @@ use Rattle.start.specs.Filled.{admitted, fill-law}
 use Rattle.walk.specs.Visit.{isLeavingF, isOverF, visitF}
 use Rattle.simulation.specs.Visits.{heldIn}
 use Rattle.simulation.specs.Started.{zerosAfter, visits-after-start}
-use Rattle.writing.specs.Writing.{stored, fileBytes}
+use Rattle.writing.specs.Writing.{fileBytes}
 use Rattle.writing.specs.Stored.{stored-over}
 use Rattle.ending.specs.Last.{last-spot, last-over, last-figures}
 use Rattle.ending.specs.ReadBack.{Tagged}
 use Rattle.ending.specs.Length.{tagged-length}
-use Rattle.lowering.specs.Lower.{Finished, finished, zerosFor, writtenOver, lowerOf, lowerF}
+use Rattle.lowering.specs.Lower.{finished, zerosFor, writtenOver, lowerOf, lowerF}
 use Rattle.lowering.specs.Flat.{isOverIn, visitAllF, outputF, runF, lowerBy}
 use Rattle.lowering.specs.Bytes.{held-bytes}
 use Rattle.lowering.specs.declared.Lowered.the-variants.{Written as WrittenIn, Refused}

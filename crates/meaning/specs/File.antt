@@ -5,7 +5,7 @@ use mathlib.Core.Bool.{Bool, _||_, _&&_}
 use Prim.Native.Nat.{ℕ, _+_, _*_, _-_, _/_, _%_}
 use lib.Dec.{leb}
 use lib.ListN.{length, take}
-use Rattle.meaning.specs.Tree.{if_then_else_, oneOf, Head, Forest, Row, flatten}
+use Rattle.meaning.specs.Tree.{if_then_else_, oneOf, Forest, Row, flatten}
 
 -- 41: a scope row
 pub record Scope : Type 0 where

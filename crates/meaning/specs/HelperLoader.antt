@@ -5,7 +5,7 @@ use lib.ListN.{length}
 use lib.Dec.{eqb}
 use Rattle.meaning.specs.Tree.{if_then_else_, Forest}
 use Rattle.meaning.specs.Shapes.{load}
-use Rattle.meaning.specs.Scoping.{Store, Change, _>>=_, _>>_, return, get, put, withHelper, generateUid, findBinding}
+use Rattle.meaning.specs.Scoping.{Change, _>>=_, _>>_, return, get, put, withHelper, generateUid, findBinding}
 
 -- Runtime: the first load makes one symbol on `usingCtx` in scope 1, an import in a module and a var elsewhere; later loads read it.
 unfoldable pub makeHelper : Change ℕ

@@ -1,11 +1,11 @@
 -- Lowering a file: the refusals 8, 9 and 10, or the file as written.
 -- Assumes nothing.
 use mathlib.Core.List.{List}
-use mathlib.Core.Bool.{Bool, not, _&&_}
+use mathlib.Core.Bool.{not, _&&_}
 use Prim.Native.Nat.{ℕ, _*_}
 use lib.Dec.{eqb, leb}
 use Rattle.meaning.specs.File.{File, written}
-use Rattle.meaning.specs.Reading.{Outcome, accepted, refused, _>>=_, _>>_, ensure, readFile}
+use Rattle.meaning.specs.Reading.{Outcome, accepted, _>>=_, _>>_, ensure, readFile}
 use Rattle.meaning.specs.Walk.{Spot, start, walk, fileAt}
 use Rattle.meaning.specs.Charges.{Figures, finalFigures}
 

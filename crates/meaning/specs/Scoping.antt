@@ -1,11 +1,11 @@
 -- The scope and symbol rows while they are rewritten: what the Rust calls `ctx.scoping()`.
 -- Assumes nothing.
 use mathlib.Core.List.{List, [], _∷_, _++_}
-use mathlib.Core.Bool.{Bool, true, false, not, _||_, _&&_}
+use mathlib.Core.Bool.{Bool, not, _||_, _&&_}
 use Prim.Native.Nat.{ℕ, zero, suc, _+_, _/_, _%_}
 use lib.ListN.{length, getD, set}
 use lib.Dec.{eqb}
-use Rattle.meaning.specs.Tree.{if_then_else_, oneOf, Head, Forest, none, more}
+use Rattle.meaning.specs.Tree.{if_then_else_, Forest, none, more}
 use Rattle.meaning.specs.File.{Scope, scopeRow, Symbol, symbolRow}
 use Rattle.meaning.specs.Grammar.{scopeOf}
 

@@ -24,30 +24,7 @@ use Rattle.meaning.specs.Walk.{
   forOfWrap,
   actOf,
 }
-use Rattle.meaning.specs.Charges.{
-  Kind,
-  ofBlock,
-  ofBody,
-  ofStaticBlock,
-  ofTryPart,
-  ofFor,
-  ofSwitch,
-  Line,
-  context,
-  wrapped,
-  forOf,
-  forOfBlock,
-  programBlock,
-  topLevelClass,
-  exportedClass,
-  defaultExport,
-  exportedNames,
-  helper,
-  wraps,
-  caseWraps,
-  contextLines,
-  itemLines,
-}
+use Rattle.meaning.specs.Charges.{ofBlock, ofBody, ofStaticBlock, ofTryPart, ofFor, ofSwitch, Line, context, wrapped, forOf, forOfBlock, programBlock, topLevelClass, exportedClass, defaultExport, exportedNames, helper, wraps, caseWraps, contextLines, itemLines}
 
 -- ---- the charge of one visit
 

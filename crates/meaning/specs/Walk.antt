@@ -1,7 +1,7 @@
 -- The walk, one visit at a time (01, "Rewrites").
 -- Assumes nothing.
 use mathlib.Core.List.{List, [], _∷_}
-use mathlib.Core.Bool.{Bool, true, false, not, _||_, _&&_}
+use mathlib.Core.Bool.{Bool, true, false, not, _&&_}
 use Prim.Native.Nat.{ℕ, zero, suc}
 use lib.Dec.{eqb}
 use Rattle.meaning.specs.Tree.{if_then_else_, oneOf, Head, Forest, none, more, one, Node, node, _&_}

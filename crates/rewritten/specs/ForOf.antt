@@ -6,7 +6,7 @@ use mathlib.Core.List.{List, _∷_, _++_, append-assoc}
 use Prim.Native.Nat.{ℕ, suc, _+_, _≤_}
 use native.Mathlib.Omega.{arith}
 use lib.ListN.{length}
-use Rattle.meaning.specs.Tree.{Head, hd, Forest, none, more, one, size, _&_}
+use Rattle.meaning.specs.Tree.{Head, hd, Forest, more, one, size, _&_}
 use Rattle.meaning.specs.Shapes.{block, declaration, read}
 use Rattle.meaning.specs.Scoping.{Store, symbolIn, createSymbol, insertScopeBelow, moveBinding}
 use Rattle.meaning.specs.ForOf.{boundSymbol, rebind, insertUsing, wrapBody, enterForOfStatement}

@@ -9,7 +9,6 @@ use lib.ListN.{getD}
 use lib.Dec.{eqb, leb}
 use borrow.Author.Tests.{eq-eqb, ne-eqb, le-leb, lt-leb}
 use Rattle.meaning.specs.Tree.{if_then_else_}
-use Rattle.meaning.specs.File.{Scope, Symbol}
 use Rattle.meaning.specs.Scoping.{noScope, noSymbol, rowAt, binds, lastBinding, getBinding, findBinding}
 use Rattle.tables.specs.Table.{capped}
 use Rattle.scoping.specs.Rows.{scopeNumber, symbolNumber, scopeAt, scopesF, symbolAt, symbolsF, storeF}

@@ -2,7 +2,7 @@
 -- Assumes nothing.
 use mathlib.Core.List.{List}
 use mathlib.Core.Bool.{Bool, _&&_}
-use Prim.Native.Nat.{ℕ, suc, _+_, _*_, _%_}
+use Prim.Native.Nat.{ℕ, _+_, _*_, _%_}
 use lib.ListN.{getD, set}
 use Rattle.meaning.specs.Tree.{if_then_else_}
 use Rattle.meaning.specs.Scoping.{isBound}

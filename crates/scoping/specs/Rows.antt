@@ -1,7 +1,7 @@
 -- Scope and symbol rows in tables of numbers, two and five to a row.
 -- Assumes nothing.
 use mathlib.Core.List.{List, [], _∷_}
-use mathlib.Core.Bool.{Bool, true, false, _||_, _&&_}
+use mathlib.Core.Bool.{Bool, _||_}
 use Prim.Native.Nat.{ℕ, zero, suc, _+_, _*_, _-_, _/_, _%_}
 use lib.ListN.{getD, set}
 use lib.Dec.{eqb, leb}

@@ -8,7 +8,7 @@ use native.Mathlib.Nat.{zero-add}
 use native.Mathlib.Omega.{arith}
 use lib.Dec.{eqb}
 use lib.ListN.{length}
-use Rattle.meaning.specs.Tree.{if_then_else_, Head, Forest, Node, node, one, single, size}
+use Rattle.meaning.specs.Tree.{Head, Forest, Node, node, one, single, size}
 use Rattle.meaning.specs.Scoping.{Store}
 use Rattle.meaning.specs.Statements.{anyUsing}
 use Rattle.meaning.specs.Charges.{Kind, Line, contextCharge, lineCharge, total, wraps, contextLines}

@@ -49,7 +49,7 @@ use Rattle.store.specs.Agreed.{Agreed}
 use Rattle.path.specs.Path.{Tables}
 use Rattle.spots.specs.Spots.{Rest, held}
 use Rattle.spots.specs.Lengths.{store-settled}
-use Rattle.created.specs.Held.{freeScopes, freeSymbols, Room}
+use Rattle.created.specs.Held.{Room}
 use Rattle.rewritten.specs.Replaced.{withFree}
 use Rattle.tried.specs.Passing.{newScopes, newSymbols, scopes-more, symbols-more}
 use Rattle.walk.specs.Visit.{visitF}

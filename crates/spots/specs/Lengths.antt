@@ -1,6 +1,6 @@
 -- How many rows are visited, how many are to visit, and so where the walk stands.
 -- Assumes nothing.
-use mathlib.Core.Path.{_≡_, refl, sym, ap, _∙_}
+use mathlib.Core.Path.{_≡_, refl, sym, _∙_}
 use mathlib.Core.List.{List, [], _∷_}
 use mathlib.Core.Bool.{Bool, true, false}
 use Prim.Native.Nat.{ℕ, suc, _+_}
@@ -10,11 +10,9 @@ use lib.ListN.{length, length-append}
 use Rattle.meaning.specs.Tree.{if_then_else_, Head, Forest, none, more, one, count, size, _&_}
 use Rattle.meaning.specs.Scoping.{Store}
 use Rattle.meaning.specs.Walk.{isStaticBlock, Crumb, crumb, Spot, at, leaving, settle, storeAt}
-use Rattle.path.specs.Path.{withInnerF}
 use Rattle.path.specs.declared.Walk.{Walk}
 use Rattle.gap.specs.Cells.{length-rows, size-&}
-use Rattle.store.specs.Held.{ctxOf}
-use Rattle.spots.specs.Spots.{openRowsOf, afterRowsOf, opensAt, visitedAt, restAt, walkAt}
+use Rattle.spots.specs.Spots.{openRowsOf, afterRowsOf, opensAt, visitedAt, restAt}
 use Rattle.spots.specs.Scopes.{same-number, outer, inner-number}
 
 -- ---- at a spot
@@ -110,20 +108,3 @@ walk-eq e₁ e₂ e₃ e₄ e₅ =
       inner = record { 0 = e₄ i };
       ctx = e₅ i;
     }
-
--- LEAVING A STATICBLOCK AS IT STANDS moves no row
-pub leave-walk : (kids : Forest) (h : Head) (before after : Forest) (path : List Crumb) (st : Store) (g : ℕ)
-    → (let s = settle (before & one h kids) after path st in
-    withInnerF (walkAt (leaving kids h before after path st) g) (length (opensAt s)) ≡ walkAt s g)
-unfolding withInnerF walkAt size storeAt restAt afterRowsOf
-leave-walk kids h before after path st g =
-    let done = before & one h kids in
-    let n = count before + suc (count after) in
-    let l₁ = visited-leaving st kids h before after path 0 0 in
-    let l₂ = inner-length h before after path 0 0 in
-    let l₃ = visited-settled st path done after n (count after) in
-    let l₄ = size-& before (one h kids) in
-    let l₅ = after-length h before after path in
-    let l₆ = rest-settled st path done after in
-    let l₇ = store-settled st path done after in
-    walk-eq (omega arith) (omega arith) (omega arith) refl (ap (λ (x : Store). ctxOf x) (sym l₇))

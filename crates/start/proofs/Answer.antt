@@ -9,7 +9,7 @@ use lib.Dec.{eqb, leb}
 use Rattle.meaning.specs.Tree.{if_then_else_}
 use Rattle.meaning.specs.File.{File}
 use Rattle.meaning.specs.Reading.{Outcome, accepted, refused, _>>=_, _>>_, ensure, readFile}
-use Rattle.meaning.specs.Charges.{Figures, finalFigures}
+use Rattle.meaning.specs.Charges.{finalFigures}
 use Rattle.meaning.specs.Lowering.{checkMode, checkRows, checkFile, figuresOf, admit}
 use Rattle.figures.specs.declared.Figured.{Figured}
 use Rattle.figures.specs.declared.Figured.the-variants.{Fine, Refused}

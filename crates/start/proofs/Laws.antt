@@ -1,17 +1,14 @@
 -- The turns of the loops.
 -- Assumes nothing.
 use mathlib.Core.Path.{_≡_, sym, ap, _∙_}
-use mathlib.Core.Bool.{Bool, true, false, or-false}
-use mathlib.Core.List.{List, [], _∷_}
+use mathlib.Core.List.{List}
 use Prim.Native.Nat.{ℕ, _+_, _*_, _-_, _≤_, _<_}
 use native.Mathlib.Numerals.{add-one}
 use native.Mathlib.Omega.{arith}
 use lib.ListN.{length, getD, take, set, replicate, replicate-append-replicate}
 use lib.Seq.{take-all, take-suc-set}
-use lib.Dec.{eqb}
-use borrow.Author.Tests.{ne-eqb, le-leb, lt-leb}
-use Rattle.meaning.specs.Tree.{if_then_else_, oneOf}
-use Rattle.meaning.specs.File.{numbersOf, hasChildren, fieldBytes}
+use borrow.Author.Tests.{lt-leb}
+use Rattle.meaning.specs.File.{fieldBytes}
 use Rattle.meaning.specs.Grammar.{fieldOf}
 use Rattle.meaning.specs.declared.Field.{Field}
 use Rattle.tables.specs.Loops.{turns, until, next-turn, go-on}

@@ -56,17 +56,6 @@ read-are (r ∷ rs) (y ∷ ys) z a =
     let e = symbols-later 4 (rowOf y (r ∷ rs)) (symbolCells ys rs z) (length rs) refl in
     (sym (a .0), refl, sym (a .1), rw e (read-are rs ys z (a .2)))
 
-module _ (st : Store) (z : List ℕ) (scope name : ℕ) where
-  pub binding-is :
-      getBinding (symbolsF (symbolCells (st .symbols) (st .asRead) z) 2 (length (st .symbols)) 0) scope name
-      ≡ getBinding (st .symbols) scope name
-  binding-is = rw (symbols-are (st .symbols) (st .asRead) z)
-
-  pub read-binding-is : Agrees (st .asRead) (st .symbols)
-      → getBinding (symbolsF (symbolCells (st .symbols) (st .asRead) z) 4 (length (st .asRead)) 0) scope name
-      ≡ getBinding (st .asRead) scope name
-  read-binding-is a = binding-alike _ (st .asRead) scope name (read-are (st .asRead) (st .symbols) z a)
-
 pub binds-name-is : (st : Store) (z : List ℕ) (scope y : ℕ) → Agrees (st .asRead) (st .symbols)
     → bindsName (symbolsF (symbolCells (st .symbols) (st .asRead) z) 4 (length (st .asRead)) 0) scope y ≡ bindsName (st .asRead) scope y
 binds-name-is st z scope y a = name-alike _ (st .asRead) scope y (read-are (st .asRead) (st .symbols) z a)

@@ -73,10 +73,6 @@ module _ (ys rs : List Symbol) (z : List ℕ) (y : ℕ) where
   unfolding symbolNumber
   name-is = number-is layout noSymbol 0 (λ x. x .name) refl (λ x a t. refl) ys rs z y
 
-  pub symbol-flags-are : symbolNumber (symbolCells ys rs z) (length ys) y 1 ≡ rowAt noSymbol ys y .flags
-  unfolding symbolNumber
-  symbol-flags-are = number-is layout noSymbol 1 (λ x. x .flags) refl (λ x a t. refl) ys rs z y
-
   pub scope-is : symbolNumber (symbolCells ys rs z) (length ys) y 2 ≡ rowAt noSymbol ys y .scope
   unfolding symbolNumber
   scope-is = number-is layout noSymbol 2 (λ x. x .scope) refl (λ x a t. refl) ys rs z y

@@ -25,7 +25,7 @@ use Rattle.statements.specs.Plan.{plan, noPlan, planF}
 use Rattle.statements.specs.declared.Parts.{Parts}
 use Rattle.statements.specs.declared.Plan.{Plan}
 use Rattle.lists.specs.TakeUp.{size-taken, count-taken, take-up-law}
-use Rattle.lists.specs.Plan.{usings, awaits, any-usings, parted, row-here}
+use Rattle.lists.specs.Plan.{usings, awaits, parted, row-here}
 use Rattle.lists.specs.Try.{contextOf, handlersOf}
 use Rattle.contexts.specs.Lists.{listScope}
 use Rattle.for_switch.specs.For.{isLoopF, nextRow, labelsEndF, planForF, passRowsF, forRowsF}
@@ -108,15 +108,6 @@ plan-for-law z (more h k none) a v t s e q =
     for-by z (eqb (h .tag) 4) h k a v₁ t e₁ (omega arith) refl
     (λ d. rw (← l) (plan-for-law z k (a ++ x ∷ []) v₁ t (s d) (rows-below z h k a v₁ t e₁ (omega arith)) (omega arith)))
 plan-for-law z (more h k (more h₁ k₁ r₁)) a v t s e q = absurd s
-
-twice : (b : Bool) → b ≡ not (not b)
-twice true = refl
-twice false = refl
-
--- whether it has anything to take up
-pub any-for-law : (z : List ℕ) (f : Forest) (a v : List Row) (t : List ℕ) → Labelled f → t ≡ table (a ++ (rowsOf f ++ v)) z
-    → length a + size f ≤ 65535 → eqb (planForF t (length a) .usings) 0 ≡ not (anyUsing (forList f))
-any-for-law z f a v t s e q = rw (plan-for-law z f a v t s e q .0, any-usings (forList f)) (twice (eqb (usings (forList f)) 0))
 
 -- ---- the rows
 

@@ -11,14 +11,12 @@ use lib.Dec.{eqb}
 use lib.ListN.{length, length-append}
 use Rattle.meaning.specs.Tree.{Head, Forest, more, one, count, size}
 use Rattle.meaning.specs.Charges.{wraps}
-use Rattle.tables.specs.Table.{capped, columnF, rowF, endF}
+use Rattle.tables.specs.Table.{capped, columnF, rowF}
 use Rattle.tables.specs.declared.Row.{Row}
 use Rattle.gap.specs.Cells.{table, free, line, rowsOf, gapped, length-free, count-size}
-use Rattle.gap.specs.Rows.{row-at, length-snoc, next-gapped}
-use Rattle.gap.specs.Streams.{end-one}
+use Rattle.gap.specs.Rows.{length-snoc, next-gapped}
 use Rattle.statements.specs.Plan.{plan, noPlan, planF}
-use Rattle.lists.specs.TakeUp.{length-line}
-use Rattle.lists.specs.Plan.{usings, awaits, cap-sum, plan-list-law, row-here, end-here}
+use Rattle.lists.specs.Plan.{usings, awaits, cap-sum, plan-list-law, row-here}
 
 -- of two numbers, one is not 0
 pub some-both : (b c : Bool) (m n : ℕ) → b ≡ not (eqb m 0) → c ≡ not (eqb n 0) → (b || c) ≡ not (eqb (m + n) 0)

@@ -1,7 +1,6 @@
 -- `contexts::if_block` meets its contract. Assumes nothing.
 use Rattle.contexts.specs.Tries.{ifBlockF}
 use borrow.Author.Tests.{eq-eqb, ne-eqb}
-use borrow.Author.Needs.{needs}
 use Rattle.contexts.proofs.if_block.Statement.{statement}
 use Rattle.contexts.proofs.if_block.Tie as tie
 

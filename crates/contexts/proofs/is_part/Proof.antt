@@ -1,7 +1,6 @@
 -- `contexts::is_part` meets its contract. Assumes nothing.
 use Rattle.contexts.specs.Tries.{isPartF}
 use borrow.Author.Tests.{eq-eqb, ne-eqb}
-use borrow.Author.Needs.{needs}
 use Rattle.contexts.proofs.is_part.Statement.{statement}
 use Rattle.contexts.proofs.is_part.Tie as tie
 

@@ -1,7 +1,6 @@
 -- `creation::is_passed` meets its contract. Assumes nothing.
 use Rattle.creation.specs.Scopes.{isPassedF}
 use borrow.Author.Tests.{eq-eqb, ne-eqb}
-use borrow.Author.Needs.{needs}
 use Rattle.creation.proofs.is_passed.Statement.{statement}
 use Rattle.creation.proofs.is_passed.Tie as tie
 

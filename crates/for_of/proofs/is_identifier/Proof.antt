@@ -1,7 +1,6 @@
 -- `for_of::is_identifier` meets its contract. Assumes nothing.
 use Rattle.for_of.specs.ForOf.{isIdentifierF}
 use borrow.Author.Tests.{eq-eqb, ne-eqb}
-use borrow.Author.Needs.{needs}
 use Rattle.for_of.proofs.is_identifier.Statement.{statement}
 use Rattle.for_of.proofs.is_identifier.Tie as tie
 

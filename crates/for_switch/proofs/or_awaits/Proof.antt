@@ -1,6 +1,5 @@
 -- `for_switch::or_awaits` meets its contract. Assumes nothing.
 use Rattle.for_switch.specs.Switch.{orAwaitsF}
-use borrow.Author.Needs.{needs}
 use Rattle.for_switch.proofs.or_awaits.Statement.{statement}
 use Rattle.for_switch.proofs.or_awaits.Tie as tie
 

@@ -1,5 +1,5 @@
 -- `for_switch::plan_cases` meets its contract. Assumes nothing.
-use mathlib.Core.Path.{_≡_, ap}
+use mathlib.Core.Path.{_≡_}
 use Prim.Native.Nat.{_-_, _≤_}
 use native.Mathlib.Nat.{sub-zero}
 use Rattle.tables.specs.Loops.{turns, next-turn, last-turn}

@@ -1,6 +1,5 @@
 -- `helper_loader::helper_flags` meets its contract. Assumes nothing.
 use borrow.Author.Tests.{eq-eqb, ne-eqb}
-use borrow.Author.Needs.{needs}
 use Rattle.helper_loader.proofs.helper_flags.Statement.{statement}
 use Rattle.helper_loader.proofs.helper_flags.Tie as tie
 

@@ -1,5 +1,5 @@
 -- `items::count_names` meets its contract. Assumes nothing.
-use mathlib.Core.Path.{_≡_, sym, refl, ap, _∙_}
+use mathlib.Core.Path.{_≡_, sym, ap, _∙_}
 use Prim.Native.Nat.{_-_, _≤_}
 use native.Mathlib.Nat.{sub-zero}
 use Rattle.tables.specs.Loops.{until, go-on, run-out, stopped}

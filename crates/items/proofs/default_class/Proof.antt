@@ -1,7 +1,6 @@
 -- `items::default_class` meets its contract. Assumes nothing.
 use Rattle.items.specs.Kinds.{defaultClassItemF}
 use borrow.Author.Tests.{eq-eqb, ne-eqb}
-use borrow.Author.Needs.{needs}
 use Rattle.items.proofs.default_class.Statement.{statement}
 use Rattle.items.proofs.default_class.Tie as tie
 

@@ -3,7 +3,6 @@ use mathlib.Core.List.{[], _∷_}
 use Rattle.tags.specs.Match.{other}
 use Rattle.items.specs.Kinds.{exportedItemF}
 use borrow.Author.Tests.{eq-eqb, ne-eqb}
-use borrow.Author.Needs.{needs}
 use Rattle.items.proofs.exported_item.Statement.{statement}
 use Rattle.items.proofs.exported_item.Tie as tie
 

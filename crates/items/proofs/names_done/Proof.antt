@@ -1,7 +1,6 @@
 -- `items::names_done` meets its contract. Assumes nothing.
 use Rattle.items.specs.Names.{namesDoneF}
 use borrow.Author.Tests.{eq-eqb, ne-eqb}
-use borrow.Author.Needs.{needs}
 use Rattle.items.proofs.names_done.Statement.{statement}
 use Rattle.items.proofs.names_done.Tie as tie
 

@@ -1,5 +1,4 @@
 -- `items::number_if` meets its contract. Assumes nothing.
-use borrow.Author.Needs.{needs}
 use Rattle.items.proofs.number_if.Statement.{statement}
 use Rattle.items.proofs.number_if.Tie as tie
 

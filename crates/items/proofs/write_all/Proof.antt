@@ -1,11 +1,11 @@
 -- `items::write_all` meets its contract. Assumes nothing.
-use mathlib.Core.Path.{_≡_, sym, refl, ap, _∙_}
+use mathlib.Core.Path.{_≡_, sym, refl, _∙_}
 use Prim.Native.Nat.{_-_, _≤_}
 use native.Mathlib.Nat.{sub-zero}
 use lib.ListN.{length}
 use Rattle.tables.specs.Loops.{until, go-on, run-out, stopped}
 use Rattle.scoping.specs.Changes.{inSymbols}
-use Rattle.items.specs.Names.{SpecifyingF, specifying, allSpecified, specifierF, specifyAllF}
+use Rattle.items.specs.Names.{specifying, allSpecified, specifierF, specifyAllF}
 use borrow.Author.Needs.{needs}
 use Rattle.items.proofs.write_all.Statement.{statement}
 use Rattle.items.proofs.write_all.Tie as tie

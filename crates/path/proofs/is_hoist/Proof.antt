@@ -1,6 +1,5 @@
 -- `path::is_hoist` meets its contract. Assumes nothing.
-use mathlib.Core.List.{List, [], _∷_}
-use Prim.Native.Nat.{ℕ}
+use mathlib.Core.List.{[], _∷_}
 use Rattle.path.specs.Path.{isHoistF}
 use Rattle.tags.specs.Match.{other}
 use borrow.Author.Tests.{eq-eqb, ne-eqb}

@@ -1,5 +1,5 @@
 -- `path::nearest_scope` meets its contract. Assumes nothing.
-use mathlib.Core.Path.{_≡_, sym, refl, _∙_}
+use mathlib.Core.Path.{_≡_, sym, _∙_}
 use Prim.Native.Nat.{_-_, _≤_}
 use native.Mathlib.Nat.{sub-zero}
 use Rattle.tables.specs.Loops.{until, go-on, run-out, stopped}

@@ -1,7 +1,6 @@
 -- `program::stays` meets its contract. Assumes nothing.
 use mathlib.Core.List.{[], _∷_}
 use Rattle.tags.specs.Match.{other}
-use borrow.Author.Needs.{needs}
 use Rattle.program.proofs.stays.Statement.{statement}
 use Rattle.program.proofs.stays.Tie as tie
 

@@ -1,6 +1,6 @@
 -- `scoping::find_binding` meets its contract. Assumes nothing.
 use native.Mathlib.Nat.{sub-zero}
-use mathlib.Core.Path.{_≡_, sym, refl, _∙_}
+use mathlib.Core.Path.{_≡_, sym, _∙_}
 use Prim.Native.Nat.{_-_, _≤_}
 use Rattle.meaning.specs.Scoping.{findBinding}
 use Rattle.scoping.specs.Rows.{storeF}

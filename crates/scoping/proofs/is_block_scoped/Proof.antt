@@ -1,7 +1,6 @@
 -- `scoping::is_block_scoped` meets its contract. Assumes nothing.
 use Rattle.scoping.specs.Rows.{blockScoped}
 use borrow.Author.Tests.{eq-eqb, ne-eqb}
-use borrow.Author.Needs.{needs}
 use Rattle.scoping.proofs.is_block_scoped.Statement.{statement}
 use Rattle.scoping.proofs.is_block_scoped.Tie as tie
 

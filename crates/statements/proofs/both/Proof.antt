@@ -1,5 +1,4 @@
 -- `statements::both` meets its contract. Assumes nothing.
-use borrow.Author.Needs.{needs}
 use Rattle.statements.proofs.both.Statement.{statement}
 use Rattle.statements.proofs.both.Tie as tie
 

@@ -1,7 +1,6 @@
 -- `statements::has_initializer` meets its contract. Assumes nothing.
 use Rattle.statements.specs.TakeUp.{hasInitializerF}
 use borrow.Author.Tests.{eq-eqb, ne-eqb}
-use borrow.Author.Needs.{needs}
 use Rattle.statements.proofs.has_initializer.Statement.{statement}
 use Rattle.statements.proofs.has_initializer.Tie as tie
 

@@ -1,7 +1,6 @@
 -- `statements::is_await_using` meets its contract. Assumes nothing.
 use Rattle.meaning.specs.Statements.{isAwaitUsing}
 use borrow.Author.Tests.{eq-eqb, ne-eqb}
-use borrow.Author.Needs.{needs}
 use Rattle.statements.proofs.is_await_using.Statement.{statement}
 use Rattle.statements.proofs.is_await_using.Tie as tie
 

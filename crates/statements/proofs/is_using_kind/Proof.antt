@@ -1,7 +1,6 @@
 -- `statements::is_using_kind` meets its contract. Assumes nothing.
 use mathlib.Core.List.{[], _∷_}
 use Rattle.tags.specs.Match.{other}
-use borrow.Author.Needs.{needs}
 use Rattle.statements.proofs.is_using_kind.Statement.{statement}
 use Rattle.statements.proofs.is_using_kind.Tie as tie
 

@@ -1,5 +1,4 @@
 -- `statements::letter_if` meets its contract. Assumes nothing.
-use borrow.Author.Needs.{needs}
 use Rattle.statements.proofs.letter_if.Statement.{statement}
 use Rattle.statements.proofs.letter_if.Tie as tie
 

@@ -1,5 +1,4 @@
 -- `statements::number_if` meets its contract. Assumes nothing.
-use borrow.Author.Needs.{needs}
 use Rattle.statements.proofs.number_if.Statement.{statement}
 use Rattle.statements.proofs.number_if.Tie as tie
 

@@ -1,7 +1,6 @@
 -- `statements::step_form` meets its contract. Assumes nothing.
 use Rattle.statements.specs.Try.{stepForm}
 use borrow.Author.Tests.{eq-eqb, ne-eqb}
-use borrow.Author.Needs.{needs}
 use Rattle.statements.proofs.step_form.Statement.{statement}
 use Rattle.statements.proofs.step_form.Tie as tie
 

@@ -1,5 +1,5 @@
 -- `tables::end_after` meets its contract. Assumes nothing.
-use mathlib.Core.Path.{_≡_, refl, sym, ap}
+use mathlib.Core.Path.{_≡_, refl, ap}
 use Prim.Native.Nat.{_+_, _*_, _-_, _≤_}
 use borrow.Author.Tests.{eq-eqb}
 use Rattle.tables.specs.Loops.{until, run-out, stopped}
