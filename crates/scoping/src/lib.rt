@@ -10,6 +10,7 @@ ghost use Rattle.meaning.specs.Scoping.{binds, getBinding, findBinding, isBound
 ghost use Rattle.meaning.specs.ForOf.{bindsName};
 ghost use Rattle.tables.specs.Table.{capped};
 ghost use Rattle.scoping.specs.Rows.{withScope, withSymbol, withContext, withHelper, scopeNumber, symbolNumber, setScopeF, setSymbolF, symbolAt, symbolsF, storeF, blockScoped};
+ghost use Rattle.scoping.specs.Candidates.{noCandidate, addCandidateF, candidatesF, climbsF};
 ghost use Rattle.scoping.specs.Changes.{inScopes, inSymbols, createChildScopeF, changeScopeParentF, setScopeFlagsF, insertScopeBetweenF, createSymbolF, moveBindingF, setSymbolFlagsF, movesF, moveBoundF, moveBlockScopedF};
 
 // The settings (mode, and 1 for a module), how many rows there are and how many symbol rows were read, the runtime helper's symbol or 0, and the contexts made.
@@ -219,8 +220,8 @@ pub fn get_binding(symbols: &[u16], count: u16, f: u16, scope: ScopeId, name: u1
     SymbolId(found)
 }
 
-// `find_binding`: the name seen from a scope, or 0.
-pub fn find_binding(scopes: &[u16], symbols: &[u16], ctx: Ctx, from: ScopeId, name: u16) -> SymbolId
+// The name seen from a scope, or 0: all symbol rows are looked at for each scope on the way outwards.
+fn search_outwards(scopes: &[u16], symbols: &[u16], ctx: Ctx, from: ScopeId, name: u16) -> SymbolId
     ensures { λ r. ⌜ r .0 ≡ findBinding (ctx .scopes) (storeF (now (scopes .entry)) (now (symbols .entry)) ctx) (from .0) name ⌝ }
 {
     let count = ctx.scopes;
@@ -236,6 +237,84 @@ pub fn find_binding(scopes: &[u16], symbols: &[u16], ctx: Ctx, from: ScopeId, na
         }
         scope = scope_number(scopes, count, ScopeId(scope), 0);
         k += 1;
+    }
+    SymbolId(0)
+}
+
+// The rows that bind a name in whatever scope: how many there are, and the number and the scope of the last one.
+struct Candidates {
+    count: u16,
+    row: u16,
+    scope: u16,
+}
+
+// Those seen before, with the row after i others if it is one.
+fn add_candidate(symbols: &[u16], i: u16, name: u16, seen: Candidates) -> Candidates
+    ensures { λ r. ⌜ r ≡ addCandidateF (symbolAt (now (symbols .entry)) 2 i) name (capped i 1) seen ⌝ }
+{
+    let at = (i as usize) * 5;
+    if tables::get(symbols, at) != name {
+        return seen;
+    }
+    if tables::get(symbols, at + 3) != 0 {
+        return seen;
+    }
+    Candidates {
+        count: tables::plus(seen.count, 1),
+        row: tables::plus(i, 1),
+        scope: tables::get(symbols, at + 2),
+    }
+}
+
+// Those among the first `count` rows.
+fn find_candidates(symbols: &[u16], count: u16, name: u16) -> Candidates
+    ensures { λ r. ⌜ r ≡ candidatesF (symbolsF (now (symbols .entry)) 2 count 0) name 1 noCandidate ⌝ }
+{
+    let mut seen = Candidates {
+        count: 0,
+        row: 0,
+        scope: 0,
+    };
+    let mut i: u16 = 0;
+    while i < count {
+        seen = add_candidate(symbols, i, name, seen);
+        i += 1;
+    }
+    seen
+}
+
+// The scope `to` is met on the way outwards.
+fn climbs_to(scopes: &[u16], count: u16, from: ScopeId, to: ScopeId) -> bool
+    ensures { λ r. ⌜ r ≡ climbsF count (now (scopes .entry)) count (from .0) (to .0) ⌝ }
+{
+    let mut scope = from.0;
+    let mut k: u16 = 0;
+    while k < count {
+        if to.0 == scope {
+            return true;
+        }
+        if scope == 0 {
+            return false;
+        }
+        scope = scope_number(scopes, count, ScopeId(scope), 0);
+        k += 1;
+    }
+    false
+}
+
+// `find_binding`: the name seen from a scope, or 0. If one row alone binds the name, only that row's scope is looked for.
+pub fn find_binding(scopes: &[u16], symbols: &[u16], ctx: Ctx, from: ScopeId, name: u16) -> SymbolId
+    ensures { λ r. ⌜ r .0 ≡ findBinding (ctx .scopes) (storeF (now (scopes .entry)) (now (symbols .entry)) ctx) (from .0) name ⌝ }
+{
+    let seen = find_candidates(symbols, ctx.symbols, name);
+    if seen.count == 0 {
+        return SymbolId(0);
+    }
+    if seen.count > 1 {
+        return search_outwards(scopes, symbols, ctx, from, name);
+    }
+    if climbs_to(scopes, ctx.scopes, from, ScopeId(seen.scope)) {
+        return SymbolId(seen.row);
     }
     SymbolId(0)
 }
