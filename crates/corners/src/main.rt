@@ -24,132 +24,14 @@ fn plus(a: usize, b: usize) -> usize {
     1000000
 }
 
-// ---- from the notation to bytes
-
-// Where the next number goes, where the field that it belongs to begins, and what is read of it.
-struct Spot {
-    at: usize,
-    field: usize,
-    value: u16,
-}
-
-fn store(file: &mut [u8], at: usize, b: u8) {
-    if at < file.len() {
-        file[at] = b;
-    }
-}
-
-fn store_two(file: &mut [u8], at: usize, n: u16) {
-    store(file, at, (n / 256) as u8);
-    store(file, plus(at, 1), (n % 256) as u8);
-}
-
-// The number with one more digit.
-fn with_digit(value: u16, c: u8) -> u16 {
-    if c < 48 {
-        return value;
-    }
-    ((((value as u32) * 10) + ((c - 48) as u32)) % 65536) as u16
-}
-
-// A colon: the number is the tag of a field, which has no payload yet.
-fn open_field(file: &mut [u8], s: Spot) -> Spot {
-    store(file, s.at, (s.value % 256) as u8);
-    store_two(file, plus(s.at, 1), 0);
-    Spot {
-        at: plus(s.at, 3),
-        field: s.at,
-        value: 0,
-    }
-}
-
-// A comma, a space or the end of the line: the number goes into the payload, whose length is put right.
-fn add_number(file: &mut [u8], s: Spot) -> Spot {
-    store_two(file, s.at, s.value);
-    let len = fields::read_two(file, plus(s.field, 1));
-    store_two(file, plus(s.field, 1), tables::plus(len, 2));
-    Spot {
-        at: plus(s.at, 2),
-        field: s.field,
-        value: 0,
-    }
-}
-
-fn add_character(file: &mut [u8], s: Spot, c: u8) -> Spot {
-    match c {
-        48..=57 => Spot {
-            at: s.at,
-            field: s.field,
-            value: with_digit(s.value, c),
-        },
-        58 => open_field(file, s),
-        _ => add_number(file, s),
-    }
-}
-
-// Puts the bytes of a line's file at the start of the buffer, and answers how many there are.
-fn encode(line: &[u8], file: &mut [u8]) -> usize {
-    let mut s = Spot {
-        at: 0,
-        field: 0,
-        value: 0,
-    };
-    let mut i = 0;
-    while i < line.len() {
-        s = add_character(file, s, line[i]);
-        i += 1;
-    }
-    if line.len() == 0 {
-        return 0;
-    }
-    add_number(file, s).at
-}
-
-// ---- from bytes to the notation
-
-// The k-th number of a field, with what stands before it.
-fn show_number(k: u16, n: u16) {
-    if k == 0 {
-        put_number(b":", n as u64);
-    } else {
-        put_number(b",", n as u64);
-    }
-}
-
-fn show_numbers(file: &[u8], first: usize, count: u16) {
-    let mut k: u16 = 0;
-    while k < count {
-        show_number(k, fields::read_two(file, plus(first, (k as usize) * 2)));
-        k += 1;
-    }
-}
-
-fn wide(b: u8) -> u64 {
-    b as u64
-}
-
-// Shows the field at a place, and answers the place behind it.
-fn show_field(file: &[u8], at: usize) -> usize {
-    if file.len() <= at {
-        return file.len();
-    }
-    let len = fields::read_two(file, plus(at, 1));
-    put_number(b" ", wide(file[at]));
-    show_numbers(file, plus(at, 3), len / 2);
-    plus(at, plus(len as usize, 3))
-}
+// ---- files
 
 fn show_file(name: &[u8], file: &[u8]) {
     put(name);
-    let mut at: usize = 0;
-    let mut k: usize = 0;
-    while k < 65536 {
-        if file.len() <= at {
-            break;
-        }
-        at = show_field(file, at);
-        k += 1;
+    if 0 < file.len() {
+        put(b" ");
     }
+    notation::show(STDOUT_FILENO, file);
     put(b"\n");
 }
 
@@ -196,7 +78,7 @@ fn show_lowered(file: &[u8]) {
 
 fn show_case(line: &[u8]) {
     let mut file = io::buffer();
-    let n = encode(line, &mut file);
+    let n = notation::encode(line, &mut file);
     let given = front(&file, n);
     show_file(b"  in:", given);
     show_lowered(given);

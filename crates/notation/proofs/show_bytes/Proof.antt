@@ -1,26 +1,27 @@
--- `corners::show_numbers` meets its contract. Assumes nothing.
+-- `notation::show_bytes` meets its contract. Assumes nothing.
 use Prim.Native.Nat.{_≤_, _-_}
+use lib.ListN.{length}
 use borrow.Author.Needs.{needs}
-use Rattle.corners.proofs.show_numbers.Statement.{statement}
-use Rattle.corners.proofs.show_numbers.Tie as tie
+use Rattle.notation.proofs.show_bytes.Statement.{statement}
+use Rattle.notation.proofs.show_bytes.Tie as tie
 
 abbrev Inv-loop : tie.InvT-loop
-Inv-loop file first count k₀ k = k ≤ count
+Inv-loop fd file from i₀ t5 i = from ≤ i
 
 abbrev μ-loop : tie.MeasureT-loop
-μ-loop file first count k₀ k = count - k
+μ-loop fd file from i₀ t5 i = length file - i
 
-pub show-numbers-spec : {M : Type 1} → statement M
-show-numbers-spec =
+pub show-bytes-spec : {M : Type 1} → statement M
+show-bytes-spec =
     tie.close
     (tie.spec
     Inv-loop
     μ-loop
     (λ c. search needs)
     (λ c. search needs)
+    (λ c κs. search needs)
+    (λ c κs. search needs)
     (λ c. search needs)
-    (λ c κs. search needs)
-    (λ c κs. search needs)
     (λ c κs. search needs)
     (λ c. search needs)
     (λ c. search needs)
