@@ -23,7 +23,7 @@ use Rattle.meaning.specs.Reading.{Outcome, accepted, refused, readFile}
 use Rattle.meaning.specs.Walk.{visits, start, treeAt, storeAt, fileAt}
 use Rattle.meaning.specs.Charges.{_⊕_, total, figuresIn, finalFigures}
 use Rattle.meaning.specs.VisitCharges.{visitCharges}
-use Rattle.meaning.specs.Lowering.{Lent, Written, checkFile, admit, lastSpot, lower}
+use Rattle.meaning.specs.Lowering.{Lent, Written, checkFile, figuresOf, admit, lastSpot, lower}
 use Rattle.meaning.specs.Table.{table, table-holds}
 use Rattle.counts.specs.Figures.{joined}
 use Rattle.fit.specs.Ends.{isOver, walk-ends}
@@ -40,7 +40,7 @@ use Rattle.decoded.specs.Decoded.{treeIn}
 use Rattle.decoded.specs.Back.{Childless, hints-back}
 use Rattle.decoded.specs.Childless.{accepted-childless}
 use Rattle.shown.specs.Shown.{recordsIn, scopesIn, symbolsIn}
-use Rattle.refusing.specs.Numbers.{read-numbers, check-numbers, admit-numbers, lower-numbers}
+use Rattle.refusing.specs.Numbers.{read-numbers, figures-numbers, admit-numbers, lower-numbers}
 use Rattle.refusing.specs.Small.{Short, firstShort, small-refused, refused-small, lower-total, short-output, enough-output}
 use Rattle.lowering.specs.declared.Lowered.the-variants.{Written as WrittenIn, Refused}
 use Rattle.lowering.specs.Lower.{finished, zerosFor, writtenOver, lowerOf, lowerF}
@@ -65,8 +65,8 @@ use Rattle.claims.specs.Calls.{
 pub check-refusals : (bytes : List ℕ) (c p : ℕ) → readFile bytes ≡ refused c p → (1 ≤ c) × (c ≤ 7)
 check-refusals = read-numbers
 
-pub figures-refusals : (bytes : List ℕ) (c p : ℕ) → checkFile bytes ≡ refused c p → (1 ≤ c) × (c ≤ 8)
-figures-refusals = check-numbers
+pub figures-refusals : (bytes : List ℕ) (c p : ℕ) → figuresOf bytes ≡ refused c p → (1 ≤ c) × (c ≤ 8)
+figures-refusals = figures-numbers
 
 pub start-refusals : (bytes : List ℕ) (lent : Lent) (c p : ℕ) → admit bytes lent ≡ refused c p → (1 ≤ c) × (c ≤ 9)
 start-refusals = admit-numbers

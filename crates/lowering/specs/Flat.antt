@@ -5,6 +5,7 @@ use mathlib.Core.Bool.{Bool}
 use Prim.Native.Nat.{ℕ, _*_, min}
 use lib.Dec.{leb}
 use lib.ListN.{length}
+use lib.Seq.{sets}
 use Rattle.meaning.specs.Tree.{if_then_else_}
 use Rattle.figures.specs.declared.Figured.{Figured}
 use Rattle.figures.specs.declared.Figured.the-variants.{Fine, Refused as RefusedFigures}
@@ -12,7 +13,7 @@ use Rattle.tables.specs.Loops.{until}
 use Rattle.path.specs.Path.{Tables}
 use Rattle.start.specs.Flat.{fillF}
 use Rattle.walk.specs.Visit.{isOverF, visitF}
-use Rattle.writing.specs.Writing.{stored, fileBytes}
+use Rattle.writing.specs.Writing.{fileBytes}
 use Rattle.lowering.specs.Lower.{Finished, finished, zerosFor}
 use Rattle.lowering.specs.declared.Lowered.{Lowered}
 use Rattle.lowering.specs.declared.Lowered.the-variants.{Written, Refused}
@@ -28,7 +29,7 @@ visitAllF n q = until n isOverIn visitF q
 unfoldable pub outputF : List ℕ → ℕ → List ℕ → List ℕ → List ℕ → List ℕ → List ℕ
 outputF bytes rows r s y o =
     let q = visitAllF (2 * rows) (fillF bytes rows r s y) in
-    stored o 0 (fileBytes (q .records) (q .scopes) (q .symbols) (q .walk))
+    sets o 0 (fileBytes (q .records) (q .scopes) (q .symbols) (q .walk))
 
 unfoldable pub runF : Lowered → List ℕ → ℕ → List ℕ → List ℕ → List ℕ → List ℕ → Finished
 runF a bytes rows r s y o = finished a (zerosFor r) (zerosFor s) (zerosFor y) (outputF bytes rows r s y o)

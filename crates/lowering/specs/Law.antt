@@ -32,7 +32,7 @@ use Rattle.walk.specs.Visit.{isLeavingF, isOverF, visitF}
 use Rattle.simulation.specs.Visits.{heldIn}
 use Rattle.simulation.specs.Started.{zerosAfter, visits-after-start}
 use Rattle.writing.specs.Writing.{fileBytes}
-use Rattle.writing.specs.Stored.{stored-over}
+use Rattle.writing.specs.Stored.{sets-front}
 use Rattle.ending.specs.Last.{last-spot, last-over, last-figures}
 use Rattle.ending.specs.ReadBack.{Tagged}
 use Rattle.ending.specs.Length.{tagged-length}
@@ -117,7 +117,7 @@ module _ (b r s y : List ℕ) (f : File) (bytes : Bytes b) (e : admit b (lentIn 
   unfolding outputF
   output-is o fits =
       rw (small, walked, over-bytes (lastSpot f) _ _ (last-over b f (admitted b r s y f e .0)) last-tagged)
-      (stored-over (written (fileAt (lastSpot f))) o (omega (arith, last-length)))
+      (sets-front (written (fileAt (lastSpot f))) o (omega (arith, last-length)))
 
 -- ---- the answer
 

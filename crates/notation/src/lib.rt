@@ -341,7 +341,8 @@ fn show_bytes(fd: i32, file: &[u8], from: usize) {
     }
 }
 
-// Prints the notation of a file: its fields, and, from the first place on where no whole field stands, its bytes.
+// Prints the notation of a file: its fields, and, from the first place on where no whole field stands, its bytes. It answers nothing and
+// writes to no lent slice, so a contract has nothing to say of it; what is printed is held to stored output.
 pub fn show(fd: i32, file: &[u8]) {
     let mut at: usize = 0;
     while at < file.len() {

@@ -46,7 +46,7 @@ use Rattle.meaning.specs.Reading.{
   readFile,
 }
 use Rattle.meaning.specs.Charges.{Figures, finalFigures}
-use Rattle.meaning.specs.Lowering.{Lent, checkMode, checkRows, checkOutput, checkFile, admit, lower}
+use Rattle.meaning.specs.Lowering.{Lent, checkMode, checkRows, checkOutput, checkFile, figuresOf, admit, lower}
 use Rattle.meaning.specs.declared.Place.{Place}
 use Rattle.meaning.specs.declared.Place.the-variants.{Settings, ScopeRow, SymbolRow, Program}
 use Rattle.meaning.specs.declared.Field.{Field}
@@ -185,9 +185,14 @@ check-numbered b =
     bound 8 (readFile b) _ (widened 7 (readFile b) (read-numbered b))
     (λ f. bound 8 (checkMode f) _ (ensured 8 (not (eqb (f .mode) 2 && leb 1 (finalFigures f .contexts))) 8 0 (omega arith)) (λ _. tt))
 
--- CHECKING, with 1 to 8.
+-- CHECKING with the mode, 1 to 8;
 pub check-numbers : (b : List ℕ) (c p : ℕ) → checkFile b ≡ refused c p → (1 ≤ c) × (c ≤ 8)
 check-numbers b = numbers 8 (checkFile b) (check-numbered b)
+
+-- so FIGURES ALONE.
+pub figures-numbers : (b : List ℕ) (c p : ℕ) → figuresOf b ≡ refused c p → (1 ≤ c) × (c ≤ 8)
+unfolding figuresOf
+figures-numbers b = numbers 8 (figuresOf b) (bound 8 (checkFile b) _ (check-numbered b) (λ f. tt))
 
 lent-numbered : (lent : Lent) (g : Figures) → Numbered 9 (checkRows lent g)
 unfolding checkRows

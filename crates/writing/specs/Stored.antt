@@ -1,38 +1,32 @@
--- Bytes stored one after another, and how many bytes fields and rows take.
+-- Bytes sets one after another, and how many bytes fields and rows take.
 -- Assumes nothing.
 use mathlib.Core.Path.{_≡_, refl, sym, ap, _∙_}
 use mathlib.Core.List.{List, [], _∷_, _++_}
 use Prim.Native.Nat.{ℕ, zero, suc, _+_, _*_, _-_, _/_, _%_, _≤_, _<_}
+use native.Mathlib.Numerals.{add-one}
 use native.Mathlib.Omega.{arith}
 use lib.ListN.{length, set, take, drop, length-append}
-use lib.Seq.{set-at, append-snoc}
+use lib.Seq.{sets, sets-eq}
 use lib.Dec.{ltb}
 use Rattle.meaning.specs.Tree.{if_then_else_}
 use Rattle.meaning.specs.File.{numbersOf, twoBytes, field}
 use Rattle.rules.specs.Numbers.{numbers-most}
-use Rattle.writing.specs.Writing.{stored, fieldWith, scopeBytes, symbolBytes, recordBytes, rowsBytes}
+use Rattle.writing.specs.Writing.{fieldWith, scopeBytes, symbolBytes, recordBytes, rowsBytes}
 use Rattle.tables.specs.declared.Row.{Row}
 
 -- ---- one after another
 
-pub stored-++ : (xs ys out : List ℕ) (at : ℕ) → stored out at (xs ++ ys) ≡ stored (stored out at xs) (at + length xs) ys
-unfolding stored
-stored-++ [] ys out at = let e : at + 0 ≡ at = omega arith in rw e
-stored-++ (x ∷ xs) ys out at =
-    let e : at + suc (length xs) ≡ at + 1 + length xs = omega arith in
-    rw e (stored-++ xs ys (set out at x) (at + 1))
+pub sets-++ : (xs ys out : List ℕ) (at : ℕ) → sets out at (xs ++ ys) ≡ sets (sets out at xs) (at + length xs) ys
+sets-++ [] ys out at = let e : at + 0 ≡ at = omega arith in rw e
+sets-++ (x ∷ xs) ys out at =
+    let e : at + suc (length xs) ≡ suc at + length xs = omega arith in
+    rw e (sets-++ xs ys (set out at x) (suc at))
 
--- over a list that is long enough
-over-front : (bs pre out : List ℕ) → length bs ≤ length out → stored (pre ++ out) (length pre) bs ≡ pre ++ (bs ++ drop (length bs) out)
-unfolding stored
-over-front [] pre out h = refl
-over-front (b ∷ bs) pre [] h = absurd (omega arith)
-over-front (b ∷ bs) pre (o ∷ out) h =
-    let e : length pre + 1 ≡ length (pre ++ b ∷ []) = sym (length-append pre (b ∷ [])) in
-    rw (set-at pre o out b (length pre) refl, e, ← append-snoc pre b out) (over-front bs (pre ++ b ∷ []) out (omega arith) ∙ append-snoc pre b (bs ++ drop (length bs) out))
-
-pub stored-over : (bs out : List ℕ) → length bs ≤ length out → stored out 0 bs ≡ bs ++ drop (length bs) out
-stored-over bs out h = over-front bs [] out h
+-- over the front of a list that is long enough
+pub sets-front : (bs out : List ℕ) → length bs ≤ length out → sets out 0 bs ≡ bs ++ drop (length bs) out
+sets-front bs out h =
+    let e : 0 + length bs ≡ length bs = omega arith in
+    rw e at (sets-eq bs out 0 (omega arith))
 
 -- ---- a field
 
@@ -57,35 +51,35 @@ field-long t a b c d =
 
 -- a number before others
 two-more : (v : ℕ) (ns out : List ℕ) (at : ℕ)
-    → stored out at (twoBytes (v ∷ ns)) ≡ stored (stored out at (twoBytes (v ∷ []))) (at + 2) (twoBytes ns)
-unfolding stored twoBytes
+    → sets out at (twoBytes (v ∷ ns)) ≡ sets (sets out at (twoBytes (v ∷ []))) (at + 2) (twoBytes ns)
+unfolding twoBytes
 two-more v ns out at =
-    let e : at + 1 + 1 ≡ at + 2 = omega arith in
-    ap (λ (m : ℕ). stored (set (set out at (v / 256)) (at + 1) (v % 256)) m (twoBytes ns)) e
+    let e : suc (suc at) ≡ at + 2 = omega arith in
+    ap (λ (m : ℕ). sets (set (set out at (v / 256)) (suc at) (v % 256)) m (twoBytes ns)) e
 
 -- number i of a field with n numbers
 abbrev putNumber : ℕ → ℕ → List ℕ → ℕ → ℕ → List ℕ
-putNumber at n out i v = if ltb i n then stored out (at + 3 + 2 * i) (twoBytes (v ∷ [])) else out
+putNumber at n out i v = if ltb i n then sets out (at + 3 + 2 * i) (twoBytes (v ∷ [])) else out
 
 unfoldable putNumbers : ℕ → List ℕ → ℕ → List ℕ → List ℕ
 putNumbers at out i [] = out
-putNumbers at out i (v ∷ ns) = putNumbers at (stored out (at + 3 + 2 * i) (twoBytes (v ∷ []))) (i + 1) ns
+putNumbers at out i (v ∷ ns) = putNumbers at (sets out (at + 3 + 2 * i) (twoBytes (v ∷ []))) (i + 1) ns
 
-numbers-put : (ns out : List ℕ) (at i : ℕ) → stored out (at + 3 + 2 * i) (twoBytes ns) ≡ putNumbers at out i ns
-unfolding stored twoBytes putNumbers
+numbers-put : (ns out : List ℕ) (at i : ℕ) → sets out (at + 3 + 2 * i) (twoBytes ns) ≡ putNumbers at out i ns
+unfolding twoBytes putNumbers
 numbers-put [] out at i = refl
 numbers-put (v ∷ ns) out at i =
     let e : at + 3 + 2 * i + 2 ≡ at + 3 + 2 * (i + 1) = omega arith in
-    two-more v ns out (at + 3 + 2 * i) ∙ rw e (numbers-put ns (stored out (at + 3 + 2 * i) (twoBytes (v ∷ []))) at (i + 1))
+    two-more v ns out (at + 3 + 2 * i) ∙ rw e (numbers-put ns (sets out (at + 3 + 2 * i) (twoBytes (v ∷ []))) at (i + 1))
 
 -- the tag, the length, and each number in its place
 head-put : (t n : ℕ) (ns out : List ℕ) (at : ℕ) → length ns ≡ n
-    → stored out at (field t ns) ≡ putNumbers at (stored (set out at t) (at + 1) (twoBytes (2 * n ∷ []))) 0 ns
-unfolding stored field
+    → sets out at (field t ns) ≡ putNumbers at (sets (set out at t) (at + 1) (twoBytes (2 * n ∷ []))) 0 ns
+unfolding field
 head-put t n ns out at e =
     let o = set out at t in
-    let d : at + 1 + 2 ≡ at + 3 + 2 * 0 = omega arith in
-    rw e (two-more (2 * n) ns o (at + 1) ∙ rw d (numbers-put ns (stored o (at + 1) (twoBytes (2 * n ∷ []))) at 0))
+    let d : suc at + 2 ≡ at + 3 + 2 * 0 = omega arith in
+    rw (e, add-one at) (two-more (2 * n) ns o (suc at) ∙ rw d (numbers-put ns (sets o (suc at) (twoBytes (2 * n ∷ []))) at 0))
 
 each-put : (n a b c d at : ℕ) (out : List ℕ) → n ≤ 4
     → putNumber at n (putNumber at n (putNumber at n (putNumber at n out 0 a) 1 b) 2 c) 3 d ≡ putNumbers at out 0 (take n (a ∷ b ∷ c ∷ d ∷ []))
@@ -100,12 +94,12 @@ each-put (suc (suc (suc (suc (suc n))))) a b c d at out h = absurd (omega arith)
 -- A FIELD, byte by byte.
 pub field-put : (t a b c d at : ℕ) (out : List ℕ)
     → let n = numbersOf t in
-    let o = stored (set out at t) (at + 1) (twoBytes (2 * n ∷ [])) in
-    putNumber at n (putNumber at n (putNumber at n (putNumber at n o 0 a) 1 b) 2 c) 3 d ≡ stored out at (fieldWith t a b c d)
+    let o = sets (set out at t) (at + 1) (twoBytes (2 * n ∷ [])) in
+    putNumber at n (putNumber at n (putNumber at n (putNumber at n o 0 a) 1 b) 2 c) 3 d ≡ sets out at (fieldWith t a b c d)
 unfolding fieldWith
 field-put t a b c d at out =
     let n = numbersOf t in
-    let o = stored (set out at t) (at + 1) (twoBytes (2 * n ∷ [])) in
+    let o = sets (set out at t) (at + 1) (twoBytes (2 * n ∷ [])) in
     each-put n a b c d at o (numbers-most t)
     ∙ sym (head-put t n (take n (a ∷ b ∷ c ∷ d ∷ [])) out at (take-length n a b c d (numbers-most t)))
 
@@ -131,23 +125,23 @@ pub symbol-long : (t : List ℕ) (k : ℕ) → length (symbolBytes t k) ≡ 11
 unfolding symbolBytes numbersOf
 symbol-long t k = field-long 42 _ _ _ _
 
-pub rows-turn : (f : ℕ → List ℕ) (r out out′ : List ℕ) (at at′ k n : ℕ) → r ≡ stored out at (rowsBytes f k (n - k)) → k < n
-    → out′ ≡ stored out at (f k) → at′ ≡ at + length (f k) → r ≡ stored out′ at′ (rowsBytes f (k + 1) (n - (k + 1)))
+pub rows-turn : (f : ℕ → List ℕ) (r out out′ : List ℕ) (at at′ k n : ℕ) → r ≡ sets out at (rowsBytes f k (n - k)) → k < n
+    → out′ ≡ sets out at (f k) → at′ ≡ at + length (f k) → r ≡ sets out′ at′ (rowsBytes f (k + 1) (n - (k + 1)))
 unfolding rowsBytes
 rows-turn f r out out′ at at′ k n e h o a =
     let d : n - k ≡ suc (n - (k + 1)) = omega arith in
-    (rw d at e) ∙ (stored-++ (f k) (rowsBytes f (k + 1) (n - (k + 1))) out at ∙ rw (o, a))
+    (rw d at e) ∙ (sets-++ (f k) (rowsBytes f (k + 1) (n - (k + 1))) out at ∙ rw (o, a))
 
-pub rows-last : (f : ℕ → List ℕ) (r out : List ℕ) (at k n : ℕ) → r ≡ stored out at (rowsBytes f k (n - k)) → n ≤ k → out ≡ r
-unfolding rowsBytes stored
+pub rows-last : (f : ℕ → List ℕ) (r out : List ℕ) (at k n : ℕ) → r ≡ sets out at (rowsBytes f k (n - k)) → n ≤ k → out ≡ r
+unfolding rowsBytes
 rows-last f r out at k n e h = let d : n - k ≡ 0 = omega arith in rw d at (sym e)
 
 -- ---- the file
 
 pub file-put : (s y m : ℕ) (f g h : ℕ → List ℕ) (a b : ℕ) (out : List ℕ) → ((k : ℕ) → length (f k) ≡ 7) → ((k : ℕ) → length (g k) ≡ 11)
     → let x = fieldWith 40 a b 0 0 in
-    stored (stored (stored (stored out 0 x) 7 (rowsBytes f 0 s)) (7 + 7 * s) (rowsBytes g 0 y)) (7 + 7 * s + 11 * y) (rowsBytes h 0 m)
-    ≡ stored out 0 (x ++ (rowsBytes f 0 s ++ (rowsBytes g 0 y ++ rowsBytes h 0 m)))
+    sets (sets (sets (sets out 0 x) 7 (rowsBytes f 0 s)) (7 + 7 * s) (rowsBytes g 0 y)) (7 + 7 * s + 11 * y) (rowsBytes h 0 m)
+    ≡ sets out 0 (x ++ (rowsBytes f 0 s ++ (rowsBytes g 0 y ++ rowsBytes h 0 m)))
 unfolding numbersOf
 file-put s y m f g h a b out ef eg =
     let x = fieldWith 40 a b 0 0 in
@@ -158,6 +152,6 @@ file-put s y m f g h a b out ef eg =
     let l₂ : 7 + length ss ≡ 7 + 7 * s = omega (arith, rows-long f 7 ef 0 s) in
     let l₃ : 7 + 7 * s + length ys ≡ 7 + 7 * s + 11 * y = omega (arith, rows-long g 11 eg 0 y) in
     sym
-    (stored-++ x (ss ++ (ys ++ rs)) out 0
-    ∙ rw l₁ (stored-++ ss (ys ++ rs) (stored out 0 x) 7
-    ∙ rw l₂ (stored-++ ys rs (stored (stored out 0 x) 7 ss) (7 + 7 * s) ∙ rw l₃)))
+    (sets-++ x (ss ++ (ys ++ rs)) out 0
+    ∙ rw l₁ (sets-++ ss (ys ++ rs) (sets out 0 x) 7
+    ∙ rw l₂ (sets-++ ys rs (sets (sets out 0 x) 7 ss) (7 + 7 * s) ∙ rw l₃)))

@@ -10,11 +10,6 @@ use Rattle.tables.specs.Table.{rowF}
 use Rattle.tables.specs.declared.Row.{Row}
 use Rattle.path.specs.declared.Walk.{Walk}
 
--- bytes stored one after another from an offset on; past the end nothing is stored
-unfoldable pub stored : List ℕ → ℕ → List ℕ → List ℕ
-stored out at [] = out
-stored out at (b ∷ bs) = stored (set out at b) (at + 1) bs
-
 -- a field with as many of these numbers as its tag has
 unfoldable pub fieldWith : ℕ → ℕ → ℕ → ℕ → ℕ → List ℕ
 fieldWith t a b c d = field t (take (numbersOf t) (a ∷ b ∷ c ∷ d ∷ []))

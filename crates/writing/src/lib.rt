@@ -10,9 +10,10 @@ ghost use mathlib.Core.List.{[], _∷_};
 ghost use Prim.Native.Nat.{_+_, _*_, _≤_};
 ghost use lib.Dec.{ltb};
 ghost use lib.ListN.{length, set};
+ghost use lib.Seq.{sets};
 ghost use Rattle.meaning.specs.Tree.{if_then_else_};
 ghost use Rattle.meaning.specs.File.{twoBytes};
-ghost use Rattle.writing.specs.Writing.{stored, fieldWith, ownOr, scopeBytes, symbolBytes, recordBytes, rowsBytes, recordAt, fileBytes};
+ghost use Rattle.writing.specs.Writing.{fieldWith, ownOr, scopeBytes, symbolBytes, recordBytes, rowsBytes, recordAt, fileBytes};
 
 // ---- bytes
 
@@ -28,7 +29,7 @@ fn put(out: &mut [u8], at: usize, v: u8)
 // A number, high byte first.
 fn put_two(out: &mut [u8], at: usize, v: u16)
     requires { ⌜ at ≤ 3000000 ⌝ }
-    ensures { λ _. ⌜ now (out .exit) ≡ stored (now (out .entry)) at (twoBytes (v ∷ [])) ⌝ }
+    ensures { λ _. ⌜ now (out .exit) ≡ sets (now (out .entry)) at (twoBytes (v ∷ [])) ⌝ }
 {
     put(out, at, (v / 256) as u8);
     put(out, at + 1, (v % 256) as u8);
@@ -37,7 +38,7 @@ fn put_two(out: &mut [u8], at: usize, v: u16)
 // Number i of the field at an offset, if it has as many.
 fn put_number(out: &mut [u8], at: usize, count: u8, i: u8, v: u16)
     requires { ⌜ at ≤ 2500000 ⌝ }
-    ensures { λ _. ⌜ now (out .exit) ≡ (if ltb i count then stored (now (out .entry)) (at + 3 + 2 * i) (twoBytes (v ∷ [])) else now (out .entry)) ⌝ }
+    ensures { λ _. ⌜ now (out .exit) ≡ (if ltb i count then sets (now (out .entry)) (at + 3 + 2 * i) (twoBytes (v ∷ [])) else now (out .entry)) ⌝ }
 {
     if i < count {
         put_two(out, at + 3 + 2 * (i as usize), v);
@@ -47,7 +48,7 @@ fn put_number(out: &mut [u8], at: usize, count: u8, i: u8, v: u16)
 // A field with as many of these numbers as its tag has.
 fn put_field(out: &mut [u8], at: usize, tag: u8, a: u16, b: u16, c: u16, d: u16)
     requires { ⌜ at ≤ 2500000 ⌝ }
-    ensures { λ _. ⌜ now (out .exit) ≡ stored (now (out .entry)) at (fieldWith tag a b c d) ⌝ }
+    ensures { λ _. ⌜ now (out .exit) ≡ sets (now (out .entry)) at (fieldWith tag a b c d) ⌝ }
 {
     let count = fields::numbers_of(tag);
     put(out, at, tag);
@@ -61,7 +62,7 @@ fn put_field(out: &mut [u8], at: usize, tag: u8, a: u16, b: u16, c: u16, d: u16)
 // ---- rows
 
 fn put_scopes(out: &mut [u8], scopes: &[u16], count: u16)
-    ensures { λ _. ⌜ now (out .exit) ≡ stored (now (out .entry)) 7 (rowsBytes (scopeBytes (now (scopes .entry))) 0 count) ⌝ }
+    ensures { λ _. ⌜ now (out .exit) ≡ sets (now (out .entry)) 7 (rowsBytes (scopeBytes (now (scopes .entry))) 0 count) ⌝ }
 {
     let mut k: u16 = 0;
     while k < count {
@@ -81,7 +82,7 @@ fn put_scopes(out: &mut [u8], scopes: &[u16], count: u16)
 
 fn put_symbol(out: &mut [u8], to: usize, symbols: &[u16], k: u16)
     requires { ⌜ to ≤ 2500000 ⌝ }
-    ensures { λ _. ⌜ now (out .exit) ≡ stored (now (out .entry)) to (symbolBytes (now (symbols .entry)) k) ⌝ }
+    ensures { λ _. ⌜ now (out .exit) ≡ sets (now (out .entry)) to (symbolBytes (now (symbols .entry)) k) ⌝ }
 {
     let at = (k as usize) * 5;
     let name = tables::get(symbols, at);
@@ -100,7 +101,7 @@ fn put_symbol(out: &mut [u8], to: usize, symbols: &[u16], k: u16)
 
 fn put_symbols(out: &mut [u8], first: usize, symbols: &[u16], count: u16)
     requires { ⌜ first ≤ 500000 ⌝ }
-    ensures { λ _. ⌜ now (out .exit) ≡ stored (now (out .entry)) first (rowsBytes (symbolBytes (now (symbols .entry))) 0 count) ⌝ }
+    ensures { λ _. ⌜ now (out .exit) ≡ sets (now (out .entry)) first (rowsBytes (symbolBytes (now (symbols .entry))) 0 count) ⌝ }
 {
     let mut k: u16 = 0;
     while k < count {
@@ -121,7 +122,7 @@ fn own_or(own: u8, i: u8, v: u16, n: u16) -> u16
 // A record at an offset; the offset behind it.
 fn put_record(out: &mut [u8], at: usize, r: Row) -> usize
     requires { ⌜ at ≤ 2500000 ⌝ }
-    ensures bytes { λ _. ⌜ now (out .exit) ≡ stored (now (out .entry)) at (recordBytes r) ⌝ }
+    ensures bytes { λ _. ⌜ now (out .exit) ≡ sets (now (out .entry)) at (recordBytes r) ⌝ }
     ensures next { λ e. ⌜ e ≡ at + length (recordBytes r) ⌝ }
 {
     let tag = (r.tag % 256) as u8;
@@ -141,7 +142,7 @@ fn put_record(out: &mut [u8], at: usize, r: Row) -> usize
 
 fn put_records(out: &mut [u8], tree: usize, records: &[u16], count: u16)
     requires { ⌜ tree ≤ 1500000 ⌝ }
-    ensures { λ _. ⌜ now (out .exit) ≡ stored (now (out .entry)) tree (rowsBytes (recordAt (now (records .entry))) 0 count) ⌝ }
+    ensures { λ _. ⌜ now (out .exit) ≡ sets (now (out .entry)) tree (rowsBytes (recordAt (now (records .entry))) 0 count) ⌝ }
 {
     let mut at = tree;
     let mut k: u16 = 0;
@@ -155,7 +156,7 @@ fn put_records(out: &mut [u8], tree: usize, records: &[u16], count: u16)
 
 // Writes the settings, the scope and symbol rows and the records visited.
 pub fn write(walk: Walk, records: &[u16], scopes: &[u16], symbols: &[u16], out: &mut [u8])
-    ensures { λ _. ⌜ now (out .exit) ≡ stored (now (out .entry)) 0 (fileBytes (now (records .entry)) (now (scopes .entry)) (now (symbols .entry)) walk) ⌝ }
+    ensures { λ _. ⌜ now (out .exit) ≡ sets (now (out .entry)) 0 (fileBytes (now (records .entry)) (now (scopes .entry)) (now (symbols .entry)) walk) ⌝ }
 {
     let ctx = walk.ctx;
     let first = 7 + 7 * (ctx.scopes as usize);

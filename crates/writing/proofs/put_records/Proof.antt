@@ -3,7 +3,8 @@ use mathlib.Core.Path.{_≡_, refl, _∙_}
 use Prim.Native.Nat.{_+_, _*_, _-_, _≤_}
 use native.Mathlib.Nat.{sub-zero}
 use lib.ListN.{length}
-use Rattle.writing.specs.Writing.{stored, rowsBytes, recordAt}
+use lib.Seq.{sets}
+use Rattle.writing.specs.Writing.{rowsBytes, recordAt}
 use Rattle.writing.specs.Stored.{rows-last}
 use Rattle.writing.proofs.Laws.{next-most, records-turn}
 use borrow.Author.Needs.{needs}
@@ -13,7 +14,7 @@ use Rattle.writing.proofs.put_records.Tie as tie
 abbrev Inv-loop : tie.InvT-loop
 Inv-loop out₀ tree records count at₀ k₀ out at k =
     (k ≤ count) × (at ≤ tree + 11 * k) × (length out ≡ length out₀)
-    × (stored out₀ tree (rowsBytes (recordAt records) 0 count) ≡ stored out at (rowsBytes (recordAt records) k (count - k)))
+    × (sets out₀ tree (rowsBytes (recordAt records) 0 count) ≡ sets out at (rowsBytes (recordAt records) k (count - k)))
 
 abbrev μ-loop : tie.MeasureT-loop
 μ-loop out₀ tree records count at₀ k₀ out at k =

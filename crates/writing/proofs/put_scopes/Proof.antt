@@ -3,7 +3,8 @@ use mathlib.Core.Path.{_≡_, refl, _∙_}
 use Prim.Native.Nat.{_+_, _*_, _-_, _≤_}
 use native.Mathlib.Nat.{sub-zero}
 use lib.ListN.{length}
-use Rattle.writing.specs.Writing.{stored, scopeBytes, rowsBytes}
+use lib.Seq.{sets}
+use Rattle.writing.specs.Writing.{scopeBytes, rowsBytes}
 use Rattle.writing.specs.Stored.{rows-last}
 use Rattle.writing.proofs.Laws.{scopes-turn}
 use borrow.Author.Needs.{needs}
@@ -13,7 +14,7 @@ use Rattle.writing.proofs.put_scopes.Tie as tie
 abbrev Inv-loop : tie.InvT-loop
 Inv-loop out₀ scopes count k₀ out k =
     (k ≤ count) × (length out ≡ length out₀)
-    × (stored out₀ 7 (rowsBytes (scopeBytes scopes) 0 count) ≡ stored out (7 + 7 * k) (rowsBytes (scopeBytes scopes) k (count - k)))
+    × (sets out₀ 7 (rowsBytes (scopeBytes scopes) 0 count) ≡ sets out (7 + 7 * k) (rowsBytes (scopeBytes scopes) k (count - k)))
 
 abbrev μ-loop : tie.MeasureT-loop
 μ-loop out₀ scopes count k₀ out k =

@@ -1,16 +1,16 @@
 -- `writing::put_two` meets its contract. Assumes nothing.
+use native.Mathlib.Numerals.{add-one}
 use Rattle.meaning.specs.File.{twoBytes}
-use Rattle.writing.specs.Writing.{stored}
 use borrow.Author.Needs.{needs}
 use Rattle.writing.proofs.put_two.Statement.{statement}
 use Rattle.writing.proofs.put_two.Tie as tie
 
 returns : tie.Need-returns
-unfolding stored twoBytes
+unfolding twoBytes
 returns c =
     let at-put2 = c .before .before in
     let at-put = at-put2 .before .before .before .before in
-    rw (at-put2 .put2 .ensures, at-put .put .ensures)
+    rw (at-put2 .put2 .ensures, at-put .put .ensures, add-one _)
 
 pub put-two-spec : {M : Type 1} → statement M
 put-two-spec =
