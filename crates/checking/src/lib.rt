@@ -294,13 +294,13 @@ fn more_scopes(file: &[u8], k: usize, at: usize) -> bool
     if k == 0 {
         return true;
     }
-    fields::byte(file, at) == 41
+    fields::read_tag(file, at) == 41
 }
 
 fn more_symbols(file: &[u8], at: usize) -> bool
     ensures { λ r. ⌜ r ≡ eqb (getD (now (file .entry)) at 0) 42 ⌝ }
 {
-    fields::byte(file, at) == 42
+    fields::read_tag(file, at) == 42
 }
 
 pub fn read_scopes(file: &[u8], from: usize) -> Rows

@@ -4,7 +4,7 @@ use meaning::Place;
 use meaning::Reading;
 ghost use mathlib.Core.Path.{_≡_};
 ghost use mathlib.Core.List.{[], _∷_, _++_};
-ghost use Prim.Native.Nat.{_+_, _≤_};
+ghost use Prim.Native.Nat.{_+_, _*_, _≤_};
 ghost use lib.ListN.{getD, length};
 ghost use Rattle.meaning.specs.Tree.{oneOf};
 ghost use Rattle.meaning.specs.File.{numbersOf};
@@ -19,6 +19,12 @@ pub fn byte(file: &[u8], at: usize) -> u8
     if at < file.len() { file[at] } else { 0 }
 }
 
+fn join(high: u8, low: u8) -> u16
+    ensures { λ r. ⌜ r ≡ high * 256 + low ⌝ }
+{
+    (high as u16) * 256 + (low as u16)
+}
+
 // Two bytes as a number, high byte first; a missing byte reads as 0.
 pub fn read_two(file: &[u8], at: usize) -> u16
     ensures { λ r. ⌜ r ≡ two (now (file .entry)) at ⌝ }
@@ -29,7 +35,7 @@ pub fn read_two(file: &[u8], at: usize) -> u16
     } else {
         0
     };
-    (high as u16) * 256 + (low as u16)
+    join(high, low)
 }
 
 // How many numbers a tag has.
@@ -149,19 +155,20 @@ pub fn is_allowed(place: Place, tag: u8) -> bool
     }
 }
 
-// Number i of the field at an offset, or 0 where the field has no such number.
+// Number i of the whole field at an offset, or 0 where the field has no such number.
 fn read_number(file: &[u8], at: usize, len: u8, i: u8) -> u16
-    requires { ⌜ at + 3 ≤ length (now file) ⌝ }
+    requires { ⌜ at + (3 + 2 * len) ≤ length (now file) ⌝ }
     ensures { λ r. ⌜ r ≡ number (now (file .entry)) at len i ⌝ }
 {
     if i < len {
-        return read_two(file, at + 3 + 2 * (i as usize));
+        let from = at + 3 + 2 * (i as usize);
+        return join(file[from], file[from + 1]);
     }
     0
 }
 
 // The field at an offset: head cut, tag, length, payload cut.
-pub fn read_field(file: &[u8], place: Place, at: usize) -> Reading
+fn field_at(file: &[u8], place: Place, at: usize) -> Reading
     ensures { λ r. ⌜ r ≡ fieldAt (now (file .entry)) place at ⌝ }
 {
     if file.len() <= at {
@@ -189,4 +196,49 @@ pub fn read_field(file: &[u8], place: Place, at: usize) -> Reading
         d: read_number(file, at, len, 3),
         next: at + (3 + 2 * (len as usize)),
     })
+}
+
+// ---- the file reader
+
+// The file reader: the lent file, and an offset in it.
+pub struct Reader<'a> {
+    pub file: &'a [u8],
+    pub at: usize,
+}
+
+impl<'a> Reader<'a> {
+    // A reader at an offset of a file.
+    pub fn new(file: &'a [u8], at: usize) -> Reader<'a>
+        ensures { λ r. ⌜ (r .file ≡ file .entry) × (r .at ≡ at) ⌝ }
+    {
+        Reader { file, at }
+    }
+
+    // The tag at the offset, or 0 behind the end.
+    pub fn tag(self) -> u8
+        ensures { λ r. ⌜ r ≡ getD (now (self .entry .file)) (self .entry .at) 0 ⌝ }
+    {
+        byte(self.file, self.at)
+    }
+
+    // The field at the offset: head cut, tag, length, payload cut.
+    pub fn field(self, place: Place) -> Reading
+        ensures { λ r. ⌜ r ≡ fieldAt (now (self .entry .file)) place (self .entry .at) ⌝ }
+    {
+        field_at(self.file, place, self.at)
+    }
+}
+
+// The tag at an offset of a file.
+pub fn read_tag(file: &[u8], at: usize) -> u8
+    ensures { λ r. ⌜ r ≡ getD (now (file .entry)) at 0 ⌝ }
+{
+    Reader::new(file, at).tag()
+}
+
+// The field at an offset of a file.
+pub fn read_field(file: &[u8], place: Place, at: usize) -> Reading
+    ensures { λ r. ⌜ r ≡ fieldAt (now (file .entry)) place at ⌝ }
+{
+    Reader::new(file, at).field(place)
 }

@@ -1,7 +1,6 @@
 -- What the code of this crate computes.
 -- Assumes nothing.
 use mathlib.Core.List.{List}
-use mathlib.Core.Bool.{Bool}
 use Prim.Native.Nat.{ℕ, _*_, min}
 use lib.Dec.{leb}
 use lib.ListN.{length}
@@ -12,14 +11,12 @@ use Rattle.figures.specs.declared.Figured.the-variants.{Fine, Refused as Refuse
 use Rattle.tables.specs.Loops.{until}
 use Rattle.path.specs.Path.{Tables}
 use Rattle.start.specs.Flat.{fillF}
-use Rattle.walk.specs.Visit.{isOverF, visitF}
+use Rattle.walk.specs.Visit.{visitF}
+use Rattle.walk.specs.Plain.{isOverIn}
 use Rattle.writing.specs.Writing.{fileBytes}
 use Rattle.lowering.specs.Lower.{Finished, finished, zerosFor}
 use Rattle.lowering.specs.declared.Lowered.{Lowered}
 use Rattle.lowering.specs.declared.Lowered.the-variants.{Written, Refused}
-
-abbrev pub isOverIn : Tables → Bool
-isOverIn q = isOverF (q .records) (q .walk)
 
 -- visits until the walk is over, so many at most
 unfoldable pub visitAllF : ℕ → Tables → Tables

@@ -37,7 +37,8 @@ use Rattle.ending.specs.Last.{last-spot, last-over, last-figures}
 use Rattle.ending.specs.ReadBack.{Tagged}
 use Rattle.ending.specs.Length.{tagged-length}
 use Rattle.lowering.specs.Lower.{finished, zerosFor, writtenOver, lowerOf, lowerF}
-use Rattle.lowering.specs.Flat.{isOverIn, visitAllF, outputF, runF, lowerBy}
+use Rattle.walk.specs.Plain.{isOverIn}
+use Rattle.lowering.specs.Flat.{visitAllF, outputF, runF, lowerBy}
 use Rattle.lowering.specs.Bytes.{held-bytes}
 use Rattle.lowering.specs.declared.Lowered.the-variants.{Written as WrittenIn, Refused}
 

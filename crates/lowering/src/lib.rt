@@ -32,8 +32,9 @@ fn visit_all(
         if walk::is_over(w, records) {
             break;
         }
-        w = walk::visit(w, records, scopes, symbols);
-        k += 1;
+        let v = walk::visit_some(w, limit - k, records, scopes, symbols);
+        w = v.walk;
+        k += v.visits;
     }
     w
 }

@@ -12,25 +12,26 @@ use Rattle.meaning.specs.Tree.{if_then_else_}
 use Rattle.meaning.specs.Scoping.{noScope, noSymbol, rowAt, binds, lastBinding, getBinding, findBinding}
 use Rattle.tables.specs.Table.{capped}
 use Rattle.scoping.specs.Rows.{scopeNumber, symbolNumber, scopeAt, scopesF, symbolAt, symbolsF, storeF}
+use Rattle.scoping.specs.Search.{bindingFrom}
 use Rattle.scoping.specs.declared.Ctx.{Ctx}
 
 module _ (t : List ℕ) (f n scope name : ℕ) where
   -- the last of n rows that binds a name, where `found` is the last one before row i
-  abbrev pub bindingFrom : ℕ → ℕ → ℕ
-  bindingFrom i found = lastBinding (symbolsF t f (n - i) i) scope name (suc i) found
+  abbrev from : ℕ → ℕ → ℕ
+  from i found = bindingFrom t f n scope name i found
 
-  pub binding-first : getBinding (symbolsF t f n 0) scope name ≡ bindingFrom 0 0
+  pub binding-first : getBinding (symbolsF t f n 0) scope name ≡ from 0 0
   binding-first = let s : n - 0 ≡ n = omega arith in rw s
 
   pub binding-turn : (i found more : ℕ)
-      → i < n → n ≤ 65535 → more ≡ (if binds (symbolAt t f i) scope name then capped i 1 else found) → bindingFrom i found ≡ bindingFrom (i + 1) more
+      → i < n → n ≤ 65535 → more ≡ (if binds (symbolAt t f i) scope name then capped i 1 else found) → from i found ≡ from (i + 1) more
   unfolding symbolsF lastBinding capped
   binding-turn i found more h m e =
       let s : n - i ≡ suc (n - (i + 1)) = omega arith in
       let c : capped i 1 ≡ suc i = omega arith in
       rw (s, e, c, add-one)
 
-  pub binding-last : (i found : ℕ) → n ≤ i → bindingFrom i found ≡ found
+  pub binding-last : (i found : ℕ) → n ≤ i → from i found ≡ found
   unfolding symbolsF lastBinding
   binding-last i found h = let s : n - i ≡ 0 = omega arith in rw s
 

@@ -5,11 +5,13 @@
 use meaning::ScopeId;
 use meaning::SymbolId;
 ghost use mathlib.Core.Path.{_≡_};
+ghost use Prim.Native.Nat.{_+_, _*_, _-_, _<_};
 ghost use Rattle.meaning.specs.Tree.{if_then_else_};
 ghost use Rattle.meaning.specs.Scoping.{binds, getBinding, findBinding, isBound};
 ghost use Rattle.meaning.specs.ForOf.{bindsName};
 ghost use Rattle.tables.specs.Table.{capped};
 ghost use Rattle.scoping.specs.Rows.{withScope, withSymbol, withContext, withHelper, scopeNumber, symbolNumber, setScopeF, setSymbolF, symbolAt, symbolsF, storeF, blockScoped};
+ghost use Rattle.scoping.specs.Search.{nextRowF, bindingFrom};
 ghost use Rattle.scoping.specs.Candidates.{noCandidate, addCandidateF, candidatesF, climbsF};
 ghost use Rattle.scoping.specs.Changes.{inScopes, inSymbols, createChildScopeF, changeScopeParentF, setScopeFlagsF, insertScopeBetweenF, createSymbolF, moveBindingF, setSymbolFlagsF, movesF, moveBoundF, moveBlockScopedF};
 
@@ -181,6 +183,58 @@ pub fn set_symbol_flags(symbols: &mut [u16], ctx: Ctx, y: SymbolId, flags: u16)
     put_symbol(symbols, ctx.symbols, y, 1, flags);
 }
 
+// ---- the next row that has a number in a column
+
+// The first of eight rows from row i on that has the number in column f, or the row behind them.
+fn next_of_eight(symbols: &[u16], f: u16, want: u16, i: u16) -> u16
+    requires { do ⌜ i * 5 + f + 35 < (← ⟦symbols.len()⟧) ⌝ }
+    requires { ⌜ i + 8 < 65536 ⌝ }
+    ensures { λ r. ⌜ r ≡ nextRowF (now (symbols .entry)) f want 8 i ⌝ }
+{
+    let at = (i as usize) * 5 + (f as usize);
+    let mut j: u16 = 0;
+    while j < 8 {
+        if symbols[at + (j as usize) * 5] == want {
+            return i + j;
+        }
+        j += 1;
+    }
+    i + 8
+}
+
+// The first row from row i on that has the number in column f, or `count`: row by row.
+fn next_near(symbols: &[u16], count: u16, f: u16, want: u16, i: u16) -> u16
+    ensures { λ r. ⌜ r ≡ nextRowF (now (symbols .entry)) f want (count - i) i ⌝ }
+{
+    let mut k = i;
+    while k < count {
+        if tables::get(symbols, (k as usize) * 5 + (f as usize)) == want {
+            return k;
+        }
+        k += 1;
+    }
+    k
+}
+
+// The same: eight rows at a time, as long as there are eight in the table.
+fn next_row(symbols: &[u16], count: u16, f: u16, want: u16, i: u16) -> u16
+    ensures { λ r. ⌜ r ≡ nextRowF (now (symbols .entry)) f want (count - i) i ⌝ }
+{
+    let stop = tables::minus(count, 7);
+    let mut k = i;
+    while k < stop {
+        if symbols.len() <= (k as usize) * 5 + (f as usize) + 35 {
+            break;
+        }
+        let r = next_of_eight(symbols, f, want, k);
+        if r < k + 8 {
+            return r;
+        }
+        k = r;
+    }
+    next_near(symbols, count, f, want, k)
+}
+
 // ---- bindings
 
 // The row after i others binds the name in the scope; column f has the scope.
@@ -207,17 +261,32 @@ fn found_at(symbols: &[u16], i: u16, f: u16, scope: ScopeId, name: u16, found: u
     found
 }
 
+// The last of `count` rows that binds the name, where `before` is the last one before row `start`; column f has the scope.
+fn binding_from(
+    symbols: &[u16],
+    count: u16,
+    f: u16,
+    scope: ScopeId,
+    name: u16,
+    start: u16,
+    before: u16,
+) -> u16
+    ensures { λ r. ⌜ r ≡ bindingFrom (now (symbols .entry)) f count (scope .0) name start before ⌝ }
+{
+    let mut found = before;
+    let mut i = next_row(symbols, count, 0, name, start);
+    while i < count {
+        found = found_at(symbols, i, f, scope, name, found);
+        i = next_row(symbols, count, 0, name, i + 1);
+    }
+    found
+}
+
 // `get_binding`: the last of `count` rows that binds the name, or 0; column f has the scope.
 pub fn get_binding(symbols: &[u16], count: u16, f: u16, scope: ScopeId, name: u16) -> SymbolId
     ensures { λ r. ⌜ r .0 ≡ getBinding (symbolsF (now (symbols .entry)) f count 0) (scope .0) name ⌝ }
 {
-    let mut i: u16 = 0;
-    let mut found: u16 = 0;
-    while i < count {
-        found = found_at(symbols, i, f, scope, name, found);
-        i += 1;
-    }
-    SymbolId(found)
+    SymbolId(binding_from(symbols, count, f, scope, name, 0, 0))
 }
 
 // The name seen from a scope, or 0: all symbol rows are looked at for each scope on the way outwards.
@@ -275,10 +344,10 @@ fn find_candidates(symbols: &[u16], count: u16, name: u16) -> Candidates
         row: 0,
         scope: 0,
     };
-    let mut i: u16 = 0;
+    let mut i = next_row(symbols, count, 0, name, 0);
     while i < count {
         seen = add_candidate(symbols, i, name, seen);
-        i += 1;
+        i = next_row(symbols, count, 0, name, i + 1);
     }
     seen
 }
@@ -342,9 +411,10 @@ fn is_block_scoped(flags: u16) -> bool
     flags / 8 % 2 == 1
 }
 
-// The row after i others is bound in the scope: a unique name, or the last row of its name.
-fn is_bound(symbols: &[u16], ctx: Ctx, scope: ScopeId, i: u16) -> bool
-    ensures { λ r. ⌜ r ≡ isBound (symbolsF (now (symbols .entry)) 2 (ctx .symbols) 0) (scope .0) (capped i 1) (symbolAt (now (symbols .entry)) 2 i) ⌝ }
+// The row after i others is bound in the scope: a unique name, or the last row of its name, so that only the rows behind it are looked at.
+fn is_bound(symbols: &[u16], count: u16, scope: ScopeId, i: u16) -> bool
+    requires { ⌜ i < count ⌝ }
+    ensures { λ r. ⌜ r ≡ isBound (symbolsF (now (symbols .entry)) 2 count 0) (scope .0) (capped i 1) (symbolAt (now (symbols .entry)) 2 i) ⌝ }
 {
     let at = (i as usize) * 5;
     if tables::get(symbols, at + 2) != scope.0 {
@@ -354,22 +424,24 @@ fn is_bound(symbols: &[u16], ctx: Ctx, scope: ScopeId, i: u16) -> bool
         return true;
     }
     let name = tables::get(symbols, at);
-    let last = get_binding(symbols, ctx.symbols, 2, scope, name);
-    last.0 == tables::plus(i, 1)
+    let y = i + 1;
+    binding_from(symbols, count, 2, scope, name, y, y) == y
 }
 
 // The row after i others is bound in the scope, block-scoped or as a class.
 fn moves(symbols: &[u16], ctx: Ctx, from: ScopeId, i: u16) -> bool
+    requires { ⌜ i < ctx .symbols ⌝ }
     ensures { λ r. ⌜ r ≡ movesF (inSymbols (now (symbols .entry)) ctx) (from .0) i ⌝ }
 {
-    if is_bound(symbols, ctx, from, i) {
-        return is_block_scoped(tables::get(symbols, (i as usize) * 5 + 1));
+    if is_block_scoped(tables::get(symbols, (i as usize) * 5 + 1)) {
+        return is_bound(symbols, ctx.symbols, from, i);
     }
     false
 }
 
 // Such a row moves.
 fn move_bound(symbols: &mut [u16], ctx: Ctx, from: ScopeId, to: ScopeId, i: u16)
+    requires { ⌜ i < ctx .symbols ⌝ }
     ensures { λ _. ⌜ now (symbols .exit) ≡ moveBoundF (inSymbols (now (symbols .entry)) ctx) (from .0) (to .0) i ⌝ }
 {
     if moves(symbols, ctx, from, i) {
@@ -382,9 +454,9 @@ pub fn move_block_scoped(symbols: &mut [u16], ctx: Ctx, from: ScopeId, to: Scope
     ensures { λ _. ⌜ now (symbols .exit) ≡ moveBlockScopedF (inSymbols (now (symbols .entry)) ctx) (from .0) (to .0) ⌝ }
 {
     let count = ctx.symbols;
-    let mut i: u16 = 0;
+    let mut i = next_row(symbols, count, 2, from.0, 0);
     while i < count {
         move_bound(symbols, ctx, from, to, i);
-        i += 1;
+        i = next_row(symbols, count, 2, from.0, i + 1);
     }
 }

@@ -27,17 +27,17 @@ clear-last t₀ t i e l d = sym (take-all i t (omega arith)) ∙ (e ∙ ap (λ (
 
 -- ---- the offset behind a field
 
-pub next-most : (f : List ℕ) (at n : ℕ) (x : Field) → x ≡ fieldOf f at → at ≤ 65535 + 11 * n → x .next ≤ 65535 + 11 * (n + 1)
+pub next-most : (f : List ℕ) (at n next : ℕ) → next ≡ fieldOf f at .next → at ≤ 65535 + 11 * n → next ≤ 65535 + 11 * (n + 1)
 unfolding fieldOf fieldBytes
-next-most f at n x e h = rw e (omega (arith, numbers-most (getD f at 0)))
+next-most f at n next e h = rw e (omega (arith, numbers-most (getD f at 0)))
 
 -- ---- records
 
-pub count-turn : (r : Counting) (f : List ℕ) (at n : ℕ) (x : Field)
-    → r ≡ until (65535 - n) (counted f) (countOne f) (counting at n) → n < 65535 → at < length f → x ≡ fieldOf f at
-    → r ≡ until (65535 - (n + 1)) (counted f) (countOne f) (counting (x .next) (n + 1))
+pub count-turn : (r : Counting) (f : List ℕ) (at n next : ℕ)
+    → r ≡ until (65535 - n) (counted f) (countOne f) (counting at n) → n < 65535 → at < length f → next ≡ fieldOf f at .next
+    → r ≡ until (65535 - (n + 1)) (counted f) (countOne f) (counting next (n + 1))
 unfolding countOne
-count-turn r f at n x e h l d = rw d (go-on 65535 n (counted f) (countOne f) r (counting at n) e h (lt-leb (length f) at l))
+count-turn r f at n next e h l d = rw d (go-on 65535 n (counted f) (countOne f) r (counting at n) e h (lt-leb (length f) at l))
 
 pub fill-turn : (r : Filling) (f t t′ : List ℕ) (end at k : ℕ) (x : Field) (row : Row)
     → r ≡ turns (end - k) (nextRecord f) (filling t at k) → k < end → x ≡ fieldOf f at → row ≡ recordF x → t′ ≡ setRowF t k row

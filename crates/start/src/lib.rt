@@ -145,6 +145,15 @@ fn number_at(file: &[u8], at: usize, len: u8, i: u8) -> u16
     0
 }
 
+// Where the field behind that at an offset begins.
+fn next_at(file: &[u8], at: usize) -> usize
+    requires { ⌜ at ≤ 1000000 ⌝ }
+    ensures { λ r. ⌜ r ≡ fieldOf (now (file .entry)) at .next ⌝ }
+{
+    let len = fields::numbers_of(fields::byte(file, at));
+    at + (3 + 2 * (len as usize))
+}
+
 // The field at an offset, whatever stands there.
 fn field_at(file: &[u8], at: usize) -> Field
     requires { ⌜ at ≤ 1000000 ⌝ }
@@ -198,8 +207,7 @@ fn count_records(file: &[u8], tree: u16) -> u16
         if size <= at {
             break;
         }
-        let x = field_at(file, at);
-        at = x.next;
+        at = next_at(file, at);
         n += 1;
     }
     n

@@ -8,7 +8,7 @@
 // list that is rewritten moves. A row is named by the number of rows up to it, from 1 on; a place between rows by the row before it.
 use meaning::RecordId;
 ghost use mathlib.Core.Path.{_≡_};
-ghost use Prim.Native.Nat.{_-_};
+ghost use Prim.Native.Nat.{_+_, _-_, _≤_};
 ghost use lib.ListN.{getD, set};
 ghost use Rattle.tables.specs.Table.{capped, columnF, rowF, setColumnF, setRowF, madeF, moveRowF, endF};
 ghost use Rattle.tables.specs.Stream.{buf, emitF, passAsF, passF, copyF, backF, takeBackF};
@@ -76,8 +76,8 @@ pub fn put_column(records: &mut [u16], after: RecordId, f: u16, v: u16)
     put(records, (after.0 as usize) * 7 + (f as usize), v);
 }
 
-// The row after another.
-pub fn row_after(records: &[u16], after: RecordId) -> Row
+// The row after another, where the table may end inside it.
+fn row_by_column(records: &[u16], after: RecordId) -> Row
     ensures { λ r. ⌜ r ≡ rowF (now (records .entry)) (after .0) ⌝ }
 {
     Row {
@@ -91,7 +91,26 @@ pub fn row_after(records: &[u16], after: RecordId) -> Row
     }
 }
 
-pub fn put_row(records: &mut [u16], after: RecordId, r: Row)
+// The row after another.
+pub fn row_after(records: &[u16], after: RecordId) -> Row
+    ensures { λ r. ⌜ r ≡ rowF (now (records .entry)) (after .0) ⌝ }
+{
+    let at = (after.0 as usize) * 7;
+    if records.len() < at + 7 {
+        return row_by_column(records, after);
+    }
+    Row {
+        tag: records[at],
+        a: records[at + 1],
+        b: records[at + 2],
+        c: records[at + 3],
+        n: records[at + 4],
+        up: records[at + 5],
+        left: records[at + 6],
+    }
+}
+
+fn put_by_column(records: &mut [u16], after: RecordId, r: Row)
     ensures { λ _. ⌜ now (records .exit) ≡ setRowF (now (records .entry)) (after .0) r ⌝ }
 {
     put_column(records, after, 0, r.tag);
@@ -101,6 +120,23 @@ pub fn put_row(records: &mut [u16], after: RecordId, r: Row)
     put_column(records, after, 4, r.n);
     put_column(records, after, 5, r.up);
     put_column(records, after, 6, r.left);
+}
+
+pub fn put_row(records: &mut [u16], after: RecordId, r: Row)
+    ensures { λ _. ⌜ now (records .exit) ≡ setRowF (now (records .entry)) (after .0) r ⌝ }
+{
+    let at = (after.0 as usize) * 7;
+    if records.len() < at + 7 {
+        put_by_column(records, after, r);
+    } else {
+        records[at] = r.tag;
+        records[at + 1] = r.a;
+        records[at + 2] = r.b;
+        records[at + 3] = r.c;
+        records[at + 4] = r.n;
+        records[at + 5] = r.up;
+        records[at + 6] = r.left;
+    }
 }
 
 // A row that is not open.
@@ -118,12 +154,44 @@ pub fn made(tag: u16, a: u16, b: u16, c: u16, n: u16) -> Row
     }
 }
 
+// Clears the row after one place and stores a row after another, where the table may end before them.
+fn move_by_column(records: &mut [u16], from: RecordId, to: RecordId, r: Row)
+    ensures { λ _. ⌜ now (records .exit) ≡ moveRowF (now (records .entry)) (from .0) (to .0) r ⌝ }
+{
+    put_by_column(records, from, made(0, 0, 0, 0, 0));
+    put_by_column(records, to, r);
+}
+
+fn larger(x: usize, y: usize) -> usize
+    ensures { λ r. ⌜ (x ≤ r) × (y ≤ r) × (r ≤ x + y) ⌝ }
+{
+    if x < y { y } else { x }
+}
+
 // Clears the row after one place and stores a row after another.
 pub fn move_row(records: &mut [u16], from: RecordId, to: RecordId, r: Row)
     ensures { λ _. ⌜ now (records .exit) ≡ moveRowF (now (records .entry)) (from .0) (to .0) r ⌝ }
 {
-    put_row(records, from, made(0, 0, 0, 0, 0));
-    put_row(records, to, r);
+    let i = (from.0 as usize) * 7;
+    let j = (to.0 as usize) * 7;
+    if records.len() < larger(i, j) + 7 {
+        move_by_column(records, from, to, r);
+    } else {
+        records[i] = 0;
+        records[i + 1] = 0;
+        records[i + 2] = 0;
+        records[i + 3] = 0;
+        records[i + 4] = 0;
+        records[i + 5] = 0;
+        records[i + 6] = 0;
+        records[j] = r.tag;
+        records[j + 1] = r.a;
+        records[j + 2] = r.b;
+        records[j + 3] = r.c;
+        records[j + 4] = r.n;
+        records[j + 5] = r.up;
+        records[j + 6] = r.left;
+    }
 }
 
 // The row after `count` subtrees, as the last of theirs.

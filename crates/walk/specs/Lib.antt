@@ -1,2 +1,3 @@
 -- The walk on tables.
 pub mod Visit
+pub mod Plain

@@ -4,7 +4,9 @@ use path::Walk;
 use statements::Plan;
 use tables::Cursor;
 ghost use mathlib.Core.Path.{_≡_};
+ghost use Rattle.meaning.specs.Tree.{oneOf};
 ghost use Rattle.path.specs.Path.{tables};
+ghost use Rattle.walk.specs.Plain.{rewritten, isPlainF, entering, stopsF, enterSomeF, visiting, visitSomeF};
 ghost use Rattle.walk.specs.Visit.{planNextF, rewriteProgramF, rewriteBlockF, rewriteBodyF, rewriteForF, rewriteSwitchF, rewriteTryF, rewriteForOfF, rewriteF, leaveBlockF, leaveF, isLeavingF, isOverF, visitF};
 
 // ---- what entering a record rewrites
@@ -192,18 +194,97 @@ pub fn is_over(walk: Walk, records: &[u16]) -> bool
     walk.end.0 <= walk.gap.0
 }
 
+// The tags that `rewrite` has something to do for.
+fn may_rewrite(tag: u16) -> bool
+    ensures { λ r. ⌜ r ≡ oneOf rewritten tag ⌝ }
+{
+    match tag {
+        1 => true,
+        2 => true,
+        4 => true,
+        7 => true,
+        8 => true,
+        9 => true,
+        11 => true,
+        14 => true,
+        _ => false,
+    }
+}
+
+// The next visit enters a record with another tag.
+fn is_plain(records: &[u16], w: Walk) -> bool
+    ensures { λ r. ⌜ r ≡ isPlainF (now (records .entry)) w ⌝ }
+{
+    if is_leaving(records, w) {
+        return false;
+    }
+    if w.end.0 <= w.gap.0 {
+        return false;
+    }
+    !may_rewrite(tables::column(records, w.gap, 0))
+}
+
+// After the first record, one that may ask for a rewrite is not entered.
+fn stops(records: &[u16], w: Walk, visits: u32) -> bool
+    ensures { λ r. ⌜ r ≡ stopsF (entering (now (records .entry)) w visits) ⌝ }
+{
+    if visits == 0 {
+        return false;
+    }
+    !is_plain(records, w)
+}
+
+// Where the walk stands after some visits, and how many they were.
+pub struct Visited {
+    pub walk: Walk,
+    pub visits: u32,
+}
+
+// Enters the next record, and those behind it that ask for no rewrite, `limit` at most.
+fn enter_some(walk: Walk, limit: u32, records: &mut [u16]) -> Visited
+    ensures { λ r. ⌜ entering (now (records .exit)) (r .walk) (r .visits) ≡ enterSomeF limit (now (records .entry)) walk ⌝ }
+{
+    let mut w = walk;
+    let mut visits: u32 = 0;
+    while visits < limit {
+        if stops(records, w, visits) {
+            break;
+        }
+        w = path::enter(records, w);
+        visits += 1;
+    }
+    Visited { walk: w, visits }
+}
+
+// The next visit, and those after it that only enter a record, `limit` at most: as `visit` one by one, in less time.
+pub fn visit_some(
+    walk: Walk,
+    limit: u32,
+    records: &mut [u16],
+    scopes: &mut [u16],
+    symbols: &mut [u16],
+) -> Visited
+    ensures { λ r. ⌜ visiting (tables (now (records .exit)) (now (scopes .exit)) (now (symbols .exit)) (r .walk)) (r .visits) ≡ visitSomeF limit (tables (now (records .entry)) (now (scopes .entry)) (now (symbols .entry)) walk) ⌝ }
+{
+    if is_leaving(records, walk) {
+        Visited {
+            walk: leave(records, scopes, symbols, walk),
+            visits: 1,
+        }
+    } else {
+        if walk.gap.0 < walk.end.0 {
+            let w = rewrite(records, scopes, symbols, walk);
+            enter_some(w, limit, records)
+        } else {
+            Visited { walk, visits: 1 }
+        }
+    }
+}
+
 // The next visit; after the last nothing changes.
 pub fn visit(walk: Walk, records: &mut [u16], scopes: &mut [u16], symbols: &mut [u16]) -> Walk
     ensures { λ r. ⌜ tables (now (records .exit)) (now (scopes .exit)) (now (symbols .exit)) r ≡ visitF (tables (now (records .entry)) (now (scopes .entry)) (now (symbols .entry)) walk) ⌝ }
 {
-    if is_leaving(records, walk) {
-        leave(records, scopes, symbols, walk)
-    } else {
-        if walk.gap.0 < walk.end.0 {
-            let w = rewrite(records, scopes, symbols, walk);
-            path::enter(records, w)
-        } else {
-            walk
-        }
-    }
+    let v = visit_some(walk, 1, records, scopes, symbols);
+    v.walk
 }

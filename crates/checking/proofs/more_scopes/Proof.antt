@@ -10,7 +10,7 @@ returns c = rw (eq-eqb _ _ (c .if1 .taken))
 returns-2 : tie.Need-returns-2
 returns-2 c =
     let at-if1 = c .before in
-    rw (ne-eqb _ _ (at-if1 .if1 .left), ← c .byte .ensures)
+    rw (ne-eqb _ _ (at-if1 .if1 .left), ← c .read-tag .ensures)
 
 pub more-scopes-spec : {M : Type 1} → statement M
 more-scopes-spec = tie.close (tie.spec returns (λ c κs. search needs) returns-2)

@@ -1,12 +1,14 @@
 -- `lowering::visit_all` meets its contract. Assumes nothing.
 use mathlib.Core.Path.{_≡_, refl, sym, _∙_}
-use Prim.Native.Nat.{_-_, _≤_}
+use Prim.Native.Nat.{_+_, _-_, _≤_}
 use native.Mathlib.Nat.{sub-zero}
+use native.Mathlib.Omega.{arith}
 use lib.ListN.{length}
-use Rattle.tables.specs.Loops.{until, go-on, run-out, stopped}
+use Rattle.tables.specs.Loops.{until, run-out, stopped}
 use Rattle.path.specs.Path.{tables}
 use Rattle.walk.specs.Visit.{visitF}
-use Rattle.lowering.specs.Flat.{isOverIn, visitAllF}
+use Rattle.walk.specs.Plain.{isOverIn, some-go-on}
+use Rattle.lowering.specs.Flat.{visitAllF}
 use borrow.Author.Needs.{needs}
 use Rattle.lowering.proofs.visit_all.Statement.{statement}
 use Rattle.lowering.proofs.visit_all.Tie as tie
@@ -24,14 +26,35 @@ abbrev μ-loop : tie.MeasureT-loop
 loop-holds : tie.Need-loop-holds Inv-loop μ-loop
 loop-holds c = (search needs, refl, refl, refl, rw sub-zero)
 
-loop-again : tie.Need-loop-again Inv-loop μ-loop
-loop-again c =
-    let at-visit = c .before .before .before .before .before .before in
-    let at-if1 = at-visit .before .before .before .before in
+add-k : tie.Need-add-k Inv-loop μ-loop
+add-k c =
+    let at-visit-some = c .before .before .before .before .before .before .before .before in
+    let at-if1 = at-visit-some .before .before .before .before in
     let at-is-over = at-if1 .before in
     let at-loop-test = at-is-over .before .before in
     let at-loop = at-loop-test .before in
-    (search needs, at-visit .visit .kept .1 .0 ∙ at-loop .loop .inv .1, at-visit .visit .kept .1 .1 .0 ∙ at-loop .loop .inv .2, at-visit .visit .kept .1 .1 .1 .0 ∙ at-loop .loop .inv .3, rw (at-visit .visit .ensures) (go-on _ _ _ _ _ _ (at-loop .loop .inv .4) (at-loop-test .loop-test .taken) ((sym (at-is-over .is-over .ensures)) ∙ at-if1 .if1 .left)))
+    let go = some-go-on _ _ _ _ _ (at-loop .loop .inv .4) (at-loop-test .loop-test .taken) (sym (at-is-over .is-over .ensures) ∙ at-if1 .if1 .left) (at-visit-some .visit-some .ensures) in
+    omega (arith, go .1, at-loop .before .before .before .before .fits)
+
+loop-less : tie.Need-loop-less Inv-loop μ-loop
+loop-less c =
+    let at-visit-some = c .before .before .before .before .before .before .before .before in
+    let at-if1 = at-visit-some .before .before .before .before in
+    let at-is-over = at-if1 .before in
+    let at-loop-test = at-is-over .before .before in
+    let at-loop = at-loop-test .before in
+    let go = some-go-on _ _ _ _ _ (at-loop .loop .inv .4) (at-loop-test .loop-test .taken) (sym (at-is-over .is-over .ensures) ∙ at-if1 .if1 .left) (at-visit-some .visit-some .ensures) in
+    omega (arith, go .0, go .1)
+
+loop-again : tie.Need-loop-again Inv-loop μ-loop
+loop-again c =
+    let at-visit-some = c .before .before .before .before .before .before .before .before in
+    let at-if1 = at-visit-some .before .before .before .before in
+    let at-is-over = at-if1 .before in
+    let at-loop-test = at-is-over .before .before in
+    let at-loop = at-loop-test .before in
+    let go = some-go-on _ _ _ _ _ (at-loop .loop .inv .4) (at-loop-test .loop-test .taken) (sym (at-is-over .is-over .ensures) ∙ at-if1 .if1 .left) (at-visit-some .visit-some .ensures) in
+    (go .1, at-visit-some .visit-some .kept .1 .1 .0 ∙ at-loop .loop .inv .1, at-visit-some .visit-some .kept .1 .1 .1 .0 ∙ at-loop .loop .inv .2, at-visit-some .visit-some .kept .1 .1 .1 .1 .0 ∙ at-loop .loop .inv .3, go .2)
 
 returns : tie.Need-returns Inv-loop μ-loop
 unfolding visitAllF
@@ -52,4 +75,4 @@ pub visit-all-spec : {M : Type 1} → statement M
 visit-all-spec =
     tie.close
     (tie.spec
-    Inv-loop μ-loop loop-holds (λ c κs. search needs) (λ c κs. search needs) (λ c. search needs) (λ c. search needs) loop-again (λ c. search needs) (λ c. search needs) (λ c. search needs) returns (λ c. search needs) (λ c. search needs) (λ c. search needs) returns-2)
+    Inv-loop μ-loop loop-holds (λ c κs. search needs) (λ c. search needs) (λ c κs. search needs) add-k loop-less loop-again (λ c. search needs) (λ c. search needs) (λ c. search needs) returns (λ c. search needs) (λ c. search needs) (λ c. search needs) returns-2)

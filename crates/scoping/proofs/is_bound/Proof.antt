@@ -1,6 +1,9 @@
 -- `scoping::is_bound` meets its contract. Assumes nothing.
+use mathlib.Core.Path.{sym, _∙_}
+use native.Mathlib.Omega.{arith}
 use Rattle.meaning.specs.Scoping.{isBound}
 use Rattle.scoping.specs.Rows.{symbolAt}
+use Rattle.scoping.proofs.Skips.{bound-last}
 use borrow.Author.Tests.{eq-eqb, ne-eqb}
 use borrow.Author.Needs.{needs}
 use Rattle.scoping.proofs.is_bound.Statement.{statement}
@@ -23,19 +26,18 @@ returns-2 c =
     rw (← at-get .get .ensures, eq-eqb _ _ (at-if1 .if1 .left), ← at-get2 .get2 .ensures, ne-eqb _ _ (at-if2 .if2 .taken))
 
 returns-3 : tie.Need-returns-3
-unfolding isBound symbolAt
 returns-3 c =
-    let at-plus = c .before in
-    let at-get-binding = at-plus .before in
-    let at-get3 = at-get-binding .before in
+    let at-binding-from = c in
+    let at-get3 = at-binding-from .before in
     let at-if2 = at-get3 .before in
     let at-get2 = at-if2 .before in
     let at-if1 = at-get2 .before in
     let at-get = at-if1 .before .before in
-    rw (← at-get .get .ensures, eq-eqb _ _ (at-if1 .if1 .left), ← at-get2 .get2 .ensures, eq-eqb _ _ (at-if2 .if2 .left), ← at-get3 .get3 .ensures, ← at-get-binding .get-binding .ensures, ← at-plus .plus .ensures)
+    let at-start = at-get .before .before in
+    bound-last _ _ _ _ _ _ (at-start .pre) (omega (arith, at-start .fits)) (sym (at-get .get .ensures) ∙ at-if1 .if1 .left) (sym (at-get2 .get2 .ensures) ∙ at-if2 .if2 .left) (sym (at-get3 .get3 .ensures)) (at-binding-from .binding-from .ensures)
 
 pub is-bound-spec : {M : Type 1} → statement M
 is-bound-spec =
     tie.close
     (tie.spec
-    (λ c. search needs) (λ c. search needs) (λ c κs. search needs) returns (λ c. search needs) (λ c κs. search needs) returns-2 (λ c κs. search needs) (λ c κs. search needs) (λ c κs. search needs) returns-3)
+    (λ c. search needs) (λ c. search needs) (λ c κs. search needs) returns (λ c. search needs) (λ c κs. search needs) returns-2 (λ c κs. search needs) (λ c. search needs) (λ c κs. search needs) returns-3)

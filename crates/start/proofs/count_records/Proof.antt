@@ -22,14 +22,14 @@ loop-holds c = (search needs, search needs, refl)
 
 loop-again : tie.Need-loop-again Inv-loop μ-loop
 loop-again c =
-    let at-field-at = c in
-    let at-if1 = at-field-at .before in
+    let at-next-at = c in
+    let at-if1 = at-next-at .before in
     let at-loop-test = at-if1 .before in
     let at-loop = at-loop-test .before in
     let i = at-loop .loop .inv in (
       search needs,
-      next-most _ _ _ _ (at-field-at .field-at .ensures) (i .1),
-      count-turn _ _ _ _ _ (i .2) (at-loop-test .loop-test .taken) (at-if1 .if1 .left) (at-field-at .field-at .ensures),
+      next-most _ _ _ _ (at-next-at .next-at .ensures) (i .1),
+      count-turn _ _ _ _ _ (i .2) (at-loop-test .loop-test .taken) (at-if1 .if1 .left) (at-next-at .next-at .ensures),
     )
 
 returns : tie.Need-returns Inv-loop μ-loop

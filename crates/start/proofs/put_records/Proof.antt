@@ -2,6 +2,7 @@
 use mathlib.Core.Path.{_≡_, refl, ap, _∙_}
 use Prim.Native.Nat.{_+_, _*_, _-_, _≤_}
 use lib.ListN.{length}
+use Rattle.meaning.specs.declared.Field.{Field}
 use Rattle.tables.specs.Loops.{turns, last-turn}
 use Rattle.start.specs.Flat.{Filling, filling, nextRecord, recordsF}
 use Rattle.start.proofs.Laws.{next-most, fill-turn}
@@ -29,7 +30,7 @@ loop-again c =
     let at-loop = at-loop-test .before in
     let i = at-loop .loop .inv in (
       search needs,
-      next-most _ _ _ _ (at-field-at .field-at .ensures) (i .1),
+      next-most _ _ _ _ (ap (λ (x : Field). x .next) (at-field-at .field-at .ensures)) (i .1),
       at-put-row .put-row .kept .0 ∙ i .2,
       fill-turn _ _ _ _ _ _ _ _ _ (i .3) (at-loop-test .loop-test .taken) (at-field-at .field-at .ensures) (at-row-of .row-of .ensures)
           (at-put-row .put-row .ensures),

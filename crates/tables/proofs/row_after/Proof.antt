@@ -1,23 +1,16 @@
 -- `tables::row_after` meets its contract. Assumes nothing.
-use Rattle.tables.specs.Table.{rowF}
+use native.Mathlib.Nat.{add-zero}
+use Rattle.tables.specs.Table.{rowF, columnF}
 use borrow.Author.Needs.{needs}
 use Rattle.tables.proofs.row_after.Statement.{statement}
 use Rattle.tables.proofs.row_after.Tie as tie
 
-returns : tie.Need-returns
-unfolding rowF
-returns c =
-    let at-column7 = c in
-    let at-column6 = at-column7 .before in
-    let at-column5 = at-column6 .before in
-    let at-column4 = at-column5 .before in
-    let at-column3 = at-column4 .before in
-    let at-column2 = at-column3 .before in
-    let at-column = at-column2 .before in
-    rw (← at-column .column .ensures, ← at-column2 .column2 .ensures, ← at-column3 .column3 .ensures, ← at-column4 .column4 .ensures, ← at-column5 .column5 .ensures, ← at-column6 .column6 .ensures, ← at-column7 .column7 .ensures)
+returns-2 : tie.Need-returns-2
+unfolding rowF columnF
+returns-2 c = rw add-zero
 
 pub row-after-spec : {M : Type 1} → statement M
 row-after-spec =
     tie.close
     (tie.spec
-    (λ c κs. search needs) (λ c κs. search needs) (λ c κs. search needs) (λ c κs. search needs) (λ c κs. search needs) (λ c κs. search needs) (λ c κs. search needs) returns)
+    (λ c. search needs) (λ c. search needs) (λ c. search needs) (λ c κs. search needs) (λ c. search needs) (λ c. search needs) (λ c. search needs) (λ c. search needs) (λ c. search needs) (λ c. search needs) (λ c. search needs) (λ c. search needs) (λ c. search needs) (λ c. search needs) (λ c. search needs) (λ c. search needs) (λ c. search needs) (λ c. search needs) (λ c. search needs) (λ c. search needs) (λ c. search needs) (λ c. search needs) (λ c. search needs) (λ c. search needs) (λ c. search needs) returns-2)

@@ -1,0 +1,209 @@
+-- Visits made in one call: the next one, and those behind it that only enter a record. They are visits like any other.
+-- Assumes nothing.
+use mathlib.Core.Path.{_≡_, refl, sym, ap, _∙_}
+use mathlib.Core.Bool.{Bool, true, false, not, _&&_, _||_, true≢false}
+use mathlib.Core.List.{List, [], _∷_}
+use Prim.Native.Nat.{ℕ, zero, suc, _+_, _-_, _≤_, _<_}
+use native.Mathlib.Nat.{add-zero}
+use native.Mathlib.Omega.{arith}
+use borrow.Author.Tests.{ltb-true, ltb-false, lt-leb, le-leb, ne-eqb}
+use lib.Dec.{eqb, leb, ltb}
+use Rattle.meaning.specs.Tree.{if_then_else_, oneOf}
+use Rattle.tables.specs.Table.{columnF}
+use Rattle.tables.specs.Loops.{until}
+use Rattle.path.specs.Path.{Tables, tables, OnRecords, onRecords, enterF}
+use Rattle.path.specs.declared.Walk.{Walk}
+use Rattle.walk.specs.Visit.{rewriteF, leaveF, isLeavingF, isOverF, visitF}
+
+-- the tags that may ask for a rewrite
+abbrev pub rewritten : List ℕ
+rewritten = 1 ∷ 2 ∷ 4 ∷ 7 ∷ 8 ∷ 9 ∷ 11 ∷ 14 ∷ []
+
+-- the next visit enters a record with another tag
+unfoldable pub isPlainF : List ℕ → Walk → Bool
+isPlainF t w =
+    not (isLeavingF t w) && (ltb (w .gap .0) (w .end .0) && not (oneOf rewritten (columnF t (w .gap .0) 0)))
+
+-- the record table, the walk, and how many visits were made
+pub record Entering : Type 0 where
+  pub records : List ℕ
+  pub walk : Walk
+  pub visits : ℕ
+
+abbrev pub entering : List ℕ → Walk → ℕ → Entering
+entering t w k = record { records = t; walk = w; visits = k }
+
+abbrev pub stopsF : Entering → Bool
+stopsF e = not (eqb (e .visits) 0) && not (isPlainF (e .records) (e .walk))
+
+unfoldable pub enterOneF : Entering → Entering
+enterOneF e =
+    let q = enterF (onRecords (e .records) (e .walk)) in
+    entering (q .records) (q .walk) (e .visits + 1)
+
+-- a record is entered, and those behind it with such a tag, n at most
+unfoldable pub enterSomeF : ℕ → List ℕ → Walk → Entering
+enterSomeF n t w = until n stopsF enterOneF (entering t w 0)
+
+-- the tables, and how many visits were made
+pub record Visiting : Type 0 where
+  pub tables : Tables
+  pub visits : ℕ
+
+abbrev pub visiting : Tables → ℕ → Visiting
+visiting q k = record { tables = q; visits = k }
+
+-- THE NEXT VISITS, n at most, on any tables
+unfoldable pub visitSomeF : ℕ → Tables → Visiting
+visitSomeF n q =
+    let q₁ = rewriteF q in
+    let e = enterSomeF n (q₁ .records) (q₁ .walk) in
+    if isLeavingF (q .records) (q .walk) then visiting (leaveF q) 1
+    else if ltb (q .walk .gap .0) (q .walk .end .0) then visiting (tables (e .records) (q₁ .scopes) (q₁ .symbols) (e .walk)) (e .visits)
+    else visiting q 1
+
+-- ---- they are visits
+
+-- tests that hold together
+and-holds : (a b : Bool) → (a && b) ≡ true → (a ≡ true) × (b ≡ true)
+and-holds true b e = (refl, e)
+and-holds false b e = absurd (true≢false (sym e))
+
+fails : (a : Bool) → not a ≡ true → a ≡ false
+fails false e = refl
+fails true e = absurd (true≢false (sym e))
+
+none-of : (a b : Bool) → (a || b) ≡ false → (a ≡ false) × (b ≡ false)
+none-of false b e = (refl, e)
+none-of true b e = absurd (true≢false e)
+
+-- no other tag asks for a rewrite
+no-rewrite : (q : Tables) → oneOf rewritten (columnF (q .records) (q .walk .gap .0) 0) ≡ false → rewriteF q ≡ q
+unfolding rewriteF
+no-rewrite q e =
+    let t = columnF (q .records) (q .walk .gap .0) 0 in
+    let n₁ = none-of (eqb t 1) _ e in
+    let n₂ = none-of (eqb t 2) _ (n₁ .1) in
+    let n₄ = none-of (eqb t 4) _ (n₂ .1) in
+    let n₇ = none-of (eqb t 7) _ (n₄ .1) in
+    let n₈ = none-of (eqb t 8) _ (n₇ .1) in
+    let n₉ = none-of (eqb t 9) _ (n₈ .1) in
+    let n₁₁ = none-of (eqb t 11) _ (n₉ .1) in
+    let n₁₄ = none-of (eqb t 14) _ (n₁₁ .1) in
+    rw (n₁ .0, n₂ .0, n₄ .0, n₇ .0, n₈ .0, n₉ .0, n₁₁ .0, n₁₄ .0)
+
+module _ (r s y : List ℕ) (w : Walk) (plain : isPlainF r w ≡ true) where
+  parts : (isLeavingF r w ≡ false) × (ltb (w .gap .0) (w .end .0) ≡ true)
+      × (oneOf rewritten (columnF r (w .gap .0) 0) ≡ false)
+  unfolding isPlainF
+  parts =
+      let a = and-holds _ _ plain in
+      let b = and-holds _ _ (a .1) in
+      (fails _ (a .0), b .0, fails _ (b .1))
+
+  pub plain-visit : visitF (tables r s y w) ≡ tables (enterF (onRecords r w) .records) s y (enterF (onRecords r w) .walk)
+  unfolding visitF
+  plain-visit = rw (parts .0, parts .1, no-rewrite (tables r s y w) (parts .2))
+
+  pub plain-goes-on : isOverF r w ≡ false
+  unfolding isOverF
+  plain-goes-on = rw (parts .0, lt-leb (w .end .0) (w .gap .0) (ltb-true _ _ (parts .1)))
+
+-- one of them is the visit
+tables-of : (a b : Bool) (x y z : Tables) (k : ℕ)
+    → (if a then visiting x 1 else if b then visiting y k else visiting z 1) .tables ≡ (if a then x else if b then y else z)
+tables-of true b x y z k = refl
+tables-of false true x y z k = refl
+tables-of false false x y z k = refl
+
+pub one-visit : (q : Tables) → visitSomeF 1 q .tables ≡ visitF q
+unfolding visitSomeF visitF enterSomeF until enterOneF
+one-visit q = tables-of (isLeavingF (q .records) (q .walk)) (ltb (q .walk .gap .0) (q .walk .end .0)) _ _ _ _
+
+-- visits are made one by one, or some of them at once
+abbrev pub isOverIn : Tables → Bool
+isOverIn q = isOverF (q .records) (q .walk)
+
+-- n visits at most from (r, w) on: `e` is where some of them lead that only enter, k of them being made before
+abbrev AtOnce : ℕ → ℕ → List ℕ → List ℕ → List ℕ → Walk → Entering → Type 0
+AtOnce n k r s y w e =
+    (k ≤ e .visits) × (e .visits ≤ n + k)
+    × (until n isOverIn visitF (tables r s y w) ≡ until (n + k - e .visits) isOverIn visitF (tables (e .records) s y (e .walk)))
+
+none-made : (n k : ℕ) (r s y : List ℕ) (w : Walk) → AtOnce n k r s y w (entering r w k)
+none-made n k r s y w =
+    let all : n + k - k ≡ n = omega arith in
+    (omega arith, omega arith, rw all)
+
+begun : (k : ℕ) → 1 ≤ k → eqb k 0 ≡ false
+begun k h = ne-eqb k 0 (λ e. omega arith)
+
+one-made : (b : Bool) (n k : ℕ) (r s y : List ℕ) (w : Walk) → 1 ≤ k → isPlainF r w ≡ b
+    → ((r₁ : List ℕ) (w₁ : Walk) → AtOnce n (k + 1) r₁ s y w₁ (until n stopsF enterOneF (entering r₁ w₁ (k + 1))))
+    → AtOnce (suc n) k r s y w (until (suc n) stopsF enterOneF (entering r w k))
+unfolding until enterOneF
+one-made false n k r s y w h e go = rw (begun k h, e) (none-made (suc n) k r s y w)
+one-made true n k r s y w h e go =
+    let q = enterF (onRecords r w) in
+    let g = go (q .records) (q .walk) in
+    let v = until n stopsF enterOneF (entering (q .records) (q .walk) (k + 1)) .visits in
+    let same : suc n + k - v ≡ n + (k + 1) - v = omega arith in
+    rw (begun k h, e, plain-goes-on r s y w e, plain-visit r s y w e, same) (omega (arith, g .0), omega (arith, g .1), g .2)
+
+-- behind the first
+at-once : (n k : ℕ) (r s y : List ℕ) (w : Walk) → 1 ≤ k → AtOnce n k r s y w (until n stopsF enterOneF (entering r w k))
+unfolding until
+at-once zero k r s y w h = none-made zero k r s y w
+at-once (suc n) k r s y w h = one-made (isPlainF r w) n k r s y w h refl (λ r₁ w₁. at-once n (k + 1) r₁ s y w₁ (omega arith))
+
+-- where they lead, the other visits go on
+abbrev Goes : ℕ → Tables → Visiting → Type 0
+Goes n q v = (1 ≤ v .visits) × (v .visits ≤ n) × (until n isOverIn visitF q ≡ until (n - v .visits) isOverIn visitF (v .tables))
+
+module _ (m : ℕ) (q : Tables) (goes : isOverIn q ≡ false) where
+  left : suc m - 1 ≡ m
+  left = omega arith
+
+  leaves : isLeavingF (q .records) (q .walk) ≡ true → Goes (suc m) q (visitSomeF (suc m) q)
+  unfolding visitSomeF visitF until
+  leaves e = rw (e, goes, left) (omega arith, omega arith, refl)
+
+  enters : isLeavingF (q .records) (q .walk) ≡ false → ltb (q .walk .gap .0) (q .walk .end .0) ≡ true
+      → Goes (suc m) q (visitSomeF (suc m) q)
+  unfolding visitSomeF visitF until enterSomeF enterOneF
+  enters e f =
+      let q₁ = rewriteF q in
+      let o = enterF (onRecords (q₁ .records) (q₁ .walk)) in
+      let g = at-once m 1 (o .records) (q₁ .scopes) (q₁ .symbols) (o .walk) (omega arith) in
+      let v = until m stopsF enterOneF (entering (o .records) (o .walk) 1) .visits in
+      let same : suc m - v ≡ m + 1 - v = omega arith in
+      rw (e, f, goes, same) (g .0, omega (arith, g .1), g .2)
+
+  not-both : isLeavingF (q .records) (q .walk) ≡ false → ltb (q .walk .gap .0) (q .walk .end .0) ≡ false → ⊥
+  unfolding isOverF
+  not-both e f = true≢false (rw (e, le-leb (q .walk .end .0) (q .walk .gap .0) (ltb-false _ _ f)) at goes)
+
+  by-turn : (a b : Bool) → isLeavingF (q .records) (q .walk) ≡ a → ltb (q .walk .gap .0) (q .walk .end .0) ≡ b
+      → Goes (suc m) q (visitSomeF (suc m) q)
+  by-turn true b e f = leaves e
+  by-turn false true e f = enters e f
+  by-turn false false e f = absurd (not-both e f)
+
+  some-at-once : Goes (suc m) q (visitSomeF (suc m) q)
+  some-at-once = by-turn _ _ refl refl
+
+none : 1 ≤ 0 → ⊥
+none h = omega arith
+
+goes-on : (n : ℕ) (q : Tables) (v : Visiting) → 1 ≤ n → isOverIn q ≡ false → v ≡ visitSomeF n q → Goes n q v
+goes-on zero q v h g e = absurd (none h)
+goes-on (suc m) q v h g e = rw e (some-at-once m q g)
+
+-- in a loop of n visits at most, after k of them
+pub some-go-on : (n k : ℕ) (r q : Tables) (v : Visiting) → r ≡ until (n - k) isOverIn visitF q → k < n → isOverIn q ≡ false
+    → v ≡ visitSomeF (n - k) q
+    → (1 ≤ v .visits) × (k + v .visits ≤ n) × (r ≡ until (n - (k + v .visits)) isOverIn visitF (v .tables))
+some-go-on n k r q v e h g is =
+    let o = goes-on (n - k) q v (omega arith) g is in
+    let same : n - (k + v .visits) ≡ n - k - v .visits = omega arith in
+    (o .0, omega (arith, o .1), e ∙ rw same (o .2))
