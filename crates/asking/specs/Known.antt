@@ -40,9 +40,8 @@ use Rattle.meaning.specs.Reading.{
 use Rattle.meaning.specs.declared.Place.{Place}
 use Rattle.meaning.specs.declared.Place.the-variants.{Settings, Program}
 use Rattle.meaning.specs.declared.Field.{Field}
-use Rattle.tags.specs.Tags.{Seen, other, here, there, seen, clash, and-left}
+use Rattle.tags.specs.Tags.{Seen, other, here, there, seen, clash, and-left, and-right}
 use Rattle.totals.specs.Accepted.{Holds, bind, bind-any, ensured}
-use Rattle.counts.specs.Enter.{and-right}
 use Rattle.asking.specs.Everywhere.{Everywhere}
 
 -- A Declaration has no mark, the symbol of a Name is one of so many rows, and so is the context of a Call.

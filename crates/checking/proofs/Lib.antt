@@ -2,6 +2,7 @@
 pub mod Laws
 pub mod Cap
 pub mod Body
+pub mod Leaf
 pub mod Link
 pub mod Files
 pub mod Figured

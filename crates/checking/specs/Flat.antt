@@ -1,11 +1,12 @@
 -- What the check computes: the reader's answers and marks, with no tree.
 -- Assumes nothing.
 use Prim.Native.Nat.{ℕ, zero, suc, _+_, _*_}
+use mathlib.Core.Bool.{Bool, not, _&&_}
 use mathlib.Core.List.{List}
-use lib.Dec.{leb}
-use lib.ListN.{length, replicate}
+use lib.Dec.{eqb, leb}
+use lib.ListN.{getD, length, replicate}
 use Rattle.meaning.specs.Tree.{if_then_else_}
-use Rattle.meaning.specs.Grammar.{fieldAt, right, scopeOf, below, childrenOf, placeOf, headOf, mayName, naming, unnamed}
+use Rattle.meaning.specs.Grammar.{allowed, two, fieldAt, isRow, right, scopeOf, below, childrenOf, placeOf, headOf, mayName, naming, unnamed}
 use Rattle.meaning.specs.Reading.{Outcome, accepted, refused, _>>=_, _>>_, ensure, field, symbolsIn, readScopes, readSymbols}
 use Rattle.meaning.specs.declared.Place.{Place}
 use Rattle.meaning.specs.declared.Place.the-variants.{Settings, Program}
@@ -22,7 +23,7 @@ use Rattle.checking.specs.declared.RowCounts.{RowCounts}
 use Rattle.checking.specs.declared.Whole.{Whole}
 use Rattle.checking.specs.declared.Whole.the-variants.{Accepted, Refused as RefusedFile}
 use Rattle.meaning.specs.Statements.{isUsing}
-use Rattle.tallies.specs.Tally.{upOf, bodyUp, insertsIn, noTally, _⊞_, cap, own}
+use Rattle.tallies.specs.Tally.{upIndex, upOf, bodyUp, insertsIn, noTally, _⊞_, cap, own}
 use Rattle.tallies.specs.declared.Tally.{Tally}
 use Rattle.tallies.specs.declared.Up.{Up}
 use Rattle.tallies.specs.declared.Up.the-variants.{Plain}
@@ -50,6 +51,31 @@ past (RefusedAnswer c p) m = refused c p
 abbrev pub refusalOf : Reading → Answer
 refusalOf (WholeField x) = RefusedAnswer 0 0
 refusalOf (RefusedField c p) = RefusedAnswer c p
+
+-- ---- leaves: plain records without scope and children
+
+-- a field with this tag may stand here, and is whole with `len` bytes of numbers
+unfoldable pub isWhole : List ℕ → Place → ℕ → ℕ → ℕ → Bool
+isWhole f p tag len at = leb (at + (3 + len)) (length f) && allowed p tag && eqb (two f (at + 1)) len
+
+-- the bytes of the 24 at an offset where it is right and has no children, or 0
+unfoldable pub expressionSize : List ℕ → Place → ℕ → ℕ
+expressionSize f p at = if isWhole f p 24 4 at && eqb (two f (at + 5)) 0 then 7 else 0
+
+-- the same of a 25 or 26
+unfoldable pub mentionSize : List ℕ → Place → ℕ → ℕ → ℕ → ℕ
+mentionSize f p syms tag at = if isWhole f p tag 2 at && isRow syms (two f (at + 3)) then 5 else 0
+
+-- the bytes of the leaf at an offset, or 0 where there is none
+unfoldable pub leafSize : List ℕ → Place → Up → ℕ → ℕ → ℕ → ℕ
+leafSize f p u syms l at =
+    let tag = getD f at 0 in
+    if not (eqb l 0) && eqb (upIndex u) 0
+    then (if eqb tag 24 then expressionSize f p at
+    else if eqb tag 25 then mentionSize f p syms 25 at
+    else if eqb tag 26 then mentionSize f p syms 26 at
+    else 0)
+    else 0
 
 -- ---- records
 

@@ -17,7 +17,7 @@ ghost use Rattle.meaning.specs.Grammar.{mayName, naming, unnamed};
 ghost use Rattle.meaning.specs.Reading.{scopeAt, symbolAt, readScopes, readSymbols, readFile};
 ghost use Rattle.meaning.specs.Lowering.{figuresOf};
 ghost use Rattle.figures.specs.Figures.{figuredOf};
-ghost use Rattle.checking.specs.Flat.{entered, enterF, refusalOf, past, recordF, childrenF, afterF, rowsRefusal, treeF, fileRefusal, fileRows, runAnswer, rowsF, fileF, checkedOf};
+ghost use Rattle.checking.specs.Flat.{isWhole, expressionSize, mentionSize, leafSize, entered, enterF, refusalOf, past, recordF, childrenF, afterF, rowsRefusal, treeF, fileRefusal, fileRows, runAnswer, rowsF, fileF, checkedOf};
 
 // The offset behind what was checked and the tally so far, or a refusal's number and place.
 enum Answer {
@@ -98,6 +98,73 @@ fn refusal(r: Reading) -> Answer
     match r {
         Reading::Whole(_) => Answer::Refused(0, 0),
         Reading::Refused(c, p) => Answer::Refused(c, p),
+    }
+}
+
+// ---- leaves: plain records without scope and children, passed at once
+
+// A field with this tag may stand here, and is whole with `len` bytes of numbers; its tag is not looked at.
+fn is_whole(file: &[u8], place: Place, tag: u8, len: u16, at: usize) -> bool
+    ensures { λ r. ⌜ r ≡ isWhole (now (file .entry)) place tag len at ⌝ }
+{
+    if file.len() <= at {
+        return false;
+    }
+    if file.len() - at < 3 + (len as usize) {
+        return false;
+    }
+    if !fields::is_allowed(place, tag) {
+        return false;
+    }
+    fields::read_two(file, at + 1) == len
+}
+
+// The bytes of the 24 at an offset where it is right and has no children, or 0.
+fn expression_size(file: &[u8], place: Place, at: usize) -> u32
+    ensures { λ r. ⌜ r ≡ expressionSize (now (file .entry)) place at ⌝ }
+{
+    if !is_whole(file, place, 24, 4, at) {
+        return 0;
+    }
+    if fields::read_two(file, at + 5) != 0 {
+        return 0;
+    }
+    7
+}
+
+// The same of a 25 or 26, which has a symbol row and never children.
+fn mention_size(file: &[u8], place: Place, symbols: usize, tag: u8, at: usize) -> u32
+    ensures { λ r. ⌜ r ≡ mentionSize (now (file .entry)) place symbols tag at ⌝ }
+{
+    if !is_whole(file, place, tag, 2, at) {
+        return 0;
+    }
+    let row = fields::read_two(file, at + 3) as usize;
+    if row < 1 {
+        return 0;
+    }
+    if symbols < row {
+        return 0;
+    }
+    5
+}
+
+// The bytes of the leaf at an offset, or 0 where there is none or its check could refuse it.
+fn leaf_size(file: &[u8], place: Place, up: Up, symbols: usize, levels: u16, at: usize) -> u32
+    ensures { λ r. ⌜ r ≡ leafSize (now (file .entry)) place up symbols levels at ⌝ }
+{
+    if levels == 0 {
+        return 0;
+    }
+    if !tallies::is_plain(up) {
+        return 0;
+    }
+    let tag = fields::byte(file, at);
+    match tag {
+        24 => expression_size(file, place, at),
+        25 => mention_size(file, place, symbols, 25, at),
+        26 => mention_size(file, place, symbols, 26, at),
+        _ => 0,
     }
 }
 
@@ -183,19 +250,13 @@ fn check_child(
 ) -> Answer
     ensures { λ r. ⌜ past r (now (marks .exit)) ≡ recordF levels (now (file .entry)) (rows .scopes) (rows .symbols) place up (cur .0) before at (now (marks .entry)) ⌝ }
 {
+    let size = leaf_size(file, place, up, rows.symbols as usize, levels, at);
+    if size != 0 {
+        let next = at + (size as usize);
+        return Answer::Next(next, tallies::add_leaf(before, size));
+    }
     match place {
-        Place::Expression => check_expression(
-            file,
-            marks,
-            rows,
-            place,
-            up,
-            cur,
-            before,
-            at,
-            levels,
-        ),
-        Place::SwitchExpression => check_expression(
+        Place::Expression | Place::SwitchExpression => check_expression(
             file,
             marks,
             rows,

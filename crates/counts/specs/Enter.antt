@@ -26,7 +26,7 @@ use Rattle.meaning.specs.Program.{enterProgram}
 use Rattle.meaning.specs.Walk.{isStaticBlock, Act, keep, forOfAct, actOf, enterAs, leave}
 use Rattle.meaning.specs.Charges.{Line, ofStaticBlock, initializers, wraps, contextLines}
 use Rattle.meaning.specs.VisitCharges.{standing, enterLines, visitsAs, visitsIn}
-use Rattle.tags.specs.Tags.{Seen, other, here, there, seen, clash, and-left}
+use Rattle.tags.specs.Tags.{Seen, other, here, there, seen, and-left, and-right}
 use Rattle.totals.specs.Roles.{Lacks}
 use Rattle.growth.specs.ForOf.{Named}
 use Rattle.growth.specs.Program.{Exports}
@@ -36,10 +36,6 @@ use Rattle.counts.specs.TakenUp.{Labelled}
 use Rattle.counts.specs.Tries.{Opens, block-opens, body-opens, for-opens, switch-opens, try-opens}
 use Rattle.counts.specs.ForOf.{insert-opens, wrap-opens}
 use Rattle.counts.specs.Program.{Kinds, program-opens}
-
-pub and-right : (a b : Bool) → (a && b) ≡ true → b ≡ true
-and-right true b e = e
-and-right false b e = absurd (clash refl e)
 
 -- ---- what a record must be
 

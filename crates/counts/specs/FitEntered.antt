@@ -92,9 +92,9 @@ use Rattle.meaning.specs.Walk.{
   enterAs,
   enter,
 }
-use Rattle.tags.specs.Tags.{Seen, other, here, there, seen, clash, and-left}
+use Rattle.tags.specs.Tags.{Seen, other, here, there, seen, clash, and-left, and-right}
 use Rattle.totals.specs.Roles.{Lacks}
-use Rattle.counts.specs.Enter.{Fit, and-right}
+use Rattle.counts.specs.Enter.{Fit}
 use Rattle.counts.specs.Fits.{Fits, easy, catch-fit, fits-&, list-fits, cases-fit, loop-fits, declared-fits, try-fits}
 
 -- ---- contexts

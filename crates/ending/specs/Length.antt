@@ -26,8 +26,7 @@ use Rattle.meaning.specs.File.{
   written,
 }
 use Rattle.meaning.specs.Charges.{recordBytes, figuresIn}
-use Rattle.tags.specs.Tags.{and-left}
-use Rattle.counts.specs.Enter.{and-right}
+use Rattle.tags.specs.Tags.{and-left, and-right}
 use Rattle.ending.specs.ReadBack.{field-length, isRecord, Tagged}
 
 -- ---- the numbers of a record

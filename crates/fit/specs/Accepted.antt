@@ -20,12 +20,12 @@ use Rattle.meaning.specs.ForOf.{bindsIdentifier}
 use Rattle.meaning.specs.Walk.{start, visits}
 use Rattle.meaning.specs.Charges.{_⊕_, total, figuresIn, figuresAt}
 use Rattle.meaning.specs.VisitCharges.{visitCharges}
-use Rattle.tags.specs.Tags.{Seen, other, here, there, seen, clash, and-left}
+use Rattle.tags.specs.Tags.{Seen, other, here, there, seen, clash, and-left, and-right}
 use Rattle.growth.specs.ForOf.{Named}
 use Rattle.growth.specs.Program.{Exports}
 use Rattle.counts.specs.TakenUp.{Labelled}
 use Rattle.counts.specs.Program.{Kinds}
-use Rattle.counts.specs.Enter.{and-right, Begins, Body, Left}
+use Rattle.counts.specs.Enter.{Begins, Body, Left}
 use Rattle.counts.specs.Fits.{Fits}
 use Rattle.counts.specs.Figures.{joined, after}
 use Rattle.fit.specs.Placed.{ReadAs, same-tag, Placed, accepted-placed}

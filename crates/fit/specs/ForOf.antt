@@ -25,7 +25,7 @@ use Rattle.meaning.specs.VisitCharges.{
   visitsOf,
 }
 use Rattle.counts.specs.ForOf.{standing-at}
-use Rattle.fit.specs.Orderly.{or-none}
+use Rattle.tags.specs.Tags.{or-none}
 use Rattle.fit.specs.Modes.{Linear, cost, costs, costs-++, visited, costOf, one-visited, taken-up-same}
 
 -- without a using nothing is wrapped

@@ -1,7 +1,7 @@
 -- The tree of an accepted file is orderly: Catches stand in a Try, and the body of a ForOf is a statement.
 -- Assumes nothing.
 use mathlib.Core.Path.{_≡_, refl}
-use mathlib.Core.Bool.{Bool, true, false, _||_}
+use mathlib.Core.Bool.{Bool, true, false}
 use mathlib.Core.List.{List, [], _∷_}
 use Prim.Native.Nat.{ℕ, suc}
 use lib.Dec.{eqb}
@@ -13,15 +13,11 @@ use Rattle.meaning.specs.Reading.{accepted, readFile}
 use Rattle.meaning.specs.Statements.{isUsing}
 use Rattle.meaning.specs.declared.Place.{Place}
 use Rattle.meaning.specs.declared.Place.the-variants.{Program}
-use Rattle.tags.specs.Tags.{clash}
+use Rattle.tags.specs.Tags.{or-none}
 use Rattle.totals.specs.Roles.{Lacks}
 use Rattle.fit.specs.Placed.{same-tag, Placed, accepted-placed}
 use Rattle.fit.specs.Barred.{Bars, barred, lacks, no-catch}
 use Rattle.fit.specs.Accepted.{body-bars-5}
-
-pub or-none : (a b : Bool) → (a || b) ≡ false → (a ≡ false) × (b ≡ false)
-or-none true b e = absurd (clash e refl)
-or-none false b e = (refl, e)
 
 -- ---- what a tree must be
 

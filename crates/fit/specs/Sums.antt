@@ -43,9 +43,9 @@ use Rattle.meaning.specs.VisitCharges.{
   visitsOf,
   visitsIn,
 }
-use Rattle.tags.specs.Tags.{Seen, other, here, there, seen, and-left}
+use Rattle.tags.specs.Tags.{Seen, other, here, there, seen, and-left, or-none}
 use Rattle.totals.specs.Roles.{Lacks}
-use Rattle.fit.specs.Orderly.{or-none, isTry, PlainBody, Orderly}
+use Rattle.fit.specs.Orderly.{isTry, PlainBody, Orderly}
 use Rattle.fit.specs.Modes.{
   Linear,
   cost,

@@ -11,7 +11,7 @@ use Rattle.meaning.specs.Tree.{if_then_else_, oneOf, Head, Forest, none, more, 
 use Rattle.meaning.specs.Statements.{isUsing}
 use Rattle.meaning.specs.ForOf.{bindsIdentifier}
 use Rattle.meaning.specs.Walk.{Crumb, crumb, plug}
-use Rattle.fit.specs.Orderly.{or-none}
+use Rattle.tags.specs.Tags.{or-none}
 use Rattle.hints.specs.Hints.{
   namesOf,
   ofInitializer,

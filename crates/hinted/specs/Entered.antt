@@ -42,8 +42,8 @@ use Rattle.meaning.specs.Walk.{
   enter,
   leave,
 }
-use Rattle.tags.specs.Tags.{Seen, other, here, there, seen, and-left}
-use Rattle.counts.specs.Enter.{Left, Fit, and-right}
+use Rattle.tags.specs.Tags.{Seen, other, here, there, seen, and-left, and-right}
+use Rattle.counts.specs.Enter.{Left, Fit}
 use Rattle.hints.specs.Outline.{Neutral, Same, same-refl, same-neutral}
 use Rattle.hinted.specs.Contexts.{Keeps, block-keeps, body-keeps, static-keeps}
 use Rattle.hinted.specs.ForSwitch.{for-keeps, switch-keeps}

@@ -18,9 +18,8 @@ use Rattle.meaning.specs.Statements.{
   asConst,
   takeUp,
 }
-use Rattle.tags.specs.Tags.{Seen, other, here, there, seen, clash}
+use Rattle.tags.specs.Tags.{Seen, other, here, there, seen, clash, or-none}
 use Rattle.growth.specs.Trees.{using-tag}
-use Rattle.fit.specs.Orderly.{or-none}
 use Rattle.hints.specs.Hints.{
   namesOf,
   ofInitializer,

@@ -1,7 +1,7 @@
 -- The walk's spots at which all that is done is quiet, and so are the open records.
 -- Assumes nothing.
 use mathlib.Core.Path.{_≡_, refl, sym, ap, _∙_}
-use mathlib.Core.Bool.{Bool, true, false, _||_, _&&_}
+use mathlib.Core.Bool.{Bool, true, false, _&&_}
 use mathlib.Core.List.{List, [], _∷_}
 use lib.Dec.{eqb}
 use mathlib.Core.Logic.{_⊎_, inl, inr, ⊎-elim}
@@ -10,7 +10,7 @@ use Rattle.meaning.specs.Scoping.{Store}
 use Rattle.meaning.specs.Statements.{isUsing, anyUsing}
 use Rattle.meaning.specs.ForOf.{bindsIdentifier}
 use Rattle.meaning.specs.Walk.{isStaticBlock, Crumb, crumb, Spot, at, leaving, over, settle}
-use Rattle.tags.specs.Tags.{clash}
+use Rattle.tags.specs.Tags.{clash, or-none}
 use Rattle.counts.specs.Visits.{&-none, &-assoc}
 use Rattle.hints.specs.Outline.{Neutral, Same, same-&, same-below}
 use Rattle.lowered.specs.Quiet.{heldUsing, Quiet, AllQuiet, quiet-&}
@@ -55,22 +55,14 @@ quiet-settle (c ∷ p) d (more h k r) st q o = (q, o)
 
 -- ---- a record beside others is replaced
 
-pub or-left : (a b : Bool) → (a || b) ≡ false → a ≡ false
-or-left true b e = e
-or-left false b e = refl
-
-pub or-right : (a b : Bool) → (a || b) ≡ false → b ≡ false
-or-right true b e = absurd (clash e refl)
-or-right false b e = e
-
 -- two neutral heads are told apart neither as usings nor as Declarators
 neutral-using : (h : Head) → Neutral h → isUsing h ≡ false
 unfolding isUsing
-neutral-using h n = let five : eqb (h .tag) 5 ≡ false = or-left _ _ n in rw five
+neutral-using h n = let five : eqb (h .tag) 5 ≡ false = or-none _ _ n .0 in rw five
 
 neutral-declarator : (h : Head) → Neutral h → (eqb (h .tag) 6 && eqb (h .a) 0) ≡ false
 neutral-declarator h n =
-    let six : eqb (h .tag) 6 ≡ false = or-left _ _ (or-right (eqb (h .tag) 5) _ n) in
+    let six : eqb (h .tag) 6 ≡ false = or-none _ _ (or-none (eqb (h .tag) 5) _ n .1) .0 in
     rw six
 
 -- what `Same` says of two records

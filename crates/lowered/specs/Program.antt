@@ -22,15 +22,14 @@ use Rattle.meaning.specs.Program.{
   programItems,
   enterProgram,
 }
-use Rattle.tags.specs.Tags.{Seen, other, here, there, seen, clash}
-use Rattle.lowered.specs.Paths.{or-left, or-right}
+use Rattle.tags.specs.Tags.{Seen, other, here, there, seen, clash, or-none}
 
 no-using-& : (f g : Forest) → anyUsing f ≡ false → anyUsing g ≡ false → anyUsing (f & g) ≡ false
 unfolding anyUsing _&_
 no-using-& none g p q = q
 no-using-& (more h k r) g p q =
-    let first : isUsing h ≡ false = or-left _ _ p in
-    rw (first, no-using-& r g (or-right (isUsing h) (anyUsing r) p) q)
+    let first : isUsing h ≡ false = or-none _ _ p .0 in
+    rw (first, no-using-& r g (or-none (isUsing h) (anyUsing r) p .1) q)
 
 -- what stays of an item has no using
 abbrev Keeps : Change Split → Store → Type 0

@@ -24,8 +24,7 @@ use Rattle.meaning.specs.File.{
 }
 use Rattle.meaning.specs.Scoping.{Store, noSymbol}
 use Rattle.meaning.specs.Walk.{over, storeAt, treeAt, fileAt}
-use Rattle.tags.specs.Tags.{and-left}
-use Rattle.counts.specs.Enter.{and-right}
+use Rattle.tags.specs.Tags.{and-left, and-right}
 use Rattle.tables.specs.Table.{columnF, rowF}
 use Rattle.tables.specs.declared.Row.{Row}
 use Rattle.gap.specs.Cells.{table, free, line, rowsOf}

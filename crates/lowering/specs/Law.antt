@@ -7,16 +7,15 @@ use Prim.Native.Nat.{ℕ, zero, suc, _*_, _≤_, min}
 use native.Mathlib.Omega.{arith}
 use lib.Dec.{leb}
 use lib.ListN.{length}
-use borrow.Author.Tests.{leb-true, le-leb, le-ltb}
+use borrow.Author.Tests.{not-true, leb-true, le-leb, le-ltb}
 use Rattle.meaning.specs.Tree.{if_then_else_, Forest, none, more}
 use Rattle.meaning.specs.File.{File, written}
 use Rattle.meaning.specs.Reading.{Outcome, accepted, refused, _>>=_, _>>_, ensure}
 use Rattle.meaning.specs.Walk.{Spot, at, leaving, over, visits, start, treeAt, fileAt}
 use Rattle.meaning.specs.Charges.{Figures, figuresAt, finalFigures}
 use Rattle.meaning.specs.Lowering.{checkOutput, admit, lastSpot, lower}
-use Rattle.tags.specs.Tags.{clash, and-left}
+use Rattle.tags.specs.Tags.{clash, and-left, and-right}
 use Rattle.totals.specs.Fits.{accepted-fits}
-use Rattle.counts.specs.Enter.{and-right}
 use Rattle.fit.specs.Ends.{isOver}
 use Rattle.room.specs.Numbers.{TreeWithin}
 use Rattle.room.specs.NumbersFit.{Bytes, numbers-fit}
@@ -67,10 +66,6 @@ over-fixed q e =
     let l = isLeavingF (q .records) (q .walk) in
     let ended = leb (q .walk .end .0) (q .walk .gap .0) in
     rw (not-true l (and-left (not l) ended e), le-ltb _ _ (leb-true _ _ (and-right (not l) ended e)))
-  where
-    not-true : (b : Bool) → not b ≡ true → b ≡ false
-    not-true true d = absurd (clash refl d)
-    not-true false d = refl
 
 -- ---- the bytes at the end
 

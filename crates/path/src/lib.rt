@@ -255,7 +255,8 @@ pub fn enter(records: &mut [u16], w: Walk) -> Walk
     let around = w.inner.0;
     count_down(records, around);
     let r = tables::row_after(records, w.gap);
-    tables::move_row(records, w.gap, w.visited, open_row(r, around));
+    tables::clear_row(records, w.gap);
+    tables::put_row(records, w.visited, open_row(r, around));
     let v = w.step();
     let inner = settle(records, v.inner.0, v.visited.0);
     v.with_inner(RecordId(inner))

@@ -53,7 +53,7 @@ use Rattle.meaning.specs.Contexts.{
   takeUpCases,
   transformSwitchStatement,
 }
-use Rattle.tags.specs.Tags.{Seen, other, here, there, seen, clash, and-left}
+use Rattle.tags.specs.Tags.{Seen, other, here, there, seen, clash, and-left, and-right}
 use Rattle.growth.specs.Rows.{
   Grown,
   both,
@@ -141,10 +141,6 @@ statements-weigh K cur hoist list st e =
       load-weighs K cur (c .1),
       rw e at (list-taken K list false (c .0) false),
     )
-
-pub and-right : (a b : Bool) → (a && b) ≡ true → b ≡ true
-and-right true b e = e
-and-right false b e = absurd (clash refl e)
 
 -- ---- block, function body, static block
 

@@ -48,10 +48,10 @@ use Rattle.meaning.specs.Walk.{
   treeAt,
   storeAt,
 }
-use Rattle.tags.specs.Tags.{clash, and-left}
+use Rattle.tags.specs.Tags.{clash, and-left, and-right}
 use Rattle.room.specs.Rows.{Kind, rows}
 use Rattle.room.specs.Weights.{Role, plain, below, weigh, weight, next, after, weigh-&}
-use Rattle.room.specs.Contexts.{Within, and-right, block-within, body-within, static-within, try-within, for-within, switch-within}
+use Rattle.room.specs.Contexts.{Within, block-within, body-within, static-within, try-within, for-within, switch-within}
 use Rattle.room.specs.Rewrites.{for-of-within, program-within}
 
 -- ---- entering and leaving

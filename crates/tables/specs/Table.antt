@@ -1,5 +1,6 @@
 -- The record table as a list of numbers, seven to a row. Places are counted by the rows before them.
 -- Assumes nothing.
+use mathlib.Core.Path.{_≡_}
 use mathlib.Core.List.{List}
 use mathlib.Core.Bool.{Bool}
 use Prim.Native.Nat.{ℕ, _+_, _*_, _-_, min}
@@ -52,6 +53,11 @@ headF r = hd (r .tag) (r .a) (r .b) (r .c)
 -- one place is cleared, and a row is stored at another
 unfoldable pub moveRowF : List ℕ → ℕ → ℕ → Row → List ℕ
 moveRowF t from to r = setRowF (setRowF t from (madeF 0 0 0 0 0)) to r
+
+pub moved : (t t₁ t₂ : List ℕ) (from to : ℕ) (r : Row)
+    → t₁ ≡ setRowF t from (madeF 0 0 0 0 0) → t₂ ≡ setRowF t₁ to r → t₂ ≡ moveRowF t from to r
+unfolding moveRowF
+moved t t₁ t₂ from to r e f = rw e at f
 
 -- the last row of c subtrees after a row
 pub record Skipping : Type 0 where

@@ -8,7 +8,7 @@
 // list that is rewritten moves. A row is named by the number of rows up to it, from 1 on; a place between rows by the row before it.
 use meaning::RecordId;
 ghost use mathlib.Core.Path.{_≡_};
-ghost use Prim.Native.Nat.{_+_, _-_, _≤_};
+ghost use Prim.Native.Nat.{_-_};
 ghost use lib.ListN.{getD, set};
 ghost use Rattle.tables.specs.Table.{capped, columnF, rowF, setColumnF, setRowF, madeF, moveRowF, endF};
 ghost use Rattle.tables.specs.Stream.{buf, emitF, passAsF, passF, copyF, backF, takeBackF};
@@ -154,44 +154,36 @@ pub fn made(tag: u16, a: u16, b: u16, c: u16, n: u16) -> Row
     }
 }
 
-// Clears the row after one place and stores a row after another, where the table may end before them.
-fn move_by_column(records: &mut [u16], from: RecordId, to: RecordId, r: Row)
-    ensures { λ _. ⌜ now (records .exit) ≡ moveRowF (now (records .entry)) (from .0) (to .0) r ⌝ }
+fn clear_by_column(records: &mut [u16], after: RecordId)
+    ensures { λ _. ⌜ now (records .exit) ≡ setRowF (now (records .entry)) (after .0) (madeF 0 0 0 0 0) ⌝ }
 {
-    put_by_column(records, from, made(0, 0, 0, 0, 0));
-    put_by_column(records, to, r);
+    put_by_column(records, after, made(0, 0, 0, 0, 0));
 }
 
-fn larger(x: usize, y: usize) -> usize
-    ensures { λ r. ⌜ (x ≤ r) × (y ≤ r) × (r ≤ x + y) ⌝ }
+// A free row: its numbers are 0.
+pub fn clear_row(records: &mut [u16], after: RecordId)
+    ensures { λ _. ⌜ now (records .exit) ≡ setRowF (now (records .entry)) (after .0) (madeF 0 0 0 0 0) ⌝ }
 {
-    if x < y { y } else { x }
+    let at = (after.0 as usize) * 7;
+    if records.len() < at + 7 {
+        clear_by_column(records, after);
+    } else {
+        records[at] = 0;
+        records[at + 1] = 0;
+        records[at + 2] = 0;
+        records[at + 3] = 0;
+        records[at + 4] = 0;
+        records[at + 5] = 0;
+        records[at + 6] = 0;
+    }
 }
 
 // Clears the row after one place and stores a row after another.
 pub fn move_row(records: &mut [u16], from: RecordId, to: RecordId, r: Row)
     ensures { λ _. ⌜ now (records .exit) ≡ moveRowF (now (records .entry)) (from .0) (to .0) r ⌝ }
 {
-    let i = (from.0 as usize) * 7;
-    let j = (to.0 as usize) * 7;
-    if records.len() < larger(i, j) + 7 {
-        move_by_column(records, from, to, r);
-    } else {
-        records[i] = 0;
-        records[i + 1] = 0;
-        records[i + 2] = 0;
-        records[i + 3] = 0;
-        records[i + 4] = 0;
-        records[i + 5] = 0;
-        records[i + 6] = 0;
-        records[j] = r.tag;
-        records[j + 1] = r.a;
-        records[j + 2] = r.b;
-        records[j + 3] = r.c;
-        records[j + 4] = r.n;
-        records[j + 5] = r.up;
-        records[j + 6] = r.left;
-    }
+    clear_row(records, from);
+    put_row(records, to, r);
 }
 
 // The row after `count` subtrees, as the last of theirs.
@@ -255,7 +247,8 @@ pub fn copy(records: &mut [u16], q: Cursor, count: u16) -> Cursor
             break;
         }
         let r = row_after(records, RecordId(read));
-        move_row(records, RecordId(read), RecordId(written), r);
+        clear_row(records, RecordId(read));
+        put_row(records, RecordId(written), r);
         read += 1;
         written = plus(written, 1);
         pending = pending - 1 + (r.n as usize);

@@ -4,7 +4,7 @@ use mathlib.Core.List.{List, [], _∷_}
 use mathlib.Core.Bool.{Bool, false, not, _||_, _&&_}
 use Prim.Native.Nat.{ℕ, suc, _+_, _*_, min}
 use lib.ListN.{getD}
-use lib.Dec.{eqb, ltb}
+use lib.Dec.{eqb, leb, ltb}
 use Rattle.meaning.specs.Tree.{if_then_else_, oneOf, Head, Forest, none, more, count}
 use Rattle.meaning.specs.File.{Symbol, symbolRow, fieldBytes}
 use Rattle.meaning.specs.Grammar.{two}
@@ -133,6 +133,28 @@ noTally =
       «case_wraps» = 0;
     }
 
+-- a record without children, of so many bytes, that counts nowhere else
+abbrev pub leafTally : ℕ → Tally
+leafTally size =
+    record {
+      records = 1;
+      bytes = size;
+      blocks = 0;
+      parts = 0;
+      wrapped = 0;
+      «for_ofs» = 0;
+      «for_of_blocks» = 0;
+      programs = 0;
+      classes = 0;
+      exports = 0;
+      declarations = 0;
+      names = 0;
+      usings = 0;
+      wraps = 0;
+      «case_usings» = 0;
+      «case_wraps» = 0;
+    }
+
 infixl 20 _⊞_
 abbrev pub _⊞_ : Tally → Tally → Tally
 s ⊞ t =
@@ -207,6 +229,32 @@ own u inserts h n kids =
       wraps = (if eqb t 5 then kids .wraps else 0) + oneIf (isUp u Held && eqb t 6 && ltb (h .b) n);
       «case_usings» = if eqb t 10 then kids .usings else 0;
       «case_wraps» = if eqb t 10 then kids .wraps else 0;
+    }
+
+-- a record for which nothing is charged, whatever its children are
+unfoldable pub isSilent : Up → ℕ → Bool
+isSilent u t = not (oneOf (1 ∷ 2 ∷ 5 ∷ 7 ∷ 9 ∷ 10 ∷ 14 ∷ 15 ∷ 16 ∷ []) t) && leb (upIndex u) 2
+
+-- what it adds: itself, of so many bytes
+abbrev pub silent : ℕ → Tally → Tally
+silent size kids =
+    record {
+      records = kids .records + 1;
+      bytes = kids .bytes + size;
+      blocks = kids .blocks;
+      parts = kids .parts;
+      wrapped = kids .wrapped;
+      «for_ofs» = kids .«for_ofs»;
+      «for_of_blocks» = kids .«for_of_blocks»;
+      programs = kids .programs;
+      classes = kids .classes;
+      exports = kids .exports;
+      declarations = kids .declarations;
+      names = kids .names;
+      usings = 0;
+      wraps = 0;
+      «case_usings» = 0;
+      «case_wraps» = 0;
     }
 
 -- the tally of a forest whose record k is `ups k` to the one around it

@@ -13,7 +13,7 @@ ghost use Rattle.meaning.specs.Reading.{symbolsIn};
 ghost use Rattle.meaning.specs.Scoping.{binds, getBinding};
 ghost use Rattle.meaning.specs.Statements.{isUsing};
 ghost use Rattle.meaning.specs.ForOf.{bindsName};
-ghost use Rattle.tallies.specs.Tally.{upIndex, isUp, upOf, bodyUp, insertsIn, symbolInRow, oneIf, takesUp, takesUpCases, isBlock, isBody, getsContext, isExport, capped, cap, _⊞_, itemsKept, own, noTally};
+ghost use Rattle.tallies.specs.Tally.{upIndex, isUp, upOf, bodyUp, insertsIn, symbolInRow, oneIf, takesUp, takesUpCases, isBlock, isBody, getsContext, isExport, capped, cap, _⊞_, itemsKept, own, isSilent, silent, noTally, leafTally};
 
 // Counts over some records beside each other and all below them, by 01's lines: records and their bytes; contexts of Block statements, and
 // others; wrapped initializers; ForOfs whose using goes into the body, and those whose body is wrapped; lowered Programs; and of its items
@@ -68,6 +68,13 @@ fn up_index(up: Up) -> u8
         Up::Held => 7,
         Up::Body(_) => 8,
     }
+}
+
+// The record is nothing special to the one around it.
+pub fn is_plain(up: Up) -> bool
+    ensures { λ r. ⌜ r ≡ eqb (upIndex up) 0 ⌝ }
+{
+    up_index(up) == 0
 }
 
 // A Declaration's kind, of a using.
@@ -431,8 +438,8 @@ fn wraps_of(up: Up, x: Field, kids: Tally) -> u32
     plus_if(number_if(x.tag == 5, kids.wraps), has_initializer(up, x), 1)
 }
 
-// A record with the tally of its children.
-fn own_tally(up: Up, inserted: bool, x: Field, kids: Tally) -> Tally
+// A record that may be charged for, with the tally of its children.
+fn charged_tally(up: Up, inserted: bool, x: Field, kids: Tally) -> Tally
     ensures { λ r. ⌜ r ≡ cap (own up inserted (headOf x) (childrenOf x) kids) ⌝ }
 {
     let tag = x.tag;
@@ -456,6 +463,59 @@ fn own_tally(up: Up, inserted: bool, x: Field, kids: Tally) -> Tally
         case_usings: number_if(tag == 10, kids.usings),
         case_wraps: number_if(tag == 10, kids.wraps),
     }
+}
+
+// Records of this tag add only themselves, to a record around them of which they are no export, Declarator or body.
+fn is_silent(up: Up, tag: u8) -> bool
+    ensures { λ r. ⌜ r ≡ isSilent up tag ⌝ }
+{
+    match tag {
+        1 => false,
+        2 => false,
+        5 => false,
+        7 => false,
+        9 => false,
+        10 => false,
+        14 => false,
+        15 => false,
+        16 => false,
+        _ => up_index(up) <= 2,
+    }
+}
+
+// A record that adds only itself, with the tally of its children.
+fn silent_tally(size: u32, kids: Tally) -> Tally
+    ensures { λ r. ⌜ r ≡ cap (silent size kids) ⌝ }
+{
+    Tally {
+        records: plus(kids.records, 1),
+        bytes: plus(kids.bytes, size),
+        blocks: plus(kids.blocks, 0),
+        parts: plus(kids.parts, 0),
+        wrapped: plus(kids.wrapped, 0),
+        for_ofs: plus(kids.for_ofs, 0),
+        for_of_blocks: plus(kids.for_of_blocks, 0),
+        programs: plus(kids.programs, 0),
+        classes: plus(kids.classes, 0),
+        exports: plus(kids.exports, 0),
+        declarations: plus(kids.declarations, 0),
+        names: plus(kids.names, 0),
+        usings: 0,
+        wraps: 0,
+        case_usings: 0,
+        case_wraps: 0,
+    }
+}
+
+// A record with the tally of its children.
+fn own_tally(up: Up, inserted: bool, x: Field, kids: Tally) -> Tally
+    ensures { λ r. ⌜ r ≡ cap (own up inserted (headOf x) (childrenOf x) kids) ⌝ }
+{
+    let tag = x.tag;
+    if is_silent(up, tag) {
+        return silent_tally(3 + 2 * (fields::numbers_of(tag) as u32), kids);
+    }
+    charged_tally(up, inserted, x, kids)
 }
 
 // Two tallies together.
@@ -487,6 +547,30 @@ pub fn add_record(before: Tally, up: Up, inserted: bool, x: Field, kids: Tally) 
     ensures { λ r. ⌜ r ≡ cap (before ⊞ cap (own up inserted (headOf x) (childrenOf x) kids)) ⌝ }
 {
     both(before, own_tally(up, inserted, x, kids))
+}
+
+// The same with a plain record of so many bytes and no children.
+pub fn add_leaf(before: Tally, size: u32) -> Tally
+    ensures { λ r. ⌜ r ≡ cap (before ⊞ leafTally size) ⌝ }
+{
+    Tally {
+        records: plus(before.records, 1),
+        bytes: plus(before.bytes, size),
+        blocks: plus(before.blocks, 0),
+        parts: plus(before.parts, 0),
+        wrapped: plus(before.wrapped, 0),
+        for_ofs: plus(before.for_ofs, 0),
+        for_of_blocks: plus(before.for_of_blocks, 0),
+        programs: plus(before.programs, 0),
+        classes: plus(before.classes, 0),
+        exports: plus(before.exports, 0),
+        declarations: plus(before.declarations, 0),
+        names: plus(before.names, 0),
+        usings: plus(before.usings, 0),
+        wraps: plus(before.wraps, 0),
+        case_usings: plus(before.case_usings, 0),
+        case_wraps: plus(before.case_wraps, 0),
+    }
 }
 
 // Nothing counted yet.

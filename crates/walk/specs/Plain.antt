@@ -1,17 +1,17 @@
 -- Visits made in one call: the next one, and those behind it that only enter a record. They are visits like any other.
 -- Assumes nothing.
-use mathlib.Core.Path.{_≡_, refl, sym, ap, _∙_}
-use mathlib.Core.Bool.{Bool, true, false, not, _&&_, _||_, true≢false}
+use mathlib.Core.Path.{_≡_, refl, _∙_}
+use mathlib.Core.Bool.{Bool, true, false, not, _&&_, true≢false}
 use mathlib.Core.List.{List, [], _∷_}
 use Prim.Native.Nat.{ℕ, zero, suc, _+_, _-_, _≤_, _<_}
-use native.Mathlib.Nat.{add-zero}
 use native.Mathlib.Omega.{arith}
-use borrow.Author.Tests.{ltb-true, ltb-false, lt-leb, le-leb, ne-eqb}
-use lib.Dec.{eqb, leb, ltb}
+use borrow.Author.Tests.{not-true, ltb-true, ltb-false, lt-leb, le-leb, ne-eqb}
+use lib.Dec.{eqb, ltb}
 use Rattle.meaning.specs.Tree.{if_then_else_, oneOf}
+use Rattle.tags.specs.Tags.{and-left, and-right, or-none}
 use Rattle.tables.specs.Table.{columnF}
 use Rattle.tables.specs.Loops.{until}
-use Rattle.path.specs.Path.{Tables, tables, OnRecords, onRecords, enterF}
+use Rattle.path.specs.Path.{Tables, tables, onRecords, enterF}
 use Rattle.path.specs.declared.Walk.{Walk}
 use Rattle.walk.specs.Visit.{rewriteF, leaveF, isLeavingF, isOverF, visitF}
 
@@ -64,32 +64,19 @@ visitSomeF n q =
 
 -- ---- they are visits
 
--- tests that hold together
-and-holds : (a b : Bool) → (a && b) ≡ true → (a ≡ true) × (b ≡ true)
-and-holds true b e = (refl, e)
-and-holds false b e = absurd (true≢false (sym e))
-
-fails : (a : Bool) → not a ≡ true → a ≡ false
-fails false e = refl
-fails true e = absurd (true≢false (sym e))
-
-none-of : (a b : Bool) → (a || b) ≡ false → (a ≡ false) × (b ≡ false)
-none-of false b e = (refl, e)
-none-of true b e = absurd (true≢false e)
-
 -- no other tag asks for a rewrite
 no-rewrite : (q : Tables) → oneOf rewritten (columnF (q .records) (q .walk .gap .0) 0) ≡ false → rewriteF q ≡ q
 unfolding rewriteF
 no-rewrite q e =
     let t = columnF (q .records) (q .walk .gap .0) 0 in
-    let n₁ = none-of (eqb t 1) _ e in
-    let n₂ = none-of (eqb t 2) _ (n₁ .1) in
-    let n₄ = none-of (eqb t 4) _ (n₂ .1) in
-    let n₇ = none-of (eqb t 7) _ (n₄ .1) in
-    let n₈ = none-of (eqb t 8) _ (n₇ .1) in
-    let n₉ = none-of (eqb t 9) _ (n₈ .1) in
-    let n₁₁ = none-of (eqb t 11) _ (n₉ .1) in
-    let n₁₄ = none-of (eqb t 14) _ (n₁₁ .1) in
+    let n₁ = or-none (eqb t 1) _ e in
+    let n₂ = or-none (eqb t 2) _ (n₁ .1) in
+    let n₄ = or-none (eqb t 4) _ (n₂ .1) in
+    let n₇ = or-none (eqb t 7) _ (n₄ .1) in
+    let n₈ = or-none (eqb t 8) _ (n₇ .1) in
+    let n₉ = or-none (eqb t 9) _ (n₈ .1) in
+    let n₁₁ = or-none (eqb t 11) _ (n₉ .1) in
+    let n₁₄ = or-none (eqb t 14) _ (n₁₁ .1) in
     rw (n₁ .0, n₂ .0, n₄ .0, n₇ .0, n₈ .0, n₉ .0, n₁₁ .0, n₁₄ .0)
 
 module _ (r s y : List ℕ) (w : Walk) (plain : isPlainF r w ≡ true) where
@@ -97,9 +84,8 @@ module _ (r s y : List ℕ) (w : Walk) (plain : isPlainF r w ≡ true) where
       × (oneOf rewritten (columnF r (w .gap .0) 0) ≡ false)
   unfolding isPlainF
   parts =
-      let a = and-holds _ _ plain in
-      let b = and-holds _ _ (a .1) in
-      (fails _ (a .0), b .0, fails _ (b .1))
+      let rest = and-right (not (isLeavingF r w)) _ plain in
+      (not-true _ (and-left (not (isLeavingF r w)) _ plain), and-left _ _ rest, not-true _ (and-right (ltb (w .gap .0) (w .end .0)) _ rest))
 
   pub plain-visit : visitF (tables r s y w) ≡ tables (enterF (onRecords r w) .records) s y (enterF (onRecords r w) .walk)
   unfolding visitF

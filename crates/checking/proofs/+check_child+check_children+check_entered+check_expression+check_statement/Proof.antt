@@ -2,10 +2,12 @@
 use mathlib.Core.Path.{_≡_, refl, _∙_}
 use Prim.Native.Nat.{ℕ, _+_, _-_, _*_, _≤_, _<_}
 use native.Mathlib.Nat.{sub-zero}
+use native.Mathlib.Omega.{arith}
 use lib.ListN.{length}
 use borrow.Author.Needs.{needs}
 use Rattle.meaning.specs.Grammar.{placeOf}
 use Rattle.checking.specs.Flat.{upsF, listF, recordF, childrenF}
+use Rattle.checking.proofs.Leaf.{leaf-inside, leaf-fine}
 use Rattle.checking.proofs.Laws.{record-entered, after-refused, after-deep, after-stop, after-fine, list-step, list-stop, list-end}
 use borrow.Fn.Kinds.{In}
 use borrow.Fn.PlainCycle.{Measures, is, falls, and}
@@ -25,11 +27,13 @@ use Rattle.checking.proofs.check_statement.Reads as check-statement
 use Rattle.checking.proofs.check_statement.Kinds as check-statement-kinds
 use Rattle.checking.proofs.+check_child+check_children+check_entered+check_expression+check_statement.Lts-check_statement as check-statement-lts
 use Rattle.checking.proofs.enter_record.Reads as enter-record-reads
+use Rattle.checking.proofs.leaf_size.Reads as leaf-size-reads
 use Rattle.checking.proofs.refusal.Reads as refusal-reads
 use Rattle.rules.proofs.children_of.Reads as children-of-reads
 use Rattle.rules.proofs.place_of.Reads as place-of-reads
 use Rattle.rules.proofs.scope_in.Reads as scope-in-reads
 use Rattle.rules.proofs.scope_below.Reads as scope-below-reads
+use Rattle.tallies.proofs.add_leaf.Reads as add-leaf-reads
 use Rattle.tallies.proofs.add_record.Reads as add-record-reads
 use Rattle.tallies.proofs.inserts.Reads as inserts-reads
 use Rattle.tallies.proofs.no_tally.Reads as no-tally-reads
@@ -88,6 +92,10 @@ check-statement-below t = and 2 check-statement-kinds.ps (falls 2 check-statemen
 -- the contracts of what each calls
 abbrev check-child-calls : ℕ → check-child-lts.Claims
 check-child-calls t = (
+  leaf-size-reads.Asked,
+  leaf-size-reads.Learnt,
+  add-leaf-reads.Asked,
+  add-leaf-reads.Learnt,
   check-expression-below t,
   check-expression.Post,
   check-statement-below t,
@@ -140,13 +148,23 @@ check-statement-calls t = (
   check-entered.Post,
 )
 
+check-child-add-next : (t : ℕ)
+    → check-child-lts.Need-add-next (check-child-calls t) (check-child-at t) check-child.Post
+check-child-add-next t c =
+    let at-leaf-size = c .before in
+    let fits = leaf-inside _ _ _ _ _ _ _ (at-leaf-size .leaf-size .ensures) (c .if1 .taken) in
+    omega arith
+
 check-child-returns : (t : ℕ)
     → check-child-lts.Need-returns (check-child-calls t) (check-child-at t) check-child.Post
-check-child-returns t c = c .before .before .check-expression .ensures
+check-child-returns t c =
+    let at-if1 = c .before in
+    let at-leaf-size = at-if1 .before in
+    leaf-fine _ _ _ _ _ _ _ (at-leaf-size .leaf-size .ensures) (at-if1 .if1 .taken) _ _ _ _ _ (c .add-leaf .ensures)
 
 check-child-returns-2 : (t : ℕ)
     → check-child-lts.Need-returns-2 (check-child-calls t) (check-child-at t) check-child.Post
-check-child-returns-2 t c = c .before .before .check-expression2 .ensures
+check-child-returns-2 t c = c .before .before .check-expression .ensures
 
 check-child-returns-3 : (t : ℕ)
     → check-child-lts.Need-returns-3 (check-child-calls t) (check-child-at t) check-child.Post
@@ -292,7 +310,7 @@ pub +check-child+check-children+check-entered+check-expression+check-statement-s
     close
     μ-check-child μ-check-children μ-check-entered μ-check-expression μ-check-statement
     (λ t. check-child-lts.spec (check-child-calls t) (check-child-at t) check-child.Post
-    (λ c. search needs) (λ c κs. search needs) (λ c. search needs) (λ c κs. search needs) (λ c κs. search needs) (λ c. search needs) (check-child-returns t) (λ c. search needs) (check-child-returns-2 t) (λ c. search needs) (check-child-returns-3 t))
+    (λ c. search needs) (λ c κs. search needs) (λ c. search needs) (check-child-add-next t) (λ c κs. search needs) (check-child-returns t) (λ c κs. search needs) (λ c κs. search needs) (λ c. search needs) (check-child-returns-2 t) (λ c. search needs) (check-child-returns-3 t))
     (λ t. check-children-lts.spec (check-children-calls t) (check-children-at t) check-children.Post
     check-children-Inv-loop check-children-μ-loop (λ c κs. search needs) (λ c κs. search needs) (check-children-loop-holds t) (λ c κs. search needs) (λ c κs. search needs) (λ c κs. search needs) (λ c. search needs) (λ c. search needs) (check-children-same-length t) (check-children-returns t) (λ c. search needs) (λ c. search needs) (check-children-loop-again t) (λ c. search needs) (check-children-returns-2 t))
     (λ t. check-entered-lts.spec (check-entered-calls t) (check-entered-at t) check-entered.Post

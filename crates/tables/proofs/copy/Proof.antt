@@ -4,6 +4,7 @@ use Prim.Native.Nat.{_+_, _*_, _-_, _≤_}
 use lib.ListN.{length}
 use native.Mathlib.Omega.{arith}
 use borrow.Author.Tests.{eq-eqb}
+use Rattle.tables.specs.Table.{moved}
 use Rattle.tables.specs.Loops.{until, run-out, stopped}
 use Rattle.tables.specs.Stream.{Copying, copying, copied, copyOne, copyF}
 use Rattle.tables.proofs.Laws.{buf3, copy-turn}
@@ -27,8 +28,9 @@ loop-holds c = (search needs, search needs, search needs, refl, refl)
 loop-again : tie.Need-loop-again Inv-loop μ-loop
 loop-again c =
     let at-plus = c .before in
-    let at-move-row = at-plus .before .before .before in
-    let at-row-after = at-move-row .before .before in
+    let at-put-row = at-plus .before .before .before in
+    let at-clear-row = at-put-row .before .before .before .before in
+    let at-row-after = at-clear-row .before .before in
     let at-if1 = at-row-after .before .before in
     let at-loop-test = at-if1 .before in
     let at-loop = at-loop-test .before in
@@ -36,8 +38,8 @@ loop-again c =
       search needs,
       search needs,
       omega (arith, i .0, i .2, at-loop-test .loop-test .taken, at-if1 .if1 .left, at-row-after .row-after .ok),
-      at-move-row .move-row .kept .0 ∙ i .3,
-      copy-turn _ _ _ _ _ _ _ _ (i .4) (at-loop-test .loop-test .taken) (at-if1 .if1 .left) (at-row-after .row-after .ensures) (at-move-row .move-row .ensures) (at-plus .plus .ensures),
+      at-put-row .put-row .kept .0 ∙ at-clear-row .clear-row .kept .0 ∙ i .3,
+      copy-turn _ _ _ _ _ _ _ _ (i .4) (at-loop-test .loop-test .taken) (at-if1 .if1 .left) (at-row-after .row-after .ensures) (moved _ _ _ _ _ _ (at-clear-row .clear-row .ensures) (at-put-row .put-row .ensures)) (at-plus .plus .ensures),
     )
 
 returns : tie.Need-returns Inv-loop μ-loop
@@ -58,4 +60,4 @@ pub copy-spec : {M : Type 1} → statement M
 copy-spec =
     tie.close
     (tie.spec
-    Inv-loop μ-loop loop-holds (λ c κs. search needs) (λ c κs. search needs) (λ c. search needs) (λ c κs. search needs) (λ c. search needs) (λ c. search needs) (λ c. search needs) (λ c. search needs) loop-again (λ c. search needs) returns (λ c. search needs) returns-2)
+    Inv-loop μ-loop loop-holds (λ c κs. search needs) (λ c κs. search needs) (λ c κs. search needs) (λ c. search needs) (λ c κs. search needs) (λ c. search needs) (λ c. search needs) (λ c. search needs) (λ c. search needs) loop-again (λ c. search needs) returns (λ c. search needs) returns-2)

@@ -1,18 +1,17 @@
 -- `tables::move_row` meets its contract. Assumes nothing.
-use native.Mathlib.Nat.{add-zero}
-use native.Mathlib.Omega.{arith}
-use lib.ListN.{length-set}
-use Rattle.tables.specs.Table.{moveRowF, setRowF, setColumnF}
+use Rattle.tables.specs.Table.{moved}
 use borrow.Author.Needs.{needs}
 use Rattle.tables.proofs.move_row.Statement.{statement}
 use Rattle.tables.proofs.move_row.Tie as tie
 
-returns-2 : tie.Need-returns-2
-unfolding moveRowF setRowF setColumnF
-returns-2 c = simp add-zero
+returns : tie.Need-returns
+returns c =
+    let at-put-row = c .before .before in
+    let at-clear-row = at-put-row .before .before .before .before in
+    moved _ _ _ _ _ _ (at-clear-row .clear-row .ensures) (at-put-row .put-row .ensures)
 
 pub move-row-spec : {M : Type 1} → statement M
 move-row-spec =
     tie.close
     (tie.spec
-    (λ c. search needs) (λ c. search needs) (λ c. search needs) (λ c. search needs) (λ c κs. search needs) (λ c. search needs) (λ c κs. search needs) (λ c. search needs) (λ c. search needs) (λ c. search needs) (λ c. search needs) (λ c. simp length-set (omega arith)) (λ c. search needs) (λ c. search needs) (λ c. simp length-set (omega arith)) (λ c. search needs) (λ c. search needs) (λ c. simp length-set (omega arith)) (λ c. search needs) (λ c. search needs) (λ c. simp length-set (omega arith)) (λ c. search needs) (λ c. search needs) (λ c. simp length-set (omega arith)) (λ c. search needs) (λ c. search needs) (λ c. simp length-set (omega arith)) (λ c. search needs) (λ c. simp length-set (omega arith)) (λ c. search needs) (λ c. search needs) (λ c. simp length-set (omega arith)) (λ c. search needs) (λ c. search needs) (λ c. simp length-set (omega arith)) (λ c. search needs) (λ c. search needs) (λ c. simp length-set (omega arith)) (λ c. search needs) (λ c. search needs) (λ c. simp length-set (omega arith)) (λ c. search needs) (λ c. search needs) (λ c. simp length-set (omega arith)) (λ c. search needs) (λ c. search needs) (λ c. simp length-set (omega arith)) (λ c. search needs) (λ c. search needs) (λ c. simp length-set) returns-2)
+    (λ c κs. search needs) (λ c κs. search needs) (λ c. search needs) returns)

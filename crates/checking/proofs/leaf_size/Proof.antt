@@ -1,0 +1,92 @@
+-- `checking::leaf_size` meets its contract. Assumes nothing.
+use borrow.Author.Needs.{needs}
+use borrow.Author.Tests.{eq-eqb, ne-eqb, not-true, not-false}
+use Rattle.checking.specs.Flat.{leafSize}
+use Rattle.checking.proofs.leaf_size.Statement.{statement}
+use Rattle.checking.proofs.leaf_size.Tie as tie
+
+returns : tie.Need-returns
+unfolding leafSize
+returns c = rw (eq-eqb _ _ (c .if1 .taken))
+
+returns-2 : tie.Need-returns-2
+unfolding leafSize
+returns-2 c =
+    let at-is-plain = c .before in
+    rw (
+      ne-eqb _ _ (at-is-plain .before .if1 .left),
+      ← at-is-plain .is-plain .ensures,
+      not-true (at-is-plain .is-plain .result) (c .if2 .taken),
+    )
+
+returns-3 : tie.Need-returns-3
+unfolding leafSize
+returns-3 c =
+    let at-match = c .before in
+    let at-byte = at-match .before in
+    let at-if2 = at-byte .before in
+    let at-is-plain = at-if2 .before in
+    rw (
+      ne-eqb _ _ (at-is-plain .before .if1 .left),
+      ← at-is-plain .is-plain .ensures,
+      not-false (at-is-plain .is-plain .result) (at-if2 .if2 .left),
+      ← at-byte .byte .ensures,
+      at-match .match .keys1,
+      c .expression-size .ensures,
+    )
+
+returns-4 : tie.Need-returns-4
+unfolding leafSize
+returns-4 c =
+    let at-match = c .before in
+    let at-byte = at-match .before in
+    let at-if2 = at-byte .before in
+    let at-is-plain = at-if2 .before in
+    rw (
+      ne-eqb _ _ (at-is-plain .before .if1 .left),
+      ← at-is-plain .is-plain .ensures,
+      not-false (at-is-plain .is-plain .result) (at-if2 .if2 .left),
+      ← at-byte .byte .ensures,
+      at-match .match .keys2,
+      c .mention-size .ensures,
+    )
+
+returns-5 : tie.Need-returns-5
+unfolding leafSize
+returns-5 c =
+    let at-match = c .before in
+    let at-byte = at-match .before in
+    let at-if2 = at-byte .before in
+    let at-is-plain = at-if2 .before in
+    rw (
+      ne-eqb _ _ (at-is-plain .before .if1 .left),
+      ← at-is-plain .is-plain .ensures,
+      not-false (at-is-plain .is-plain .result) (at-if2 .if2 .left),
+      ← at-byte .byte .ensures,
+      at-match .match .keys3,
+      c .mention-size2 .ensures,
+    )
+
+returns-6 : tie.Need-returns-6
+unfolding leafSize
+returns-6 c =
+    let at-match = c in
+    let at-byte = at-match .before in
+    let at-if2 = at-byte .before in
+    let at-is-plain = at-if2 .before in
+    rw (
+      ne-eqb _ _ (at-is-plain .before .if1 .left),
+      ← at-is-plain .is-plain .ensures,
+      not-false (at-is-plain .is-plain .result) (at-if2 .if2 .left),
+      ← at-byte .byte .ensures,
+      ne-eqb _ 24 (at-match .match .rest .0 .0 .1),
+      ne-eqb _ 25 (at-match .match .rest .0 .1),
+      ne-eqb _ 26 (at-match .match .rest .1),
+    )
+
+pub leaf-size-spec : {M : Type 1} → statement M
+leaf-size-spec =
+    tie.close
+    (tie.spec
+    returns (λ c κs. search needs) returns-2 (λ c κs. search needs) (λ c κs. search needs)
+    (λ c κs. search needs) (λ c κs. search needs) returns-3 returns-4 returns-5 returns-6)
