@@ -38,15 +38,18 @@ pub fn read_two(file: &[u8], at: usize) -> u16
     join(high, low)
 }
 
-// How many numbers a tag has.
+// How many numbers a tag has. No arm has two tags in a row, which would be tested as a range: so the compiler makes a table.
 pub fn numbers_of(tag: u8) -> u8
     ensures { λ r. ⌜ r ≡ numbersOf tag ⌝ }
 {
     match tag {
-        14 | 18 | 19 | 25 | 26 => 1,
-        1 | 2 | 4 | 5 | 7 | 9 | 10 | 11 | 16 | 20 | 24 | 28 | 40 | 41 => 2,
+        14 | 18 | 25 => 1,
+        19 | 26 => 1,
+        1 | 4 | 7 | 9 | 11 | 16 | 20 | 24 | 28 | 40 => 2,
+        2 | 5 | 10 | 41 => 2,
         3 | 6 | 8 | 17 | 27 | 29 => 3,
-        12 | 13 | 15 | 42 => 4,
+        12 | 15 | 42 => 4,
+        13 => 4,
         _ => 0,
     }
 }

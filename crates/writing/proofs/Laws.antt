@@ -42,6 +42,9 @@ symbols-turn t r out out′ first k n e h o =
 pub next-is : (at n : ℕ) (r : Row) → n ≡ numbersOf (r .tag % 256) → at + 3 + 2 * n ≡ at + length (recordBytes r)
 next-is at n r e = omega (arith, record-length r)
 
+pub next-whole : (at n : ℕ) (r : Row) → n ≡ numbersOf (r .tag % 256) → at + 1 + 2 * n + 2 ≡ at + length (recordBytes r)
+next-whole at n r e = omega (arith, record-length r)
+
 pub next-most : (at at′ first k : ℕ) (r : Row) → at′ ≡ at + length (recordBytes r) → at ≤ first + 11 * k → at′ ≤ first + 11 * (k + 1)
 next-most at at′ first k r e h = omega (arith, record-long r)
 

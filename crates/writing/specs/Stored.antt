@@ -58,7 +58,7 @@ two-more v ns out at =
     ap (λ (m : ℕ). sets (set (set out at (v / 256)) (suc at) (v % 256)) m (twoBytes ns)) e
 
 -- number i of a field with n numbers
-abbrev putNumber : ℕ → ℕ → List ℕ → ℕ → ℕ → List ℕ
+abbrev pub putNumber : ℕ → ℕ → List ℕ → ℕ → ℕ → List ℕ
 putNumber at n out i v = if ltb i n then sets out (at + 3 + 2 * i) (twoBytes (v ∷ [])) else out
 
 unfoldable putNumbers : ℕ → List ℕ → ℕ → List ℕ → List ℕ

@@ -1,11 +1,13 @@
 -- The bytes that the code writes from tables, whatever numbers they hold.
 -- Assumes nothing.
 use mathlib.Core.List.{List, [], _∷_, _++_}
+use mathlib.Core.Bool.{Bool}
 use Prim.Native.Nat.{ℕ, zero, suc, _+_, _*_, _%_}
 use lib.ListN.{getD, set, take}
+use lib.Seq.{sets}
 use lib.Dec.{ltb}
 use Rattle.meaning.specs.Tree.{if_then_else_}
-use Rattle.meaning.specs.File.{numbersOf, ownNumbers, field}
+use Rattle.meaning.specs.File.{numbersOf, ownNumbers, twoBytes, field}
 use Rattle.tables.specs.Table.{rowF}
 use Rattle.tables.specs.declared.Row.{Row}
 use Rattle.path.specs.declared.Walk.{Walk}
@@ -40,6 +42,29 @@ rowsBytes f k (suc n) = f k ++ rowsBytes f (k + 1) n
 
 abbrev pub recordAt : List ℕ → ℕ → List ℕ
 recordAt t k = recordBytes (rowF t k)
+
+-- ---- numbers that are stored over one another
+
+abbrev pub lesserOf : ℕ → ℕ → ℕ
+lesserOf x y = if ltb x y then x else y
+
+abbrev pub pickOf : ℕ → ℕ → ℕ → ℕ → ℕ
+pickOf x y v w = if ltb x y then v else w
+
+-- the last number of a record, which goes to l
+unfoldable pub lastOf : Bool → ℕ → ℕ → Row → ℕ
+lastOf h at l r =
+    if h then r .n else pickOf (at + 3) l (pickOf (at + 5) l (pickOf (at + 7) l (r .n) (r .c)) (r .b)) (r .a)
+
+abbrev pub twoAt : List ℕ → ℕ → ℕ → List ℕ
+twoAt o p v = sets o p (twoBytes (v ∷ []))
+
+-- each number at its place or, behind the last, at the last's, and then the last
+unfoldable pub numbersOver : Bool → ℕ → ℕ → Row → List ℕ → List ℕ
+numbersOver h at l r o =
+    twoAt (twoAt (twoAt (twoAt o (at + 3) (r .a)) (lesserOf (at + 5) l) (r .b)) (lesserOf (at + 7) l) (r .c)) l (lastOf h at l r)
+
+-- ---- the file
 
 -- THE FILE in the tables, of the rows visited.
 unfoldable pub fileBytes : List ℕ → List ℕ → List ℕ → Walk → List ℕ

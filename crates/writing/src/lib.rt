@@ -7,13 +7,13 @@ use path::Walk;
 use tables::Row;
 ghost use mathlib.Core.Path.{_≡_};
 ghost use mathlib.Core.List.{[], _∷_};
-ghost use Prim.Native.Nat.{_+_, _*_, _≤_};
+ghost use Prim.Native.Nat.{_+_, _*_, _-_, _≤_};
 ghost use lib.Dec.{ltb};
 ghost use lib.ListN.{length, set};
 ghost use lib.Seq.{sets};
 ghost use Rattle.meaning.specs.Tree.{if_then_else_};
 ghost use Rattle.meaning.specs.File.{twoBytes};
-ghost use Rattle.writing.specs.Writing.{fieldWith, ownOr, scopeBytes, symbolBytes, recordBytes, rowsBytes, recordAt, fileBytes};
+ghost use Rattle.writing.specs.Writing.{fieldWith, ownOr, scopeBytes, symbolBytes, recordBytes, rowsBytes, recordAt, fileBytes, lesserOf, pickOf, lastOf, numbersOver};
 
 // ---- bytes
 
@@ -119,7 +119,7 @@ fn own_or(own: u8, i: u8, v: u16, n: u16) -> u16
     if i < own { v } else { n }
 }
 
-// A record at an offset; the offset behind it.
+// A record at an offset where it may not fit; the offset behind it.
 fn put_record(out: &mut [u8], at: usize, r: Row) -> usize
     requires { ⌜ at ≤ 2500000 ⌝ }
     ensures bytes { λ _. ⌜ now (out .exit) ≡ sets (now (out .entry)) at (recordBytes r) ⌝ }
@@ -140,6 +140,101 @@ fn put_record(out: &mut [u8], at: usize, r: Row) -> usize
     at + 3 + 2 * (fields::numbers_of(tag) as usize)
 }
 
+// The records from a row on, where they may not fit.
+fn put_rest(out: &mut [u8], first: usize, records: &[u16], from: u16, count: u16)
+    requires { ⌜ first ≤ 1500000 + 11 * from ⌝ }
+    ensures { λ _. ⌜ now (out .exit) ≡ sets (now (out .entry)) first (rowsBytes (recordAt (now (records .entry))) from (count - from)) ⌝ }
+{
+    let mut at = first;
+    let mut k = from;
+    while k < count {
+        at = put_record(out, at, tables::row_after(records, RecordId(k)));
+        k += 1;
+    }
+}
+
+// ---- records that fit
+//
+// Most records are written here, so there is no test of a record's own: a branch that the processor guesses wrong costs more than the
+// whole record.
+
+// A number, high byte first.
+fn put_two_at(out: &mut [u8], at: usize, v: u16)
+    requires { ⌜ at + 2 ≤ length (now out) ⌝ }
+    ensures { λ _. ⌜ now (out .exit) ≡ sets (now (out .entry)) at (twoBytes (v ∷ [])) ⌝ }
+{
+    out[at] = (v / 256) as u8;
+    out[at + 1] = (v % 256) as u8;
+}
+
+// A tag, and the length of so many numbers.
+fn put_head(out: &mut [u8], at: usize, tag: u8, count: u8)
+    requires { ⌜ (count ≤ 4) × (at + 3 ≤ length (now out)) ⌝ }
+    ensures { λ _. ⌜ now (out .exit) ≡ sets (set (now (out .entry)) at tag) (at + 1) (twoBytes (2 * count ∷ [])) ⌝ }
+{
+    out[at] = tag;
+    out[at + 1] = 0;
+    out[at + 2] = 2 * count;
+}
+
+fn lesser(x: usize, y: usize) -> usize
+    ensures { λ r. ⌜ r ≡ lesserOf x y ⌝ }
+    ensures most { λ r. ⌜ r ≤ y ⌝ }
+{
+    if x < y { x } else { y }
+}
+
+fn pick(x: usize, y: usize, v: u16, w: u16) -> u16
+    ensures { λ r. ⌜ r ≡ pickOf x y v w ⌝ }
+{
+    if x < y { v } else { w }
+}
+
+fn either(test: bool, v: u16, w: u16) -> u16
+    ensures { λ r. ⌜ r ≡ (if test then v else w) ⌝ }
+{
+    if test { v } else { w }
+}
+
+// The last number of a record, which goes to the offset `last`.
+fn last_number(at: usize, last: usize, children: bool, r: Row) -> u16
+    requires { ⌜ at ≤ 2500000 ⌝ }
+    ensures { λ v. ⌜ v ≡ lastOf children at last r ⌝ }
+{
+    let n = r.n;
+    let third = pick(at + 7, last, n, r.c);
+    let second = pick(at + 5, last, third, r.b);
+    either(children, n, pick(at + 3, last, second, r.a))
+}
+
+// The numbers of a record, of which the last goes to the offset `last`. A number behind it is stored there too, and the last one over it.
+fn put_numbers(out: &mut [u8], at: usize, last: usize, children: bool, r: Row)
+    requires { ⌜ (at ≤ 2500000) × (at + 3 ≤ last) × (last + 2 ≤ length (now out)) ⌝ }
+    ensures { λ _. ⌜ now (out .exit) ≡ numbersOver children at last r (now (out .entry)) ⌝ }
+{
+    put_two_at(out, at + 3, r.a);
+    put_two_at(out, lesser(at + 5, last), r.b);
+    put_two_at(out, lesser(at + 7, last), r.c);
+    put_two_at(out, last, last_number(at, last, children, r));
+}
+
+// A record at an offset; the offset behind it.
+fn put_whole(out: &mut [u8], at: usize, r: Row) -> usize
+    requires { ⌜ (at ≤ 2500000) × (at + 11 ≤ length (now out)) ⌝ }
+    ensures bytes { λ _. ⌜ now (out .exit) ≡ sets (now (out .entry)) at (recordBytes r) ⌝ }
+    ensures next { λ e. ⌜ e ≡ at + length (recordBytes r) ⌝ }
+{
+    let tag = (r.tag % 256) as u8;
+    let count = fields::numbers_of(tag);
+    let last = at + 1 + 2 * (count as usize);
+    put_head(out, at, tag, count);
+    if count == 0 {
+        return last + 2;
+    }
+    put_numbers(out, at, last, rules::has_children(tag), r);
+    last + 2
+}
+
 fn put_records(out: &mut [u8], tree: usize, records: &[u16], count: u16)
     requires { ⌜ tree ≤ 1500000 ⌝ }
     ensures { λ _. ⌜ now (out .exit) ≡ sets (now (out .entry)) tree (rowsBytes (recordAt (now (records .entry))) 0 count) ⌝ }
@@ -147,9 +242,13 @@ fn put_records(out: &mut [u8], tree: usize, records: &[u16], count: u16)
     let mut at = tree;
     let mut k: u16 = 0;
     while k < count {
-        at = put_record(out, at, tables::row_after(records, RecordId(k)));
+        if out.len() < at + 11 {
+            break;
+        }
+        at = put_whole(out, at, tables::row_after(records, RecordId(k)));
         k += 1;
     }
+    put_rest(out, at, records, k, count);
 }
 
 // ---- the file

@@ -1,11 +1,10 @@
 -- `writing::put_records` meets its contract. Assumes nothing.
-use mathlib.Core.Path.{_≡_, refl, _∙_}
+use mathlib.Core.Path.{_≡_, refl, sym, _∙_}
 use Prim.Native.Nat.{_+_, _*_, _-_, _≤_}
 use native.Mathlib.Nat.{sub-zero}
 use lib.ListN.{length}
 use lib.Seq.{sets}
 use Rattle.writing.specs.Writing.{rowsBytes, recordAt}
-use Rattle.writing.specs.Stored.{rows-last}
 use Rattle.writing.proofs.Laws.{next-most, records-turn}
 use borrow.Author.Needs.{needs}
 use Rattle.writing.proofs.put_records.Statement.{statement}
@@ -25,20 +24,20 @@ loop-holds c = (search needs, search needs, refl, rw sub-zero)
 
 loop-again : tie.Need-loop-again Inv-loop μ-loop
 loop-again c =
-    let at-put-record = c .before .before in
-    let at-row-after = at-put-record .before in
-    let at-loop-test = at-row-after .before .before in
+    let at-put-whole = c .before .before in
+    let at-row-after = at-put-whole .before in
+    let at-loop-test = at-row-after .before .before .before in
     let at-loop = at-loop-test .before in
-    (search needs, next-most _ _ _ _ _ (at-put-record .put-record .ensures .1) (at-loop .loop .inv .1), at-put-record .put-record .kept .0 ∙ at-loop .loop .inv .2, records-turn _ _ _ _ _ _ _ _ _ (at-loop .loop .inv .3) (at-loop-test .loop-test .taken) (at-row-after .row-after .ensures) (at-put-record .put-record .ensures .0) (at-put-record .put-record .ensures .1))
+    (search needs, next-most _ _ _ _ _ (at-put-whole .put-whole .ensures .1) (at-loop .loop .inv .1), at-put-whole .put-whole .kept .0 ∙ at-loop .loop .inv .2, records-turn _ _ _ _ _ _ _ _ _ (at-loop .loop .inv .3) (at-loop-test .loop-test .taken) (at-row-after .row-after .ensures) (at-put-whole .put-whole .ensures .0) (at-put-whole .put-whole .ensures .1))
 
 returns : tie.Need-returns Inv-loop μ-loop
 returns c =
-    let at-loop-test = c in
-    let at-loop = at-loop-test .before in
-    rows-last _ _ _ _ _ _ (at-loop .loop .inv .3) (at-loop-test .loop-test .left)
+    let at-put-rest = c .before .before in
+    let at-loop = at-put-rest .before .before .before in
+    rw (at-put-rest .put-rest .ensures) (sym (at-loop .loop .inv .3))
 
 pub put-records-spec : {M : Type 1} → statement M
 put-records-spec =
     tie.close
     (tie.spec
-    Inv-loop μ-loop loop-holds (λ c κs. search needs) (λ c κs. search needs) (λ c. search needs) (λ c. search needs) loop-again (λ c. search needs) returns)
+    Inv-loop μ-loop loop-holds (λ c. search needs) (λ c κs. search needs) (λ c κs. search needs) (λ c. search needs) (λ c. search needs) loop-again (λ c κs. search needs) (λ c. search needs) returns)
