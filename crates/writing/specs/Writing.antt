@@ -3,7 +3,7 @@
 use mathlib.Core.List.{List, [], _∷_, _++_}
 use mathlib.Core.Bool.{Bool}
 use Prim.Native.Nat.{ℕ, zero, suc, _+_, _*_, _%_}
-use lib.ListN.{getD, set, take}
+use lib.ListN.{getD, take}
 use lib.Seq.{sets}
 use lib.Dec.{ltb}
 use Rattle.meaning.specs.Tree.{if_then_else_}
