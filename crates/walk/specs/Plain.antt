@@ -58,7 +58,8 @@ unfoldable pub visitSomeF : ℕ → Tables → Visiting
 visitSomeF n q =
     let q₁ = rewriteF q in
     let e = enterSomeF n (q₁ .records) (q₁ .walk) in
-    if isLeavingF (q .records) (q .walk) then visiting (leaveF q) 1
+    if eqb n 0 then visiting q 0
+    else if isLeavingF (q .records) (q .walk) then visiting (leaveF q) 1
     else if ltb (q .walk .gap .0) (q .walk .end .0) then visiting (tables (e .records) (q₁ .scopes) (q₁ .symbols) (e .walk)) (e .visits)
     else visiting q 1
 
@@ -150,9 +151,12 @@ module _ (m : ℕ) (q : Tables) (goes : isOverIn q ≡ false) where
   left : suc m - 1 ≡ m
   left = omega arith
 
+  asked : eqb (suc m) 0 ≡ false
+  asked = begun (suc m) (omega arith)
+
   leaves : isLeavingF (q .records) (q .walk) ≡ true → Goes (suc m) q (visitSomeF (suc m) q)
   unfolding visitSomeF visitF until
-  leaves e = rw (e, goes, left) (omega arith, omega arith, refl)
+  leaves e = rw (asked, e, goes, left) (omega arith, omega arith, refl)
 
   enters : isLeavingF (q .records) (q .walk) ≡ false → ltb (q .walk .gap .0) (q .walk .end .0) ≡ true
       → Goes (suc m) q (visitSomeF (suc m) q)
@@ -163,7 +167,7 @@ module _ (m : ℕ) (q : Tables) (goes : isOverIn q ≡ false) where
       let g = at-once m 1 (o .records) (q₁ .scopes) (q₁ .symbols) (o .walk) (omega arith) in
       let v = until m stopsF enterOneF (entering (o .records) (o .walk) 1) .visits in
       let same : suc m - v ≡ m + 1 - v = omega arith in
-      rw (e, f, goes, same) (g .0, omega (arith, g .1), g .2)
+      rw (asked, e, f, goes, same) (g .0, omega (arith, g .1), g .2)
 
   not-both : isLeavingF (q .records) (q .walk) ≡ false → ltb (q .walk .gap .0) (q .walk .end .0) ≡ false → ⊥
   unfolding isOverF

@@ -266,6 +266,9 @@ pub fn visit_some(
 ) -> Visited
     ensures { λ r. ⌜ visiting (tables (now (records .exit)) (now (scopes .exit)) (now (symbols .exit)) (r .walk)) (r .visits) ≡ visitSomeF limit (tables (now (records .entry)) (now (scopes .entry)) (now (symbols .entry)) walk) ⌝ }
 {
+    if limit == 0 {
+        return Visited { walk, visits: 0 };
+    }
     if is_leaving(records, walk) {
         Visited {
             walk: leave(records, scopes, symbols, walk),
