@@ -1,22 +1,24 @@
 -- The whole file: what the check computes is what the reader answers.
 -- Assumes nothing.
-use mathlib.Core.Path.{_≡_, refl, sym, ap, subst, _∙_}
+use mathlib.Core.Path.{_≡_, refl, sym, ap, _∙_}
 use mathlib.Core.Bool.{Bool, true, false, _&&_}
 use mathlib.Core.List.{List}
-use Prim.Native.Nat.{ℕ, zero, suc, _+_, _*_}
+use Prim.Native.Nat.{ℕ, _+_, _*_}
 use native.Mathlib.Omega.{arith}
 use lib.Dec.{leb}
 use lib.ListN.{length, replicate, length-replicate}
 use Rattle.meaning.specs.Tree.{if_then_else_}
-use Rattle.meaning.specs.File.{Symbol, File, numbersOf, fieldBytes}
-use Rattle.meaning.specs.Grammar.{tagsOf, fieldOf, fieldAt, scopeRight, unnamed}
-use Rattle.meaning.specs.Reading.{Outcome, accepted, refused, _>>=_, _>>_, ensure, field, judged, andRows, Records, Counted, rows, scopeAt, readRows, readScopes, readSymbols, scopesIn, symbolsIn, readForest, readFile}
-use Rattle.meaning.specs.declared.Place.the-variants.{Settings, ScopeRow, Program}
+use Rattle.meaning.specs.File.{Symbol, File}
+use Rattle.meaning.specs.Grammar.{fieldAt, unnamed}
+use Rattle.meaning.specs.Reading.{Outcome, accepted, refused, _>>=_, _>>_, ensure, field, Records, Counted, rows, readScopes, readSymbols, scopesIn, symbolsIn, readForest, readFile}
+use Rattle.meaning.specs.declared.Place.the-variants.{Settings, Program}
 use Rattle.meaning.specs.declared.Field.{Field}
 use Rattle.meaning.specs.declared.Reading.{Reading}
 use Rattle.meaning.specs.declared.Reading.the-variants.{Whole as WholeField, Refused as RefusedField}
 use Rattle.meaning.specs.declared.Rows.{Rows}
 use Rattle.meaning.specs.declared.Rows.the-variants.{Read, Refused as RefusedRows}
+use Rattle.parsing.specs.Fields.{field-is, scopes-are}
+use Rattle.parsing.specs.Files.{settings-are, scopes-length, symbols-length}
 use Rattle.tallies.specs.Tally.{noTally, _⊞_, cap, tallyOf}
 use Rattle.tallies.specs.declared.Tally.{Tally}
 use Rattle.tallies.specs.declared.Up.the-variants.{Plain}
@@ -25,7 +27,6 @@ use Rattle.checking.specs.declared.Whole.{Whole}
 use Rattle.checking.specs.declared.Whole.the-variants.{Accepted, Refused as RefusedFile}
 use Rattle.checking.specs.Flat.{Past, listF, recordF, runAnswer, endF, answerOf, treeF, byRows, byField, rowsF, fileF}
 use Rattle.checking.proofs.Cap.{none-⊞}
-use Rattle.checking.proofs.Body.{tag-is}
 use Rattle.checking.proofs.Link.{forget, asRead, link-forest}
 
 -- what a file comes to
@@ -35,58 +36,6 @@ tallyIn f = tallyOf (f .symbols) (λ _. Plain) 0 (f .tree)
 abbrev pub wholeOf : Outcome File → Whole
 wholeOf (accepted f) = Accepted (f .mode) (record { scopes = length (f .scopes); symbols = length (f .symbols) }) (cap (tallyIn f))
 wholeOf (refused c p) = RefusedFile c p
-
--- ---- the rows: their number, and where they end
-
-length-scopes : (f : List ℕ) (n s : ℕ) → length (scopesIn f n s) ≡ n
-unfolding scopesIn
-length-scopes f zero s = refl
-length-scopes f (suc n) s = ap suc (length-scopes f n (suc s))
-
-length-symbols : (f : List ℕ) (n at : ℕ) → length (symbolsIn f n at) ≡ n
-unfolding symbolsIn
-length-symbols f zero at = refl
-length-symbols f (suc n) at = ap suc (length-symbols f n (at + 11))
-
--- scope rows have 7 bytes each
-abbrev Ends : ℕ → Rows → Type 0
-Ends from (Read k at) = at ≡ from + 7 * k
-Ends from (RefusedRows c p) = Unit {0}
-
-ends-if : (b : Bool) (from : ℕ) (x y : Rows) → Ends from x → Ends from y → Ends from (if b then x else y)
-ends-if true from x y hx hy = hx
-ends-if false from x y hx hy = hy
-
-judged-inv : (test : Field → Bool) (at : ℕ) (d : Reading) (x : Field) → judged test at d ≡ WholeField x → d ≡ WholeField x
-judged-inv test at (WholeField y) x e = go (test y) e
-  where
-    go : (b : Bool) → (if b then WholeField y else RefusedField 5 at) ≡ WholeField x → WholeField y ≡ WholeField x
-    go true e = e
-    go false e = absurd (let z : _≡_ {A = ℕ} 0 1 = cc in omega arith)
-judged-inv test at (RefusedField c p) x e = e
-
-scope-next : (f : List ℕ) (k at : ℕ) (x : Field) → scopeAt f k at ≡ WholeField x → x .next ≡ at + 7
-unfolding scopeAt tagsOf fieldOf fieldBytes numbersOf
-scope-next f k at x e =
-    let w = tag-is f ScopeRow at 41 x (judged-inv (scopeRight k) at (fieldAt f ScopeRow at) x e) refl in
-    ap (λ (y : Field). y .next) (w .2) ∙ (rw (w .0))
-
-ends-field : (d : Reading) (from : ℕ) (g : Field → Rows) → ((x : Field) → d ≡ WholeField x → Ends from (g x)) → Ends from (andRows d g)
-ends-field (WholeField x) from g h = h x refl
-ends-field (RefusedField c p) from g h = tt
-
-rows-end : (again : ℕ → ℕ → Bool) (f : List ℕ) (from n k at : ℕ) → at ≡ from + 7 * k → Ends from (readRows again (scopeAt f) n k at)
-unfolding readRows
-rows-end again f from zero k at e = e
-rows-end again f from (suc n) k at e =
-    ends-if (again k at) from _ _
-    (ends-field (scopeAt f k at) from _ (λ x w.
-    rows-end again f from n (k + 1) (x .next) (omega (arith, scope-next f k at x w))))
-    e
-
-scopes-end : (f : List ℕ) (from n at : ℕ) → readScopes f from ≡ Read n at → at ≡ from + 7 * n
-unfolding readScopes
-scopes-end f from n at e = subst (Ends from) e (rows-end _ f from 9362 0 from (omega arith))
 
 -- ---- the tree
 
@@ -152,14 +101,17 @@ made-is : (f : List ℕ) (mode modul n syms at : ℕ) (k : Records) → at ≡ 7
     → wholeOf (accepted (record { mode = mode; isModule = modul; scopes = scopesIn f n 1; symbols = symbolsIn f syms at; tree = k .forest }))
     ≡ Accepted mode (record { scopes = n; symbols = syms }) (cap (noTally ⊞ tallyOf (asRead f n syms) (λ _. Plain) 0 (k .forest)))
 made-is f mode modul n syms at k e =
-    rw (length-scopes f n 1, length-symbols f syms at, e)
+    rw (scopes-length f n 1, symbols-length f syms at, e)
     (ap (λ (t : Tally). Accepted mode (record { scopes = n; symbols = syms }) (cap t)) (sym (none-⊞ _)))
 
-settings-next : (f : List ℕ) (x : Field) → fieldAt f Settings 0 ≡ WholeField x → x .next ≡ 7
-unfolding tagsOf fieldOf fieldBytes numbersOf
-settings-next f x e =
-    let w = tag-is f Settings 0 40 x e refl in
-    ap (λ (y : Field). y .next) (w .2) ∙ (rw (w .0))
+-- the first symbol row stands behind the settings and n scope rows
+symbols-from : (f : List ℕ) (x : Field) (n at : ℕ) → fieldAt f Settings 0 ≡ WholeField x → readScopes f (x .next) ≡ Read n at
+    → at ≡ 7 + 7 * n
+symbols-from f x n at e r =
+    let s = field-is f Settings 0 x e in
+    let y = s .1 in
+    let next = ap (λ (z : Field). z .next) (s .0) in
+    omega (arith, next, settings-are f y .2, scopes-are f (x .next) n at (omega (arith, next, y .ends)) r .next-is)
 
 pub whole-is : (f : List ℕ) → wholeOf (readFile f) ≡ fileF f
 unfolding readFile fileF rowsF treeF
@@ -171,6 +123,6 @@ whole-is f =
     by-rows (readSymbols f n at) _ _ (λ syms at₂ ey.
     end-is f n (asRead f n syms) (readForest 64 f syms (λ _. Program) 0 0 1 at₂ (replicate n 0)) _ _ (s .a) (record { scopes = n; symbols = syms })
     (program-is f n syms at₂ (replicate n 0))
-    (λ k. made-is f (s .a) (s .b) n syms at k (scopes-end f (s .next) n at en ∙ ap (λ (i : ℕ). i + 7 * n) (settings-next f s es)))
+    (λ k. made-is f (s .a) (s .b) n syms at k (symbols-from f s n at es en))
     ∙ ap (λ (j : ℕ). runAnswer (s .a) (record { scopes = n; symbols = syms }) (answerOf (endF f j (recordF 64 f n syms Program Plain 0 noTally at₂ (replicate n 0)))))
     (sym (length-replicate n 0)))))))

@@ -38,28 +38,16 @@ use Rattle.meaning.specs.declared.Place.the-variants.{ForOfLeft}
 use Rattle.meaning.specs.declared.Field.{Field}
 use Rattle.meaning.specs.declared.Reading.{Reading}
 use Rattle.meaning.specs.declared.Reading.the-variants.{Whole, Refused as RefusedField}
+use Rattle.parsing.specs.Parsed.{Parsed}
+use Rattle.parsing.specs.Records.{forest-parsed}
 use Rattle.tallies.specs.Tally.{upOf, bodyOf, bodyUp, insertsIn, noTally, _⊞_, cap, own, tallyOf}
 use Rattle.tallies.specs.declared.Tally.{Tally}
 use Rattle.tallies.specs.declared.Up.{Up}
 use Rattle.checking.specs.Flat.{Entered, Past, enterF, upsF, addF, listF, recordF}
 use Rattle.checking.proofs.Cap.{⊞-assoc, none-⊞, ⊞-none, add-cap}
-use Rattle.checking.proofs.Body.{Inside, list-first, accepted-inj, is-eq, and-inv, body-is}
+use Rattle.checking.proofs.Body.{is-eq, and-inv, body-is}
 
 -- ---- what an accepted list of children tells
-
-list-count : (inside : Inside) (f : List ℕ) (syms : ℕ) (place : ℕ → Place) (cur n j at : ℕ) (m : List ℕ) (k : Records)
-    → readList inside f syms place cur j n at m ≡ accepted k → count (k .forest) ≡ n
-unfolding readList count
-list-count inside f syms place cur zero j at m k e = ap (λ (r : Records). count (r .forest)) (sym (accepted-inj _ k e))
-list-count inside f syms place cur (suc n) j at m k e =
-    let a = list-first inside f syms place cur j n at m k e in
-    ap count (a .7) ∙ ap suc (list-count inside f syms place cur n (suc j) (a .3 .next) (a .3 .marks) (a .5) (a .6))
-
-forest-count : (l : ℕ) (f : List ℕ) (syms : ℕ) (place : ℕ → Place) (cur n j at : ℕ) (m : List ℕ) (k : Records)
-    → readForest l f syms place cur j n at m ≡ accepted k → count (k .forest) ≡ n
-unfolding readForest
-forest-count zero f syms place cur n j at m k e = list-count _ f syms place cur n j at m k e
-forest-count (suc l) f syms place cur n j at m k e = list-count _ f syms place cur n j at m k e
 
 -- only a ForOf looks at what its body is
 ups-same : (u : Up) (t : ℕ) (held : Bool) (b₁ b₂ : Up) (is : Bool) → eqb t 8 ≡ is → (eqb t 8 ≡ true → b₁ ≡ b₂) → upOf u t held b₁ ≡ upOf u t held b₂
@@ -80,14 +68,13 @@ unfolding placeOf
 forOf-place p x t = rw t
 
 -- what the children of a record are to it, in the bytes and in the tree
-ups-are : (l : ℕ) (f : List ℕ) (syms : ℕ) (p : Place) (u : Up) (x : Field) (cur : ℕ) (m : List ℕ) (k : Records) → right p syms x ≡ true
-    → readForest l f syms (placeOf p x) cur 0 (childrenOf x) (x .next) m ≡ accepted k
-    → upOf u (x .tag) (isUsing (headOf x)) (bodyOf (k .forest)) ≡ upsF f u x
-ups-are l f syms p u x cur m k r e =
-    ups-same u (x .tag) (isUsing (headOf x)) (bodyOf (k .forest)) (bodyUp f (x .next)) (eqb (x .tag) 8) refl (λ t.
-    body-is l f syms (placeOf p x) cur 2 (x .next) m k
-    (forOf-place p x (is-eq (x .tag) 8 t))
-    (rw (forOf-kids p syms x (is-eq (x .tag) 8 t) r) at e))
+ups-are : (f : List ℕ) (syms : ℕ) (p : Place) (u : Up) (x : Field) {cur next : ℕ} {m o : List ℕ} {t : Forest} → right p syms x ≡ true
+    → count t ≡ childrenOf x → Parsed f syms (placeOf p x) 0 cur (x .next) m t next o
+    → upOf u (x .tag) (isUsing (headOf x)) (bodyOf t) ≡ upsF f u x
+ups-are f syms p u x {t = t} r n k =
+    ups-same u (x .tag) (isUsing (headOf x)) (bodyOf t) (bodyUp f (x .next)) (eqb (x .tag) 8) refl (λ e.
+    let tag = is-eq (x .tag) 8 e in
+    body-is (forOf-place p x tag) (omega (arith, n, forOf-kids p syms x tag r)) k)
 
 -- ---- answers
 
@@ -143,6 +130,9 @@ module _ (ys : List Symbol) (ups : ℕ → Up) (k : ℕ) (t : Tally) where
   after-field (RefusedField c p) g gF kidsF restF h = refl
 
 -- ---- lists
+
+abbrev Inside : Type 0
+Inside = Place → Field → ℕ → ℕ → List ℕ → Outcome Records
 
 abbrev InsideF : Type 0
 InsideF = Place → Up → ℕ → ℕ → Entered → Outcome Past
@@ -202,10 +192,11 @@ module _ (f : List ℕ) (scopes syms : ℕ) where
   sums : (l : ℕ) → Sums (λ p x at cur m. readForest l f syms (placeOf p x) cur 0 (childrenOf x) (x .next) m)
   unfolding Sums headOf
   sums l p u x at cur m t kids r e =
+      let q = forest-parsed f syms l (placeOf p x) cur 0 (childrenOf x) (x .next) m kids e in
       ap (λ (n : ℕ). cap (t ⊞ own u (insertsIn asRead u (headOf x)) (headOf x) n (tallyOf asRead (upOf u (x .tag) (isUsing (headOf x)) (bodyOf (kids .forest))) 0 (kids .forest))))
-      (forest-count l f syms (placeOf p x) cur (childrenOf x) 0 (x .next) m kids e)
+      (q .1)
       ∙ ap (λ (v : ℕ → Up). cap (t ⊞ own u (insertsIn asRead u (headOf x)) (headOf x) (childrenOf x) (tallyOf asRead v 0 (kids .forest))))
-      (ups-are l f syms p u x cur m kids r e)
+      (ups-are f syms p u x r (q .1) (q .0))
       ∙ sym (add-cap t u (insertsIn asRead u (headOf x)) (headOf x) (childrenOf x) (tallyOf asRead (upsF f u x) 0 (kids .forest)))
       ∙ ap (λ (s : Tally). addF f scopes syms u x (cap t) (cap s)) (sym (none-⊞ (tallyOf asRead (upsF f u x) 0 (kids .forest))))
 

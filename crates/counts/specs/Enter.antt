@@ -1,19 +1,16 @@
 -- What entering and leaving a record does to the visits that are left.
 -- Assumes nothing.
-use mathlib.Core.Path.{_≡_, refl, sym, ap, subst, _∙_}
-use mathlib.Core.Bool.{Bool, true, false, not, _||_, _&&_}
+use mathlib.Core.Path.{_≡_, refl, sym, ap, _∙_}
+use mathlib.Core.Bool.{Bool, true, false, _||_, _&&_}
 use mathlib.Core.List.{List, [], _∷_, _++_}
 use Prim.Native.Nat.{ℕ, suc, _+_}
 use lib.Dec.{eqb, ltb}
-use borrow.Author.Tests.{eqb-true}
-use Rattle.meaning.specs.Tree.{if_then_else_, oneOf, Head, hd, Forest, none, more, one, count, Node, node, _&_}
+use borrow.Author.Tests.{eqb-true, eq-eqb}
+use Rattle.meaning.specs.Tree.{if_then_else_, oneOf, Head, hd, Forest, none, more, count, Node, node, _&_}
 use Rattle.meaning.specs.File.{Symbol}
 use Rattle.meaning.specs.Scoping.{Store, return}
 use Rattle.meaning.specs.Statements.{isUsing, anyUsing, createTryStmt}
 use Rattle.meaning.specs.Contexts.{
-  anyPartUsing,
-  anyCaseUsing,
-  forList,
   transformBlockStatement,
   enterFunctionBody,
   exitStaticBlock,
@@ -21,15 +18,15 @@ use Rattle.meaning.specs.Contexts.{
   transformForStatement,
   transformSwitchStatement,
 }
-use Rattle.meaning.specs.ForOf.{bindsIdentifier, boundSymbol, bindsName, enterForOfStatement}
+use Rattle.meaning.specs.ForOf.{bindsIdentifier, enterForOfStatement}
 use Rattle.meaning.specs.Program.{enterProgram}
-use Rattle.meaning.specs.Walk.{isStaticBlock, Act, keep, forOfAct, actOf, enterAs, leave}
+use Rattle.meaning.specs.Walk.{isStaticBlock, Act, switch, actOf, enterAs, leave}
 use Rattle.meaning.specs.Charges.{Line, ofStaticBlock, initializers, wraps, contextLines}
 use Rattle.meaning.specs.VisitCharges.{standing, enterLines, visitsAs, visitsIn}
-use Rattle.tags.specs.Tags.{Seen, other, here, there, seen, and-left, and-right}
 use Rattle.totals.specs.Roles.{Lacks}
 use Rattle.growth.specs.ForOf.{Named}
 use Rattle.growth.specs.Program.{Exports}
+use Rattle.growth.specs.Chosen.{Chosen, kept, as-program, as-block, as-body, as-try, as-for, as-switch, as-insert, as-wrap, chosen, at-tag, at-loop}
 use Rattle.growth.specs.Enter.{NamedLeft, Proper}
 use Rattle.counts.specs.Visits.{spread}
 use Rattle.counts.specs.TakenUp.{Labelled}
@@ -148,81 +145,41 @@ module _ (ys : List Symbol) where
         alike = λ r. alike-head h (e .0 .head) k (e .0 .children) r p q;
       }
 
-  module _ (cur hoist : ℕ) (h : Head) (k : Forest) (st : Store) where
-    abbrev By : Act → Type 0
-    By a = Enters ys a h k (enterAs a cur hoist h k st)
-
-    kept : By keep
-    unfolding enterAs visitsAs enterLines
-    kept =
-        record {
-          visits =
-              λ xs. ap (λ (v : List (List Line)). [] ∷ (visitsIn ys k standing ++ v))
-              (leave-if (isStaticBlock h) (contextLines ofStaticBlock k) xs);
-          alike = λ r. (refl, refl, refl, refl);
-        }
-
-    by-if : (b : Bool) {x y : Act} → (b ≡ true → By x) → By y → By (if b then x else y)
-    by-if true p q = p refl
-    by-if false p q = q
-
-  for-of : (cur hoist a b c : ℕ) (k : Forest) (st : Store) → Left k → By cur hoist (hd 8 a b c) k st (forOfAct ys k)
-  unfolding forOfAct enterAs enterForOfStatement isUsing
-  for-of cur hoist a b c none st p = kept cur hoist (hd 8 a b c) none st
-  for-of cur hoist a b c (more h₁ k₁ none) st p = kept cur hoist (hd 8 a b c) (one h₁ k₁) st
-  for-of cur hoist a b c (more h₁ k₁ (more h₂ k₂ none)) st p = kept cur hoist (hd 8 a b c) (more h₁ k₁ (one h₂ k₂)) st
-  for-of cur hoist a b c (more h₁ k₁ (more h₂ k₂ (more h₃ k₃ r))) st p =
-      let h = hd 8 a b c in
-      let k = more h₁ k₁ (more h₂ k₂ (more h₃ k₃ r)) in
-      by-if cur hoist h k st (isUsing h₁ && bindsIdentifier k₁)
-      (λ e.
-      let u = and-left (isUsing h₁) (bindsIdentifier k₁) e in
-      let i = and-right (isUsing h₁) (bindsIdentifier k₁) e in
-      by-if cur hoist h k st (eqb (h₃ .tag) 2 && not (bindsName ys (h₃ .a) (boundSymbol k₁)))
-      (λ d.
-      let two = eqb-true (h₃ .tag) 2 (and-left (eqb (h₃ .tag) 2) (not (bindsName ys (h₃ .a) (boundSymbol k₁))) d) in
-      changed (insert-opens ys h h₁ k₁ h₂ k₂ h₃ k₃ r st u i (p e .0) (p e .2) two) (refl, refl) (refl, refl) refl)
-      (changed (wrap-opens ys h h₁ k₁ h₂ k₂ h₃ k₃ r st u i (p e .0) (p e .2)) (refl, refl) (refl, refl) refl))
-      (kept cur hoist h k st)
-
-  -- by the tag
-  entered-as : {t : ℕ} (cur hoist a b c : ℕ) (k : Forest) (st : Store) → Fit (hd t a b c) k → Seen (1 ∷ 2 ∷ 4 ∷ 7 ∷ 8 ∷ 9 ∷ 11 ∷ 14 ∷ []) t
-      → By cur hoist (hd t a b c) k st (actOf ys (hd t a b c) k)
-  unfolding actOf enterAs isUsing enterProgram transformBlockStatement transformForStatement transformSwitchStatement enterTryStatement enterFunctionBody createTryStmt forList
-  entered-as cur hoist a b c k st p here =
-      let h = hd 1 a b c in
-      by-if cur hoist h k st (anyUsing k)
-      (λ u. changed (program-opens ys h k st (p .items refl u .0) (p .items refl u .1) u) (refl, refl) (refl, refl) refl)
-      (kept cur hoist h k st)
-  entered-as cur hoist a b c k st p (there e₁ here) =
-      let h = hd 2 a b c in
-      by-if cur hoist h k st (anyUsing k) (λ u. changed (block-opens ys cur hoist h k st) (refl, refl) (refl, refl) refl) (kept cur hoist h k st)
-  entered-as cur hoist a b c k st p (there e₁ (there e₂ here)) =
-      let h = hd 4 a b c in
-      by-if cur hoist h k st (anyUsing (forList k))
-      (λ u. changed (for-opens ys cur hoist h k st refl (p .label) u) (refl, refl) (refl, refl) refl)
-      (kept cur hoist h k st)
-  entered-as cur hoist a b c k st p (there e₁ (there e₂ (there e₄ here))) =
-      let h = hd 7 a b c in
-      by-if cur hoist h k st (anyUsing k)
-      (λ u. changed (for-opens ys cur hoist h k st refl (p .label) u) (refl, refl) (refl, refl) refl)
-      (kept cur hoist h k st)
-  entered-as cur hoist a b c k st p (there e₁ (there e₂ (there e₄ (there e₇ here)))) = for-of cur hoist a b c k st (p .side refl)
-  entered-as cur hoist a b c k st p (there e₁ (there e₂ (there e₄ (there e₇ (there e₈ here))))) =
-      let h = hd 9 a b c in
-      by-if cur hoist h k st (anyCaseUsing k) (λ u. changed (switch-opens ys cur a b c k st) (refl, refl) (refl, refl) refl) (kept cur hoist h k st)
-  entered-as cur hoist a b c k st p (there e₁ (there e₂ (there e₄ (there e₇ (there e₈ (there e₉ here)))))) =
-      let h = hd 11 a b c in
-      by-if cur hoist h k st (anyPartUsing k) (λ u. changed (try-opens ys cur hoist h k st) (refl, refl) (refl, refl) refl) (kept cur hoist h k st)
-  entered-as cur hoist a b c k st p (there e₁ (there e₂ (there e₄ (there e₇ (there e₈ (there e₉ (there e₁₁ here))))))) =
-      let h = hd 14 a b c in
-      by-if cur hoist h k st (anyUsing k) (λ u. changed (body-opens ys cur hoist h k st) (refl, refl) (refl, refl) refl) (kept cur hoist h k st)
-  entered-as {t} cur hoist a b c k st p (there e₁ (there e₂ (there e₄ (there e₇ (there e₈ (there e₉ (there e₁₁ (there e₁₄ other)))))))) =
-      let h = hd t a b c in
-      let none-of : actOf ys h k ≡ keep = rw (e₁, e₂, e₄, e₇, e₈, e₉, e₁₁, e₁₄) in
-      subst (λ (x : Act). By cur hoist h k st x) (sym none-of) (kept cur hoist h k st)
+  -- by the act
+  act-enters : {a : Act} {h : Head} {k : Forest} (cur hoist : ℕ) (st : Store) → Fit h k → Chosen a h k
+      → Enters ys a h k (enterAs a cur hoist h k st)
+  unfolding enterAs visitsAs enterLines isUsing enterProgram transformBlockStatement transformForStatement transformSwitchStatement enterTryStatement enterFunctionBody enterForOfStatement createTryStmt
+  act-enters {h = h} {k = k} cur hoist st p kept =
+      record {
+        visits =
+            λ xs. ap (λ (v : List (List Line)). [] ∷ (visitsIn ys k standing ++ v))
+            (leave-if (isStaticBlock h) (contextLines ofStaticBlock k) xs);
+        alike = λ r. (refl, refl, refl, refl);
+      }
+  act-enters {h = h} {k = k} cur hoist st p (as-program e u) =
+      let i = p .items (eq-eqb (h .tag) 1 e) u in
+      changed (program-opens ys h k st (i .0) (i .1) u) (at-tag Plain h 1 e (refl, refl)) (at-tag Plain h 1 e (refl, refl)) (rw e)
+  act-enters {h = h} {k = k} cur hoist st p (as-block e u) =
+      changed (block-opens ys cur hoist h k st) (at-tag Plain h 2 e (refl, refl)) (refl, refl) refl
+  act-enters {h = h} {k = k} cur hoist st p (as-body e u) =
+      changed (body-opens ys cur hoist h k st) (at-tag Plain h 14 e (refl, refl)) (refl, refl) refl
+  act-enters {h = h} {k = k} cur hoist st p (as-try e u) =
+      changed (try-opens ys cur hoist h k st) (at-tag Plain h 11 e (refl, refl)) (at-tag Plain h 11 e (refl, refl)) (rw e)
+  act-enters {h = h} {k = k} cur hoist st p (as-for e u) =
+      let n : Plain h = at-loop Plain h e (refl, refl) (refl, refl) in
+      changed (for-opens ys cur hoist h k st (n .0) (p .label) u) n (refl, refl) refl
+  act-enters {h = h} {k = k} cur hoist st p (as-switch e u) =
+      at-tag (λ g. Enters ys switch g k (transformSwitchStatement cur g k st)) h 9 e
+      (changed (switch-opens ys cur (h .a) (h .b) (h .c) k st) (refl, refl) (refl, refl) refl)
+  act-enters {h = h} cur hoist st p (as-insert {h₁ = h₁} {h₂ = h₂} {h₃ = h₃} {k₁ = k₁} {k₂ = k₂} {k₃ = k₃} {r = r} e b two) =
+      let q = p .side (eq-eqb (h .tag) 8 e) (b .both) in
+      let n : Plain h = at-tag Plain h 8 e (refl, refl) in
+      changed (insert-opens ys h h₁ k₁ h₂ k₂ h₃ k₃ r st (b .uses) (b .identifier) (q .0) (q .2) two) n n (rw e)
+  act-enters {h = h} cur hoist st p (as-wrap {h₁ = h₁} {h₂ = h₂} {h₃ = h₃} {k₁ = k₁} {k₂ = k₂} {k₃ = k₃} {r = r} e b) =
+      let q = p .side (eq-eqb (h .tag) 8 e) (b .both) in
+      let n : Plain h = at-tag Plain h 8 e (refl, refl) in
+      changed (wrap-opens ys h h₁ k₁ h₂ k₂ h₃ k₃ r st (b .uses) (b .identifier) (q .0) (q .2)) n n (rw e)
 
   pub enters : (cur hoist : ℕ) (h : Head) (k : Forest) (st : Store) → Fit h k
       → Enters ys (actOf ys h k) h k (enterAs (actOf ys h k) cur hoist h k st)
-  enters cur hoist h k st p =
-      entered-as cur hoist (h .a) (h .b) (h .c) k st p (seen (1 ∷ 2 ∷ 4 ∷ 7 ∷ 8 ∷ 9 ∷ 11 ∷ 14 ∷ []) (h .tag))
+  enters cur hoist h k st p = act-enters cur hoist st p (chosen ys h k)

@@ -7,7 +7,6 @@ use Prim.Native.Nat.{ℕ}
 use lib.Dec.{eqb}
 use borrow.Author.Tests.{eqb-true}
 use Rattle.meaning.specs.Tree.{if_then_else_, oneOf, Head, hd, Forest, none, more, one, Node, node, single, _&_}
-use Rattle.meaning.specs.File.{Symbol}
 use Rattle.meaning.specs.Scoping.{
   Store,
   Change,
@@ -23,40 +22,22 @@ use Rattle.meaning.specs.Scoping.{
 }
 use Rattle.meaning.specs.Shapes.{read}
 use Rattle.meaning.specs.HelperLoader.{helperLoad}
-use Rattle.meaning.specs.Statements.{
-  isUsing,
-  anyUsing,
-  anyAwaitUsing,
-  takeUp,
-  makeContext,
-  transformStatements,
-  createTryStmt,
-}
+use Rattle.meaning.specs.Statements.{anyUsing, anyAwaitUsing, takeUp, makeContext, transformStatements, createTryStmt}
 use Rattle.meaning.specs.Contexts.{
   transformBlockStatement,
   enterFunctionBody,
   transformTryBlock,
-  anyPartUsing,
   transformHandler,
   transformTryParts,
   enterTryStatement,
   forList,
   takeUpFor,
   transformForStatement,
-  anyCaseUsing,
   anyCaseAwaitUsing,
   takeUpCases,
   transformSwitchStatement,
 }
-use Rattle.meaning.specs.ForOf.{
-  bindsIdentifier,
-  boundSymbol,
-  bindsName,
-  rebind,
-  insertUsing,
-  wrapBody,
-  enterForOfStatement,
-}
+use Rattle.meaning.specs.ForOf.{bindsIdentifier, boundSymbol, rebind, insertUsing, wrapBody, enterForOfStatement}
 use Rattle.meaning.specs.Program.{
   transformClassDecl,
   Split,
@@ -76,24 +57,10 @@ use Rattle.meaning.specs.Program.{
   programItems,
   enterProgram,
 }
-use Rattle.meaning.specs.Walk.{
-  Act,
-  keep,
-  program,
-  block,
-  functionBody,
-  tryParts,
-  forLoop,
-  switch,
-  forOfInsert,
-  forOfWrap,
-  forOfAct,
-  actOf,
-  enterAs,
-  enter,
-}
-use Rattle.tags.specs.Tags.{Seen, other, here, there, seen, clash, and-left, and-right}
+use Rattle.meaning.specs.Walk.{Act, enterAs, enter}
+use Rattle.tags.specs.Tags.{Seen, other, here, there, seen, clash, and-left}
 use Rattle.totals.specs.Roles.{Lacks}
+use Rattle.growth.specs.Chosen.{Chosen, kept, as-program, as-block, as-body, as-try, as-for, as-switch, as-insert, as-wrap, chosen}
 use Rattle.counts.specs.Enter.{Fit}
 use Rattle.counts.specs.Fits.{Fits, easy, catch-fit, fits-&, list-fits, cases-fit, loop-fits, declared-fits, try-fits}
 
@@ -334,59 +301,23 @@ program-fits h k st p =
 
 -- ---- any record
 
-module _ (cur hoist : ℕ) (h : Head) (k : Forest) (st : Store) where
-  abbrev By : Act → Type 0
-  By a = Fits ((enterAs a cur hoist h k st) .0 .children)
-
-  by-if : (b : Bool) (x y : Act) → (b ≡ true → By x) → By y → By (if b then x else y)
-  by-if true x y p q = p refl
-  by-if false x y p q = q
-
-for-of-fits : (ys : List Symbol) (cur hoist : ℕ) (h : Head) (k : Forest) (st : Store) → Fits k → By cur hoist h k st (forOfAct ys k)
-unfolding forOfAct enterAs
-for-of-fits ys cur hoist h none st p = p
-for-of-fits ys cur hoist h (more h₁ k₁ none) st p = p
-for-of-fits ys cur hoist h (more h₁ k₁ (more h₂ k₂ none)) st p = p
-for-of-fits ys cur hoist h (more h₁ k₁ (more h₂ k₂ (more h₃ k₃ r))) st p =
-    let k = more h₁ k₁ (more h₂ k₂ (more h₃ k₃ r)) in
-    let free-name = not (bindsName ys (h₃ .a) (boundSymbol k₁)) in
-    by-if cur hoist h k st (isUsing h₁ && bindsIdentifier k₁) (if eqb (h₃ .tag) 2 && free-name then forOfInsert else forOfWrap) keep
-    (λ e.
-    let i = and-right (isUsing h₁) (bindsIdentifier k₁) e in
-    by-if cur hoist h k st (eqb (h₃ .tag) 2 && free-name) forOfInsert forOfWrap
-    (λ d. insert-fits h h₁ k₁ h₂ k₂ h₃ k₃ r st i (eqb-true (h₃ .tag) 2 (and-left (eqb (h₃ .tag) 2) free-name d)) p)
-    (wrap-fits h h₁ k₁ h₂ k₂ h₃ k₃ r st i p))
-    p
-
-entered-fits : {t : ℕ} (ys : List Symbol) (cur hoist a b c : ℕ) (k : Forest) (st : Store) → Fit (hd t a b c) k → Fits k
-    → Seen (1 ∷ 2 ∷ 4 ∷ 7 ∷ 8 ∷ 9 ∷ 11 ∷ 14 ∷ []) t
-    → By cur hoist (hd t a b c) k st (actOf ys (hd t a b c) k)
-unfolding actOf enterAs enterTryStatement forList
-entered-fits ys cur hoist a b c k st o p here =
-    let h = hd 1 a b c in
-    by-if cur hoist h k st (anyUsing k) program keep (λ u. program-fits h k st p) p
-entered-fits ys cur hoist a b c k st o p (there e₁ here) =
-    let h = hd 2 a b c in
-    by-if cur hoist h k st (anyUsing k) block keep (λ u. block-fits cur hoist h k st p) p
-entered-fits ys cur hoist a b c k st o p (there e₁ (there e₂ here)) =
-    let h = hd 4 a b c in
-    by-if cur hoist h k st (anyUsing (forList k)) forLoop keep (λ u. for-fits cur hoist h k st o u p) p
-entered-fits ys cur hoist a b c k st o p (there e₁ (there e₂ (there e₄ here))) =
-    let h = hd 7 a b c in
-    by-if cur hoist h k st (anyUsing k) forLoop keep (λ u. for-fits cur hoist h k st o u p) p
-entered-fits ys cur hoist a b c k st o p (there e₁ (there e₂ (there e₄ (there e₇ here)))) = for-of-fits ys cur hoist (hd 8 a b c) k st p
-entered-fits ys cur hoist a b c k st o p (there e₁ (there e₂ (there e₄ (there e₇ (there e₈ here))))) =
-    by-if cur hoist (hd 9 a b c) k st (anyCaseUsing k) switch keep (λ u. switch-fits cur a b c k st p) p
-entered-fits ys cur hoist a b c k st o p (there e₁ (there e₂ (there e₄ (there e₇ (there e₈ (there e₉ here)))))) =
-    by-if cur hoist (hd 11 a b c) k st (anyPartUsing k) tryParts keep (λ u. parts-fit k cur hoist st p) p
-entered-fits ys cur hoist a b c k st o p (there e₁ (there e₂ (there e₄ (there e₇ (there e₈ (there e₉ (there e₁₁ here))))))) =
-    by-if cur hoist (hd 14 a b c) k st (anyUsing k) functionBody keep (λ u. body-fits cur hoist k st p) p
-entered-fits {t} ys cur hoist a b c k st o p (there e₁ (there e₂ (there e₄ (there e₇ (there e₈ (there e₉ (there e₁₁ (there e₁₄ other)))))))) =
-    let h = hd t a b c in
-    let none-of : actOf ys h k ≡ keep = rw (e₁, e₂, e₄, e₇, e₈, e₉, e₁₁, e₁₄) in
-    subst (λ (x : Act). By cur hoist h k st x) (sym none-of) p
+entered-fits : {a : Act} {h : Head} {k : Forest} (cur hoist : ℕ) (st : Store) → Fit h k → Fits k → Chosen a h k
+    → Fits ((enterAs a cur hoist h k st) .0 .children)
+unfolding enterAs enterTryStatement
+entered-fits cur hoist st o p kept = p
+entered-fits {h = h} {k = k} cur hoist st o p (as-program e u) = program-fits h k st p
+entered-fits {h = h} {k = k} cur hoist st o p (as-block e u) = block-fits cur hoist h k st p
+entered-fits {k = k} cur hoist st o p (as-body e u) = body-fits cur hoist k st p
+entered-fits {k = k} cur hoist st o p (as-try e u) = parts-fit k cur hoist st p
+entered-fits {h = h} {k = k} cur hoist st o p (as-for e u) = for-fits cur hoist h k st o u p
+entered-fits {h = h} {k = k} cur hoist st o p (as-switch e u) =
+    subst (λ (t : ℕ). Fits ((transformSwitchStatement cur (hd t (h .a) (h .b) (h .c)) k st) .0 .children)) (sym e)
+    (switch-fits cur (h .a) (h .b) (h .c) k st p)
+entered-fits {h = h} cur hoist st o p (as-insert {h₁ = h₁} {h₂ = h₂} {h₃ = h₃} {k₁ = k₁} {k₂ = k₂} {k₃ = k₃} {r = r} e b two) =
+    insert-fits h h₁ k₁ h₂ k₂ h₃ k₃ r st (b .identifier) two p
+entered-fits {h = h} cur hoist st o p (as-wrap {h₁ = h₁} {h₂ = h₂} {h₃ = h₃} {k₁ = k₁} {k₂ = k₂} {k₃ = k₃} {r = r} e b) =
+    wrap-fits h h₁ k₁ h₂ k₂ h₃ k₃ r st (b .identifier) p
 
 pub enter-fits : (cur hoist : ℕ) (h : Head) (k : Forest) (st : Store) → Fit h k → Fits k → Fits ((enter cur hoist h k st) .0 .children)
 unfolding enter
-enter-fits cur hoist h k st o p =
-    entered-fits (st .asRead) cur hoist (h .a) (h .b) (h .c) k st o p (seen (1 ∷ 2 ∷ 4 ∷ 7 ∷ 8 ∷ 9 ∷ 11 ∷ 14 ∷ []) (h .tag))
+enter-fits cur hoist h k st o p = entered-fits cur hoist st o p (chosen (st .asRead) h k)

@@ -1,46 +1,20 @@
 -- Entering a record gives no children to records without n.
 -- Assumes nothing.
 use mathlib.Core.Path.{_≡_, refl, ap}
-use mathlib.Core.Bool.{Bool, true, false, not, _&&_}
-use mathlib.Core.List.{List, [], _∷_}
+use mathlib.Core.Bool.{true, false}
 use Prim.Native.Nat.{ℕ}
 use native.Mathlib.Omega.{arith}
-use lib.Dec.{eqb}
-use borrow.Author.Tests.{eqb-true}
-use Rattle.meaning.specs.Tree.{if_then_else_, oneOf, Head, Forest, none, more, one, count, single, _&_}
-use Rattle.meaning.specs.File.{Symbol, hasChildren}
+use borrow.Author.Tests.{eq-eqb}
+use Rattle.meaning.specs.Tree.{Head, Forest, none, more, one, count, single, _&_}
+use Rattle.meaning.specs.File.{hasChildren}
 use Rattle.meaning.specs.Scoping.{Store, symbolIn, createSymbol}
 use Rattle.meaning.specs.Shapes.{read}
-use Rattle.meaning.specs.Statements.{isUsing, anyUsing}
-use Rattle.meaning.specs.Contexts.{anyPartUsing, forList, anyCaseUsing}
-use Rattle.meaning.specs.ForOf.{
-  bindsIdentifier,
-  boundSymbol,
-  bindsName,
-  rebind,
-  insertUsing,
-  wrapBody,
-  enterForOfStatement,
-}
-use Rattle.meaning.specs.Walk.{
-  Act,
-  keep,
-  program,
-  block,
-  functionBody,
-  tryParts,
-  forLoop,
-  switch,
-  forOfInsert,
-  forOfWrap,
-  forOfAct,
-  actOf,
-  enterAs,
-  enter,
-}
-use Rattle.tags.specs.Tags.{clash, and-left}
+use Rattle.meaning.specs.ForOf.{boundSymbol, rebind, insertUsing, wrapBody, enterForOfStatement}
+use Rattle.meaning.specs.Walk.{Act, enterAs, enter}
+use Rattle.tags.specs.Tags.{clash}
 use Rattle.growth.specs.ForOf.{Named}
-use Rattle.counts.specs.Enter.{Left, Fit}
+use Rattle.growth.specs.Chosen.{Chosen, kept, as-program, as-block, as-body, as-try, as-for, as-switch, as-insert, as-wrap, chosen}
+use Rattle.counts.specs.Enter.{Fit}
 use Rattle.decoded.specs.Back.{Childless}
 use Rattle.decoded.specs.Taken.{never, declared-childless}
 use Rattle.decoded.specs.Contexts.{
@@ -120,53 +94,23 @@ module _ (h h₁ : Head) (k₁ : Forest) (h₂ : Head) (k₂ : Forest) (h₃ : H
 
 -- ---- any record
 
-module _ (cur hoist : ℕ) (h : Head) (k : Forest) (st : Store) where
-  abbrev By : Act → Type 0
-  By a = Childless (single ((enterAs a cur hoist h k st) .0))
-
-  by-if : (b : Bool) (x y : Act) → (b ≡ true → By x) → By y → By (if b then x else y)
-  by-if true x y i j = i refl
-  by-if false x y i j = j
-
-for-of : (ys : List Symbol) (cur hoist : ℕ) (h : Head) (k : Forest) (st : Store) → Childless (one h k) → Left k
-    → By cur hoist h k st (forOfAct ys k)
-unfolding forOfAct enterAs hasChildren
-for-of ys cur hoist h none st p l = p
-for-of ys cur hoist h (more h₁ k₁ none) st p l = p
-for-of ys cur hoist h (more h₁ k₁ (more h₂ k₂ none)) st p l = p
-for-of ys cur hoist h (more h₁ k₁ (more h₂ k₂ (more h₃ k₃ r))) st p l =
-    let k = more h₁ k₁ (more h₂ k₂ (more h₃ k₃ r)) in
-    let free-name = not (bindsName ys (h₃ .a) (boundSymbol k₁)) in
-    by-if cur hoist h k st (isUsing h₁ && bindsIdentifier k₁) (if eqb (h₃ .tag) 2 && free-name then forOfInsert else forOfWrap) keep
-    (λ e.
-    by-if cur hoist h k st (eqb (h₃ .tag) 2 && free-name) forOfInsert forOfWrap
-    (λ d.
-    let two = eqb-true (h₃ .tag) 2 (and-left (eqb (h₃ .tag) 2) free-name d) in
-    insert-childless h h₁ k₁ h₂ k₂ h₃ k₃ r st (l e .0) (ap hasChildren two) p)
-    (wrap-childless h h₁ k₁ h₂ k₂ h₃ k₃ r st (l e .0) p))
-    p
-
-entered : (ys : List Symbol) (cur hoist : ℕ) (h : Head) (k : Forest) (st : Store) → Childless (one h k) → Fit h k
-    → By cur hoist h k st (actOf ys h k)
-unfolding actOf enterAs hasChildren
-entered ys cur hoist h k st p o =
-    let t = h .tag in
-    let check = by-if cur hoist h k st in
-    check (eqb t 1) _ _
-    (λ e. check (anyUsing k) program keep (λ _. program-childless h k st (ap hasChildren (eqb-true t 1 e)) (p .1)) p)
-    (check (eqb t 2) _ _
-    (λ e. check (anyUsing k) block keep (λ _. block-childless cur hoist h k st (p .1)) p)
-    (check (oneOf (4 ∷ 7 ∷ []) t) _ _
-    (λ e. check (anyUsing (forList (one h k))) forLoop keep (λ _. for-statement-childless cur hoist h k st p) p)
-    (check (eqb t 8) _ _ (λ e. for-of ys cur hoist h k st p (o .side e))
-    (check (eqb t 9) _ _
-    (λ e. check (anyCaseUsing k) switch keep (λ _. switch-childless cur h k st p) p)
-    (check (eqb t 11) _ _
-    (λ e. check (anyPartUsing k) tryParts keep (λ _. try-statement-childless cur hoist h k st p) p)
-    (check (eqb t 14) _ _ (λ e. check (anyUsing k) functionBody keep (λ _. body-childless cur hoist k st (p .1)) p) p))))))
+entered : {a : Act} {h : Head} {k : Forest} (cur hoist : ℕ) (st : Store) → Childless (one h k) → Fit h k → Chosen a h k
+    → Childless (single ((enterAs a cur hoist h k st) .0))
+unfolding enterAs hasChildren
+entered cur hoist st p o kept = p
+entered {h = h} {k = k} cur hoist st p o (as-program e u) = program-childless h k st (ap hasChildren e) (p .1)
+entered {h = h} {k = k} cur hoist st p o (as-block e u) = block-childless cur hoist h k st (p .1)
+entered {k = k} cur hoist st p o (as-body e u) = body-childless cur hoist k st (p .1)
+entered {h = h} {k = k} cur hoist st p o (as-try e u) = try-statement-childless cur hoist h k st p
+entered {h = h} {k = k} cur hoist st p o (as-for e u) = for-statement-childless cur hoist h k st p
+entered {h = h} {k = k} cur hoist st p o (as-switch e u) = switch-childless cur h k st p
+entered {h = h} cur hoist st p o (as-insert {h₁ = h₁} {h₂ = h₂} {h₃ = h₃} {k₁ = k₁} {k₂ = k₂} {k₃ = k₃} {r = r} e b two) =
+    insert-childless h h₁ k₁ h₂ k₂ h₃ k₃ r st (o .side (eq-eqb (h .tag) 8 e) (b .both) .0) (ap hasChildren two) p
+entered {h = h} cur hoist st p o (as-wrap {h₁ = h₁} {h₂ = h₂} {h₃ = h₃} {k₁ = k₁} {k₂ = k₂} {k₃ = k₃} {r = r} e b) =
+    wrap-childless h h₁ k₁ h₂ k₂ h₃ k₃ r st (o .side (eq-eqb (h .tag) 8 e) (b .both) .0) p
 
 -- of a record as it should be
 pub enter-childless : (cur hoist : ℕ) (h : Head) (k : Forest) (st : Store) → Fit h k → Childless (one h k)
     → Childless (single ((enter cur hoist h k st) .0))
 unfolding enter
-enter-childless cur hoist h k st o p = entered (st .asRead) cur hoist h k st p o
+enter-childless cur hoist h k st o p = entered cur hoist st p o (chosen (st .asRead) h k)

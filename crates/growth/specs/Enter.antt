@@ -1,43 +1,24 @@
 -- Each visit adds what its lines charge.
 -- Assumes nothing.
 use mathlib.Core.Path.{_≡_, refl}
-use mathlib.Core.Bool.{Bool, true, false, not, _&&_}
-use mathlib.Core.List.{List, [], _∷_}
+use mathlib.Core.Bool.{Bool, true, false, _&&_}
 use Prim.Native.Nat.{ℕ}
 use lib.Dec.{eqb}
-use borrow.Author.Tests.{eqb-true}
-use Rattle.meaning.specs.Tree.{if_then_else_, oneOf, Head, Forest, none, more, one, single, node}
-use Rattle.meaning.specs.File.{Symbol}
+use borrow.Author.Tests.{eqb-true, eq-eqb}
+use Rattle.meaning.specs.Tree.{if_then_else_, Head, Forest, none, more, one, single, node}
 use Rattle.meaning.specs.Scoping.{Store, return}
 use Rattle.meaning.specs.Statements.{isUsing, anyUsing}
-use Rattle.meaning.specs.Contexts.{anyPartUsing, anyCaseUsing, forList, exitStaticBlock}
-use Rattle.meaning.specs.ForOf.{bindsIdentifier, boundSymbol, bindsName}
-use Rattle.meaning.specs.Walk.{
-  isStaticBlock,
-  Act,
-  keep,
-  program,
-  block,
-  functionBody,
-  tryParts,
-  forLoop,
-  switch,
-  forOfInsert,
-  forOfWrap,
-  forOfAct,
-  actOf,
-  enterAs,
-  enter,
-  leave,
-}
+use Rattle.meaning.specs.Contexts.{exitStaticBlock}
+use Rattle.meaning.specs.ForOf.{bindsIdentifier}
+use Rattle.meaning.specs.Walk.{isStaticBlock, Act, actOf, enterAs, enter, leave}
 use Rattle.meaning.specs.Charges.{_⊕_, total, contextLines, ofStaticBlock}
 use Rattle.meaning.specs.VisitCharges.{enterLines}
-use Rattle.tags.specs.Tags.{and-left}
 use Rattle.growth.specs.Charged.{PaysFor, pays-nothing, counts, helperLine, figures-same, Visited, visited}
 use Rattle.growth.specs.Contexts.{block-pays, body-pays, static-pays, for-pays, switch-pays}
 use Rattle.growth.specs.Parts.{try-pays}
 use Rattle.growth.specs.ForOf.{Named, insert-pays, wrap-pays}
 use Rattle.growth.specs.Program.{Exports, program-pays}
+use Rattle.growth.specs.Chosen.{Chosen, kept, as-program, as-block, as-body, as-try, as-for, as-switch, as-insert, as-wrap, chosen}
 
 -- ---- what a record must be
 
@@ -50,71 +31,27 @@ NamedLeft (more h k r) = (isUsing h && bindsIdentifier k) ≡ true → Named k
 abbrev pub Proper : Head → Forest → Type 0
 Proper h k = (eqb (h .tag) 1 ≡ true → anyUsing k ≡ true → Exports k) × (eqb (h .tag) 8 ≡ true → NamedLeft k)
 
--- ---- what an act knows of its record
-
-data Facts : Act → Head → Forest → Type 0 where
-  kept : {h : Head} {k : Forest} → Facts keep h k
-  programs : {h : Head} {k : Forest} → Exports k → Facts program h k
-  blocks : {h : Head} {k : Forest} → h .tag ≡ 2 → anyUsing k ≡ true → Facts block h k
-  bodies : {h : Head} {k : Forest} → h .tag ≡ 14 → anyUsing k ≡ true → Facts functionBody h k
-  tries : {h : Head} {k : Forest} → Facts tryParts h k
-  loops : {h : Head} {k : Forest} → anyUsing (forList (one h k)) ≡ true → Facts forLoop h k
-  switches : {h : Head} {k : Forest} → Facts switch h k
-  inserts : {h h₁ h₂ h₃ : Head} {k₁ k₂ k₃ r : Forest} → isUsing h₁ ≡ true → Named k₁
-      → Facts forOfInsert h (more h₁ k₁ (more h₂ k₂ (more h₃ k₃ r)))
-  wraps : {h h₁ h₂ h₃ : Head} {k₁ k₂ k₃ r : Forest} → isUsing h₁ ≡ true → Named k₁
-      → Facts forOfWrap h (more h₁ k₁ (more h₂ k₂ (more h₃ k₃ r)))
-
-facts-if : {h : Head} {k : Forest} (b : Bool) {x y : Act} → (b ≡ true → Facts x h k) → Facts y h k → Facts (if b then x else y) h k
-facts-if true p q = p refl
-facts-if false p q = q
-
-for-of-facts : (asRead : List Symbol) (h : Head) (k : Forest) → NamedLeft k → Facts (forOfAct asRead k) h k
-unfolding forOfAct
-for-of-facts asRead h none n = kept
-for-of-facts asRead h (more h₁ k₁ none) n = kept
-for-of-facts asRead h (more h₁ k₁ (more h₂ k₂ none)) n = kept
-for-of-facts asRead h (more h₁ k₁ (more h₂ k₂ (more h₃ k₃ r))) n =
-    facts-if (isUsing h₁ && bindsIdentifier k₁)
-    (λ e.
-    let u = and-left (isUsing h₁) (bindsIdentifier k₁) e in
-    facts-if (eqb (h₃ .tag) 2 && not (bindsName asRead (h₃ .a) (boundSymbol k₁))) (λ _. inserts u (n e)) (wraps u (n e)))
-    kept
-
-facts : (asRead : List Symbol) (h : Head) (k : Forest) → Proper h k → Facts (actOf asRead h k) h k
-unfolding actOf
-facts asRead h k p =
-    let t = h .tag in
-    facts-if (eqb t 1) (λ e. facts-if (anyUsing k) (λ u. programs (p .0 e u)) kept)
-    (facts-if (eqb t 2) (λ e. facts-if (anyUsing k) (blocks (eqb-true t 2 e)) kept)
-    (facts-if (oneOf (4 ∷ 7 ∷ []) t) (λ _. facts-if (anyUsing (forList (one h k))) loops kept)
-    (facts-if (eqb t 8) (λ e. for-of-facts asRead h k (p .1 e))
-    (facts-if (eqb t 9) (λ _. facts-if (anyCaseUsing k) (λ _. switches) kept)
-    (facts-if (eqb t 11) (λ _. facts-if (anyPartUsing k) (λ _. tries) kept)
-    (facts-if (eqb t 14) (λ e. facts-if (anyUsing k) (bodies (eqb-true t 14 e)) kept)
-    kept))))))
-
 -- ---- visits
 
-act-pays : {a : Act} {h : Head} {k : Forest} (cur hoist : ℕ) (st : Store) → Facts a h k
+act-pays : {a : Act} {h : Head} {k : Forest} (cur hoist : ℕ) (st : Store) → Proper h k → Chosen a h k
     → PaysFor (enterLines a h k) (one h k) st (enterAs a cur hoist h k st)
 unfolding enterLines enterAs
-act-pays {h = h} {k = k} cur hoist st kept = pays-nothing (one h k) st
-act-pays {h = h} {k = k} cur hoist st (programs x) = program-pays h k st x
-act-pays {h = h} {k = k} cur hoist st (blocks e u) = block-pays cur hoist h k st e u
-act-pays {h = h} {k = k} cur hoist st (bodies e u) = body-pays cur hoist h k st e u
-act-pays {h = h} {k = k} cur hoist st tries = try-pays cur hoist h k st
-act-pays {h = h} {k = k} cur hoist st (loops u) = for-pays cur hoist h k st u
-act-pays {h = h} {k = k} cur hoist st switches = switch-pays cur h k st
-act-pays {h = h} cur hoist st (inserts {h₁ = h₁} {h₂ = h₂} {h₃ = h₃} {k₁ = k₁} {k₂ = k₂} {k₃ = k₃} {r = r} u n) =
-    insert-pays h h₁ k₁ h₂ k₂ h₃ k₃ r st u n
-act-pays {h = h} cur hoist st (wraps {h₁ = h₁} {h₂ = h₂} {h₃ = h₃} {k₁ = k₁} {k₂ = k₂} {k₃ = k₃} {r = r} u n) =
-    wrap-pays h h₁ k₁ h₂ k₂ h₃ k₃ r st u n
+act-pays {h = h} {k = k} cur hoist st p kept = pays-nothing (one h k) st
+act-pays {h = h} {k = k} cur hoist st p (as-program e u) = program-pays h k st (p .0 (eq-eqb (h .tag) 1 e) u)
+act-pays {h = h} {k = k} cur hoist st p (as-block e u) = block-pays cur hoist h k st e u
+act-pays {h = h} {k = k} cur hoist st p (as-body e u) = body-pays cur hoist h k st e u
+act-pays {h = h} {k = k} cur hoist st p (as-try e u) = try-pays cur hoist h k st
+act-pays {h = h} {k = k} cur hoist st p (as-for e u) = for-pays cur hoist h k st u
+act-pays {h = h} {k = k} cur hoist st p (as-switch e u) = switch-pays cur h k st
+act-pays {h = h} cur hoist st p (as-insert {h₁ = h₁} {h₂ = h₂} {h₃ = h₃} {k₁ = k₁} {k₂ = k₂} {k₃ = k₃} {r = r} e b two) =
+    insert-pays h h₁ k₁ h₂ k₂ h₃ k₃ r st (b .uses) (p .1 (eq-eqb (h .tag) 8 e) (b .both))
+act-pays {h = h} cur hoist st p (as-wrap {h₁ = h₁} {h₂ = h₂} {h₃ = h₃} {k₁ = k₁} {k₂ = k₂} {k₃ = k₃} {r = r} e b) =
+    wrap-pays h h₁ k₁ h₂ k₂ h₃ k₃ r st (b .uses) (p .1 (eq-eqb (h .tag) 8 e) (b .both))
 
 pub entered : (cur hoist : ℕ) (h : Head) (k : Forest) (st : Store) → Proper h k
     → Visited (enterLines (actOf (st .asRead) h k) h k) (one h k) st (enter cur hoist h k st)
 unfolding enter
-entered cur hoist h k st p = visited (act-pays cur hoist st (facts (st .asRead) h k p))
+entered cur hoist h k st p = visited (act-pays cur hoist st p (chosen (st .asRead) h k))
 
 leave-pays : (b : Bool) (h : Head) (k : Forest) (st : Store) → anyUsing k ≡ b → h .tag ≡ 16
     → PaysFor (contextLines ofStaticBlock k) (one h k) st ((if b then exitStaticBlock h k else return (node h k)) st)

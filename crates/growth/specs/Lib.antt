@@ -8,4 +8,5 @@ pub mod Contexts
 pub mod Parts
 pub mod ForOf
 pub mod Program
+pub mod Chosen
 pub mod Enter

@@ -1,20 +1,16 @@
 -- A record that is entered or left counts what it counted, and stands beside others as what it was.
 -- Assumes nothing.
-use mathlib.Core.Path.{_≡_, refl, sym, ap, subst}
-use mathlib.Core.Bool.{Bool, true, false, not, _&&_}
+use mathlib.Core.Path.{_≡_, refl, ap}
+use mathlib.Core.Bool.{Bool, true, false}
 use mathlib.Core.List.{List, [], _∷_}
 use Prim.Native.Nat.{ℕ, _≤_, _<_}
 use lib.ListN.{length}
 use lib.Dec.{eqb}
-use borrow.Author.Tests.{eqb-true}
-use Rattle.meaning.specs.Tree.{if_then_else_, oneOf, Head, hd, Forest, none, more, one, Node, node}
-use Rattle.meaning.specs.File.{Symbol}
+use borrow.Author.Tests.{eqb-true, eq-eqb}
+use Rattle.meaning.specs.Tree.{if_then_else_, oneOf, Head, hd, Forest, more, Node, node}
 use Rattle.meaning.specs.Scoping.{Store, return}
-use Rattle.meaning.specs.Statements.{isUsing, anyUsing, createTryStmt}
+use Rattle.meaning.specs.Statements.{anyUsing, createTryStmt}
 use Rattle.meaning.specs.Contexts.{
-  anyPartUsing,
-  anyCaseUsing,
-  forList,
   transformBlockStatement,
   enterFunctionBody,
   exitStaticBlock,
@@ -22,28 +18,11 @@ use Rattle.meaning.specs.Contexts.{
   transformForStatement,
   transformSwitchStatement,
 }
-use Rattle.meaning.specs.ForOf.{bindsIdentifier, boundSymbol, bindsName, enterForOfStatement}
+use Rattle.meaning.specs.ForOf.{enterForOfStatement}
 use Rattle.meaning.specs.Program.{enterProgram}
-use Rattle.meaning.specs.Walk.{
-  isStaticBlock,
-  Act,
-  keep,
-  program,
-  block,
-  functionBody,
-  tryParts,
-  forLoop,
-  switch,
-  forOfInsert,
-  forOfWrap,
-  forOfAct,
-  actOf,
-  enterAs,
-  enter,
-  leave,
-}
-use Rattle.tags.specs.Tags.{Seen, other, here, there, seen, and-left, and-right}
-use Rattle.counts.specs.Enter.{Left, Fit}
+use Rattle.meaning.specs.Walk.{isStaticBlock, Act, enterAs, enter, leave}
+use Rattle.growth.specs.Chosen.{Chosen, kept, as-program, as-block, as-body, as-try, as-for, as-switch, as-insert, as-wrap, chosen, at-tag, at-loop}
+use Rattle.counts.specs.Enter.{Fit}
 use Rattle.hints.specs.Outline.{Neutral, Same, same-refl, same-neutral}
 use Rattle.hinted.specs.Contexts.{Keeps, block-keeps, body-keeps, static-keeps}
 use Rattle.hinted.specs.ForSwitch.{for-keeps, switch-keeps}
@@ -74,89 +53,43 @@ module _ (w : List ℕ → ℕ → ℕ) (read : ℕ) where
 
   -- ---- entering
 
-  module _ (old : (y letter : ℕ) → read < y → w (y ∷ []) letter ≡ 0) (ys : List Symbol) (cur hoist : ℕ) where
-    module _ (h : Head) (k : Forest) (st : Store) where
-      abbrev By : Act → Type 0
-      By a = Opens h k (enterAs a cur hoist h k st)
+  module _ (old : (y letter : ℕ) → read < y → w (y ∷ []) letter ≡ 0) (cur hoist : ℕ) where
+    -- a record with a tag
+    at-change : (t : ℕ) (go : Head → Node × Store) (h : Head) (k : Forest) → h .tag ≡ t
+        → let g = hd t (h .a) (h .b) (h .c) in Neutral g → Neutral (go g .0 .head) → Keeps w read g k (go g) → Opens h k (go h)
+    at-change t go h k e n n′ q =
+        let g = hd t (h .a) (h .b) (h .c) in
+        at-tag (λ g. Opens g k (go g)) h t e (changed g k (go g) n n′ q)
 
-      kept : By keep
-      unfolding enterAs
-      kept = (refl, (λ r. same-refl (more h k r)))
-
-      by-if : (b : Bool) (x y : Act) → (b ≡ true → By x) → By y → By (if b then x else y)
-      by-if true x y p q = p refl
-      by-if false x y p q = q
-
-    for-of : (a b c : ℕ) (k : Forest) (st : Store) → Left k → By (hd 8 a b c) k st (forOfAct ys k)
-    unfolding forOfAct enterAs enterForOfStatement
-    for-of a b c none st p = kept (hd 8 a b c) none st
-    for-of a b c (more h₁ k₁ none) st p = kept (hd 8 a b c) (one h₁ k₁) st
-    for-of a b c (more h₁ k₁ (more h₂ k₂ none)) st p = kept (hd 8 a b c) (more h₁ k₁ (one h₂ k₂)) st
-    for-of a b c (more h₁ k₁ (more h₂ k₂ (more h₃ k₃ r))) st p =
-        let h = hd 8 a b c in
-        let k = more h₁ k₁ (more h₂ k₂ (more h₃ k₃ r)) in
-        let free = not (bindsName ys (h₃ .a) (boundSymbol k₁)) in
-        by-if h k st (isUsing h₁ && bindsIdentifier k₁) (if eqb (h₃ .tag) 2 && free then forOfInsert else forOfWrap) keep
-        (λ e.
-        let u = and-left (isUsing h₁) (bindsIdentifier k₁) e in
-        let i = and-right (isUsing h₁) (bindsIdentifier k₁) e in
-        let q = p e in
-        by-if h k st (eqb (h₃ .tag) 2 && free) forOfInsert forOfWrap
-        (λ d.
-        let two = eqb-true (h₃ .tag) 2 (and-left (eqb (h₃ .tag) 2) free d) in
-        changed h k (enterForOfStatement false h k st) refl refl
-        (insert-keeps w read a b c h₁ k₁ h₂ k₂ h₃ k₃ r st u i (q .0) (q .1) (q .2) two))
-        (changed h k (enterForOfStatement true h k st) refl refl
-        (wrap-keeps w read a b c h₁ k₁ h₂ k₂ h₃ k₃ r st u i (q .0) (q .1) (q .2) (q .3))))
-        (kept h k st)
-
-    -- by the tag
-    entered-as : {t : ℕ} (a b c : ℕ) (k : Forest) (st : Store) → read ≤ length (st .symbols) → Fit (hd t a b c) k
-        → Seen (1 ∷ 2 ∷ 4 ∷ 7 ∷ 8 ∷ 9 ∷ 11 ∷ 14 ∷ []) t → By (hd t a b c) k st (actOf ys (hd t a b c) k)
-    unfolding actOf enterAs enterProgram transformBlockStatement transformForStatement transformSwitchStatement enterTryStatement enterFunctionBody createTryStmt forList
-    entered-as a b c k st new p here =
-        let h = hd 1 a b c in
-        by-if h k st (anyUsing k) program keep
-        (λ u. changed h k (enterProgram h k st) refl refl (program-keeps w read old a b c k st new (p .items refl u .0) (p .items refl u .1)))
-        (kept h k st)
-    entered-as a b c k st new p (there e₁ here) =
-        let h = hd 2 a b c in
-        by-if h k st (anyUsing k) block keep
-        (λ u. changed h k (transformBlockStatement cur hoist h k st) refl refl (block-keeps w read cur hoist a b c k st new))
-        (kept h k st)
-    entered-as a b c k st new p (there e₁ (there e₂ here)) =
-        let h = hd 4 a b c in
-        by-if h k st (anyUsing (forList k)) forLoop keep
-        (λ u. changed h k (transformForStatement cur hoist h k st) refl refl (for-keeps w read cur hoist h k st new refl u))
-        (kept h k st)
-    entered-as a b c k st new p (there e₁ (there e₂ (there e₄ here))) =
-        let h = hd 7 a b c in
-        by-if h k st (anyUsing k) forLoop keep
-        (λ u. changed h k (transformForStatement cur hoist h k st) refl refl (for-keeps w read cur hoist h k st new refl u))
-        (kept h k st)
-    entered-as a b c k st new p (there e₁ (there e₂ (there e₄ (there e₇ here)))) = for-of a b c k st (p .side refl)
-    entered-as a b c k st new p (there e₁ (there e₂ (there e₄ (there e₇ (there e₈ here))))) =
-        let h = hd 9 a b c in
-        by-if h k st (anyCaseUsing k) switch keep
-        (λ u. changed h k (transformSwitchStatement cur h k st) refl refl (switch-keeps w read cur a b c k st))
-        (kept h k st)
-    entered-as a b c k st new p (there e₁ (there e₂ (there e₄ (there e₇ (there e₈ (there e₉ here)))))) =
-        let h = hd 11 a b c in
-        by-if h k st (anyPartUsing k) tryParts keep
-        (λ u. changed h k (enterTryStatement cur hoist h k st) refl refl (try-keeps w read cur hoist a b c k st new))
-        (kept h k st)
-    entered-as a b c k st new p (there e₁ (there e₂ (there e₄ (there e₇ (there e₈ (there e₉ (there e₁₁ here))))))) =
-        let h = hd 14 a b c in
-        by-if h k st (anyUsing k) functionBody keep
-        (λ u. changed h k (enterFunctionBody cur hoist k st) refl refl (body-keeps w read cur hoist a b c k st new))
-        (kept h k st)
-    entered-as {t} a b c k st new p (there e₁ (there e₂ (there e₄ (there e₇ (there e₈ (there e₉ (there e₁₁ (there e₁₄ other)))))))) =
-        let h = hd t a b c in
-        let none-of : actOf ys h k ≡ keep = rw (e₁, e₂, e₄, e₇, e₈, e₉, e₁₁, e₁₄) in
-        subst (λ (x : Act). By h k st x) (sym none-of) (kept h k st)
+    act-keeps : {a : Act} {h : Head} {k : Forest} (st : Store) → read ≤ length (st .symbols) → Fit h k → Chosen a h k
+        → Opens h k (enterAs a cur hoist h k st)
+    unfolding enterAs enterProgram transformBlockStatement transformForStatement transformSwitchStatement enterTryStatement enterFunctionBody enterForOfStatement createTryStmt
+    act-keeps {h = h} {k = k} st new p kept = (refl, (λ r. same-refl (more h k r)))
+    act-keeps {h = h} {k = k} st new p (as-program e u) =
+        let i = p .items (eq-eqb (h .tag) 1 e) u in
+        at-change 1 (λ g. enterProgram g k st) h k e refl refl (program-keeps w read old (h .a) (h .b) (h .c) k st new (i .0) (i .1))
+    act-keeps {h = h} {k = k} st new p (as-block e u) =
+        at-change 2 (λ g. transformBlockStatement cur hoist g k st) h k e refl refl
+        (block-keeps w read cur hoist (h .a) (h .b) (h .c) k st new)
+    act-keeps {h = h} {k = k} st new p (as-body e u) =
+        at-change 14 (λ _. enterFunctionBody cur hoist k st) h k e refl refl (body-keeps w read cur hoist (h .a) (h .b) (h .c) k st new)
+    act-keeps {h = h} {k = k} st new p (as-try e u) =
+        at-change 11 (λ g. enterTryStatement cur hoist g k st) h k e refl refl (try-keeps w read cur hoist (h .a) (h .b) (h .c) k st new)
+    act-keeps {h = h} {k = k} st new p (as-for e u) =
+        changed h k (transformForStatement cur hoist h k st) (at-loop Neutral h e refl refl) refl
+        (for-keeps w read cur hoist h k st new (at-loop (λ g. eqb (g .tag) 5 ≡ false) h e refl refl) u)
+    act-keeps {h = h} {k = k} st new p (as-switch e u) =
+        at-change 9 (λ g. transformSwitchStatement cur g k st) h k e refl refl (switch-keeps w read cur (h .a) (h .b) (h .c) k st)
+    act-keeps {h = h} st new p (as-insert {h₁ = h₁} {h₂ = h₂} {h₃ = h₃} {k₁ = k₁} {k₂ = k₂} {k₃ = k₃} {r = r} e b two) =
+        let q = p .side (eq-eqb (h .tag) 8 e) (b .both) in
+        at-change 8 (λ g. enterForOfStatement false g (more h₁ k₁ (more h₂ k₂ (more h₃ k₃ r))) st) h _ e refl refl
+        (insert-keeps w read (h .a) (h .b) (h .c) h₁ k₁ h₂ k₂ h₃ k₃ r st (b .uses) (b .identifier) (q .0) (q .1) (q .2) two)
+    act-keeps {h = h} st new p (as-wrap {h₁ = h₁} {h₂ = h₂} {h₃ = h₃} {k₁ = k₁} {k₂ = k₂} {k₃ = k₃} {r = r} e b) =
+        let q = p .side (eq-eqb (h .tag) 8 e) (b .both) in
+        at-change 8 (λ g. enterForOfStatement true g (more h₁ k₁ (more h₂ k₂ (more h₃ k₃ r))) st) h _ e refl refl
+        (wrap-keeps w read (h .a) (h .b) (h .c) h₁ k₁ h₂ k₂ h₃ k₃ r st (b .uses) (b .identifier) (q .0) (q .1) (q .2) (q .3))
 
   pub enter-keeps : ((y letter : ℕ) → read < y → w (y ∷ []) letter ≡ 0) → (cur hoist : ℕ) (h : Head) (k : Forest) (st : Store)
       → read ≤ length (st .symbols) → Fit h k → Opens h k (enter cur hoist h k st)
   unfolding enter
-  enter-keeps old cur hoist h k st new p =
-      entered-as old (st .asRead) cur hoist (h .a) (h .b) (h .c) k st new p (seen (1 ∷ 2 ∷ 4 ∷ 7 ∷ 8 ∷ 9 ∷ 11 ∷ 14 ∷ []) (h .tag))
+  enter-keeps old cur hoist h k st new p = act-keeps old cur hoist st new p (chosen (st .asRead) h k)

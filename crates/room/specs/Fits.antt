@@ -1,6 +1,6 @@
 -- The tree, the scope rows and the symbol rows fit 16 bits all along the walk: the bytes of an accepted file pay for what they weigh.
 -- Assumes nothing.
-use mathlib.Core.Path.{_≡_, refl, subst}
+use mathlib.Core.Path.{_≡_, refl}
 use mathlib.Core.Bool.{Bool, true, false, _||_, _&&_}
 use mathlib.Core.List.{List, [], _∷_, _++_}
 use Prim.Native.Nat.{ℕ, _+_, _*_, _≤_}
@@ -14,8 +14,7 @@ use Rattle.meaning.specs.Statements.{isUsing}
 use Rattle.meaning.specs.Walk.{storeOf, start, visits, treeAt, storeAt}
 use Rattle.meaning.specs.Charges.{recordBytes}
 use Rattle.tags.specs.Tags.{Seen, other, here, there, seen}
-use Rattle.totals.specs.Accepted.{Holds}
-use Rattle.totals.specs.Fits.{declarators, Sound, Room, read-room}
+use Rattle.totals.specs.Fits.{declarators, Sound, accepted-room}
 use Rattle.room.specs.Rows.{given, Kind, records, scopes, symbols, perRecord, perScope, perSymbol, rows}
 use Rattle.room.specs.Weights.{
   Role,
@@ -196,7 +195,7 @@ pub walk-fits : (b : List ℕ) (f : File) (k : ℕ) → readFile b ≡ accepted 
 unfolding rows storeOf debt
 walk-fits b f k e =
     let s = visits k (start f) in
-    let r : Room f = subst (Holds Room) e (read-room b) in
+    let r = accepted-room b f e in
     omega (
       arith,
       r .bytes,

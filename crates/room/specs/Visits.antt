@@ -1,32 +1,20 @@
 -- No visit adds to the rows and the tree's weight.
 -- Assumes nothing.
 use mathlib.Core.Path.{_≡_, refl, sym, ap}
-use mathlib.Core.Bool.{Bool, true, false, not, _&&_}
+use mathlib.Core.Bool.{Bool, true, false}
 use mathlib.Core.List.{List, [], _∷_}
 use Prim.Native.Nat.{ℕ, zero, suc, _+_, _≤_}
 use native.Mathlib.Omega.{arith}
 use native.Mathlib.Nat.{le-refl}
 use lib.Dec.{eqb}
-use Rattle.meaning.specs.Tree.{if_then_else_, oneOf, Head, Forest, none, more, one, Node, node, _&_}
-use Rattle.meaning.specs.File.{Symbol, File}
+use borrow.Author.Tests.{eq-eqb}
+use Rattle.meaning.specs.Tree.{if_then_else_, Head, Forest, none, more, one, Node, node, _&_}
+use Rattle.meaning.specs.File.{File}
 use Rattle.meaning.specs.Scoping.{Store, return}
 use Rattle.meaning.specs.Statements.{isUsing, anyUsing}
-use Rattle.meaning.specs.Contexts.{exitStaticBlock, anyPartUsing, anyCaseUsing, forList}
-use Rattle.meaning.specs.ForOf.{bindsIdentifier, boundSymbol, bindsName}
+use Rattle.meaning.specs.Contexts.{exitStaticBlock}
 use Rattle.meaning.specs.Walk.{
   Act,
-  keep,
-  program,
-  block,
-  functionBody,
-  tryParts,
-  forLoop,
-  switch,
-  forOfInsert,
-  forOfWrap,
-  forOfAct,
-  actOf,
-  actIf,
   enterAs,
   enter,
   isStaticBlock,
@@ -48,7 +36,8 @@ use Rattle.meaning.specs.Walk.{
   treeAt,
   storeAt,
 }
-use Rattle.tags.specs.Tags.{clash, and-left, and-right}
+use Rattle.tags.specs.Tags.{clash}
+use Rattle.growth.specs.Chosen.{Chosen, kept, as-program, as-block, as-body, as-try, as-for, as-switch, as-insert, as-wrap, chosen}
 use Rattle.room.specs.Rows.{Kind, rows}
 use Rattle.room.specs.Weights.{Role, plain, below, weigh, weight, next, after, weigh-&}
 use Rattle.room.specs.Contexts.{Within, block-within, body-within, static-within, try-within, for-within, switch-within}
@@ -56,54 +45,25 @@ use Rattle.room.specs.Rewrites.{for-of-within, program-within}
 
 -- ---- entering and leaving
 
-module _ (K : Kind) (r : Role) (cur hoist : ℕ) (h : Head) (k : Forest) (st : Store) where
-  abbrev Entered : Act → Type 0
-  Entered a = Within K r h k st (enterAs a cur hoist h k st)
-
-  kept : Entered keep
-  unfolding enterAs
-  kept = omega arith
-
-  act-if : (b : Bool) (a : Act) → (b ≡ true → Entered a) → Entered (actIf b a)
-  act-if true a i = i refl
-  act-if false a i = kept
-
-  act-either : (b : Bool) (x y : Act) → (b ≡ true → Entered x) → Entered y → Entered (if b then x else y)
-  act-either true x y i j = i refl
-  act-either false x y i j = j
-
-module _ (K : Kind) (r : Role) (cur hoist : ℕ) (h : Head) (st : Store) (tag : eqb (h .tag) 8 ≡ true) where
-  for-of-entered : (asRead : List Symbol) (k : Forest) → Entered K r cur hoist h k st (forOfAct asRead k)
-  unfolding forOfAct enterAs
-  for-of-entered asRead none = kept K r cur hoist h none st
-  for-of-entered asRead (more h₁ k₁ none) = kept K r cur hoist h (one h₁ k₁) st
-  for-of-entered asRead (more h₁ k₁ (more h₂ k₂ none)) = kept K r cur hoist h (more h₁ k₁ (one h₂ k₂)) st
-  for-of-entered asRead (more h₁ k₁ (more h₂ k₂ (more h₃ k₃ f))) =
-      let k = more h₁ k₁ (more h₂ k₂ (more h₃ k₃ f)) in
-      let fresh = not (bindsName asRead (h₃ .a) (boundSymbol k₁)) in
-      act-if K r cur hoist h k st (isUsing h₁ && bindsIdentifier k₁) _
-      (λ e.
-      let u = and-left (isUsing h₁) (bindsIdentifier k₁) e in
-      let b = and-right (isUsing h₁) (bindsIdentifier k₁) e in
-      act-either K r cur hoist h k st (eqb (h₃ .tag) 2 && fresh) forOfInsert forOfWrap
-      (λ d. for-of-within K r false h h₁ k₁ h₂ k₂ h₃ k₃ f st tag u b (λ _. and-left (eqb (h₃ .tag) 2) fresh d))
-      (for-of-within K r true h h₁ k₁ h₂ k₂ h₃ k₃ f st tag u b (λ n. absurd (clash n refl))))
-
 module _ (K : Kind) (r : Role) where
+  act-within : {a : Act} {h : Head} {k : Forest} (cur hoist : ℕ) (st : Store) → Chosen a h k
+      → Within K r h k st (enterAs a cur hoist h k st)
+  unfolding enterAs
+  act-within cur hoist st kept = omega arith
+  act-within {h = h} {k = k} cur hoist st (as-program e u) = program-within K r h k st (eq-eqb (h .tag) 1 e) u
+  act-within {h = h} {k = k} cur hoist st (as-block e u) = block-within K r cur hoist h k st u (eq-eqb (h .tag) 2 e)
+  act-within {h = h} {k = k} cur hoist st (as-body e u) = body-within K r cur hoist h k st u (eq-eqb (h .tag) 14 e)
+  act-within {h = h} {k = k} cur hoist st (as-try e u) = try-within K r cur hoist h k st (eq-eqb (h .tag) 11 e)
+  act-within {h = h} {k = k} cur hoist st (as-for e u) = for-within K r cur hoist h k st e u
+  act-within {h = h} {k = k} cur hoist st (as-switch e u) = switch-within K r cur h k st (eq-eqb (h .tag) 9 e) u
+  act-within {h = h} cur hoist st (as-insert {h₁ = h₁} {h₂ = h₂} {h₃ = h₃} {k₁ = k₁} {k₂ = k₂} {k₃ = k₃} {r = f} e b two) =
+      for-of-within K r false h h₁ k₁ h₂ k₂ h₃ k₃ f st (eq-eqb (h .tag) 8 e) (b .uses) (b .identifier) (λ _. eq-eqb (h₃ .tag) 2 two)
+  act-within {h = h} cur hoist st (as-wrap {h₁ = h₁} {h₂ = h₂} {h₃ = h₃} {k₁ = k₁} {k₂ = k₂} {k₃ = k₃} {r = f} e b) =
+      for-of-within K r true h h₁ k₁ h₂ k₂ h₃ k₃ f st (eq-eqb (h .tag) 8 e) (b .uses) (b .identifier) (λ n. absurd (clash n refl))
+
   enter-within : (cur hoist : ℕ) (h : Head) (k : Forest) (st : Store) → Within K r h k st (enter cur hoist h k st)
-  unfolding enter actOf enterAs
-  enter-within cur hoist h k st =
-      let t = h .tag in
-      let either = act-either K r cur hoist h k st in
-      let when = act-if K r cur hoist h k st in
-      either (eqb t 1) _ _ (λ e. when (anyUsing k) program (program-within K r h k st e))
-      (either (eqb t 2) _ _ (λ e. when (anyUsing k) block (λ a. block-within K r cur hoist h k st a e))
-      (either (oneOf (4 ∷ 7 ∷ []) t) _ _ (λ e. when (anyUsing (forList (one h k))) forLoop (for-within K r cur hoist h k st e))
-      (either (eqb t 8) _ _ (λ e. for-of-entered K r cur hoist h st e (st .asRead) k)
-      (either (eqb t 9) _ _ (λ e. when (anyCaseUsing k) switch (switch-within K r cur h k st e))
-      (either (eqb t 11) _ _ (λ e. when (anyPartUsing k) tryParts (λ _. try-within K r cur hoist h k st e))
-      (either (eqb t 14) _ _ (λ e. when (anyUsing k) functionBody (λ a. body-within K r cur hoist h k st a e))
-      (kept K r cur hoist h k st)))))))
+  unfolding enter
+  enter-within cur hoist h k st = act-within cur hoist st (chosen (st .asRead) h k)
 
   leave-if : (b : Bool) (h : Head) (k : Forest) (st : Store) → eqb (h .tag) 16 ≡ true → anyUsing k ≡ b
       → Within K r h k st ((if b then exitStaticBlock h k else return (node h k)) st)

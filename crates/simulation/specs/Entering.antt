@@ -1,16 +1,14 @@
 -- Entering a record rewrites the tables as 01 rewrites the tree and the store.
 -- Assumes nothing.
 use mathlib.Core.Path.{_≡_, refl, sym, ap, subst, _∙_}
-use mathlib.Core.Bool.{Bool, true, false, not, _&&_}
+use mathlib.Core.Bool.{true, false}
 use mathlib.Core.List.{List, [], _∷_}
 use Prim.Native.Nat.{ℕ}
-use lib.Dec.{eqb}
-use Rattle.meaning.specs.Tree.{if_then_else_, oneOf, Head, hd, Forest, none, more, one}
-use Rattle.meaning.specs.File.{Symbol}
+use borrow.Author.Tests.{eq-eqb}
+use Rattle.meaning.specs.Tree.{Head, hd, Forest, none, more, one}
 use Rattle.meaning.specs.Scoping.{Store}
-use Rattle.meaning.specs.Statements.{isUsing, anyUsing}
+use Rattle.meaning.specs.Statements.{anyUsing}
 use Rattle.meaning.specs.Contexts.{anyPartUsing, anyCaseUsing, forList}
-use Rattle.meaning.specs.ForOf.{bindsIdentifier, boundSymbol, bindsName}
 use Rattle.meaning.specs.Walk.{
   Act,
   keep,
@@ -20,8 +18,6 @@ use Rattle.meaning.specs.Walk.{
   tryParts,
   forLoop,
   switch,
-  forOfInsert,
-  forOfWrap,
   actIf,
   forOfAct,
   actOf,
@@ -33,7 +29,7 @@ use Rattle.meaning.specs.Walk.{
   hoistScope,
 }
 use Rattle.tags.specs.Tags.{Seen, other, here, there, seen}
-use Rattle.growth.specs.Program.{Exports}
+use Rattle.growth.specs.Chosen.{Chosen, kept, as-program, as-block, as-body, as-try, as-for, as-switch, as-insert, as-wrap, chosen}
 use Rattle.counts.specs.Enter.{Fit}
 use Rattle.counts.specs.Fits.{Fits}
 use Rattle.tables.specs.Table.{columnF, rowF}
@@ -134,59 +130,20 @@ rewrite-law done h k r path st g z p q =
 
 -- ---- the symbol rows still agree with those read
 
--- what an act needs of its record's children
-data Needs : Act → Forest → Type 0 where
-  keeps : {k : Forest} → Needs keep k
-  programs : {k : Forest} → Exports k → Needs program k
-  blocks : {k : Forest} → Needs block k
-  bodies : {k : Forest} → Needs functionBody k
-  tries : {k : Forest} → Catches k → Needs tryParts k
-  loops : {k : Forest} → Needs forLoop k
-  switches : {k : Forest} → Needs switch k
-  inserts : {k : Forest} → Needs forOfInsert k
-  wraps : {k : Forest} → Needs forOfWrap k
-
-needs-if : {k : Forest} (b : Bool) {x y : Act} → (b ≡ true → Needs x k) → Needs y k → Needs (if b then x else y) k
-needs-if true p q = p refl
-needs-if false p q = q
-
-side-needs : (asRead : List Symbol) (k : Forest) → Needs (forOfAct asRead k) k
-unfolding forOfAct
-side-needs asRead none = keeps
-side-needs asRead (more h₁ k₁ none) = keeps
-side-needs asRead (more h₁ k₁ (more h₂ k₂ none)) = keeps
-side-needs asRead (more h₁ k₁ (more h₂ k₂ (more h₃ k₃ r))) =
-    needs-if (isUsing h₁ && bindsIdentifier k₁)
-    (λ _. needs-if (eqb (h₃ .tag) 2 && not (bindsName asRead (h₃ .a) (boundSymbol k₁))) (λ _. inserts) wraps)
-    keeps
-
-needed : (asRead : List Symbol) (h : Head) (k : Forest) → Fit h k → Catches k → Needs (actOf asRead h k) k
-unfolding actOf
-needed asRead h k p c =
-    let t = h .tag in
-    needs-if (eqb t 1) (λ e. needs-if (anyUsing k) (λ u. programs (p .items e u .0)) keeps)
-    (needs-if (eqb t 2) (λ _. needs-if (anyUsing k) (λ _. blocks) keeps)
-    (needs-if (oneOf (4 ∷ 7 ∷ []) t) (λ _. needs-if (anyUsing (forList (one h k))) (λ _. loops) keeps)
-    (needs-if (eqb t 8) (λ _. side-needs asRead k)
-    (needs-if (eqb t 9) (λ _. needs-if (anyCaseUsing k) (λ _. switches) keeps)
-    (needs-if (eqb t 11) (λ _. needs-if (anyPartUsing k) (λ _. tries c) keeps)
-    (needs-if (eqb t 14) (λ _. needs-if (anyUsing k) (λ _. bodies) keeps)
-    keeps))))))
-
-agreed-as : {x : Act} (path : List Crumb) (h : Head) (k : Forest) (st : Store) → Needs x k → Agreed st
+agreed-as : {x : Act} {h : Head} {k : Forest} (path : List Crumb) (st : Store) → Fit h k → Catches k → Agreed st → Chosen x h k
     → Agreed (enterAs x (currentScope path) (hoistScope path) h k st .1)
 unfolding enterAs
-agreed-as path h k st keeps a = a
-agreed-as path h k st (programs x) a = program-kept h k st x a
-agreed-as path h k st blocks a = block-kept path h k st a
-agreed-as path h k st bodies a = body-kept path h k st a
-agreed-as path h k st (tries c) a = try-agreed (currentScope path) (hoistScope path) h k st c a
-agreed-as path h k st loops a = for-kept path h k st a
-agreed-as path h k st switches a = switch-kept path h k st a
-agreed-as path h k st inserts a = for-of-kept false h k st a
-agreed-as path h k st wraps a = for-of-kept true h k st a
+agreed-as path st p c a kept = a
+agreed-as {h = h} {k = k} path st p c a (as-program e u) = program-kept h k st (p .items (eq-eqb (h .tag) 1 e) u .0) a
+agreed-as {h = h} {k = k} path st p c a (as-block e u) = block-kept path h k st a
+agreed-as {h = h} {k = k} path st p c a (as-body e u) = body-kept path h k st a
+agreed-as {h = h} {k = k} path st p c a (as-try e u) = try-agreed (currentScope path) (hoistScope path) h k st c a
+agreed-as {h = h} {k = k} path st p c a (as-for e u) = for-kept path h k st a
+agreed-as {h = h} {k = k} path st p c a (as-switch e u) = switch-kept path h k st a
+agreed-as {h = h} {k = k} path st p c a (as-insert e b two) = for-of-kept false h k st a
+agreed-as {h = h} {k = k} path st p c a (as-wrap e b) = for-of-kept true h k st a
 
 pub enter-kept : (path : List Crumb) (h : Head) (k : Forest) (st : Store) → Fit h k → Catches k → Agreed st
     → Agreed (enter (currentScope path) (hoistScope path) h k st .1)
 unfolding enter
-enter-kept path h k st p c a = agreed-as path h k st (needed (st .asRead) h k p c) a
+enter-kept path h k st p c a = agreed-as path st p c a (chosen (st .asRead) h k)

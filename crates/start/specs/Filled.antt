@@ -3,7 +3,7 @@
 use mathlib.Core.Path.{_≡_, refl, ap, subst, _∙_}
 use mathlib.Core.Bool.{Bool, true, false}
 use mathlib.Core.List.{List, [], _++_, append-nil}
-use Prim.Native.Nat.{ℕ, zero, suc, _+_, _-_, _/_, _≤_, min}
+use Prim.Native.Nat.{ℕ, _+_, _-_, _/_, _≤_, min}
 use native.Mathlib.Nat.{zero-add}
 use native.Mathlib.Omega.{arith}
 use lib.ListN.{length}
@@ -12,11 +12,13 @@ use borrow.Author.Tests.{leb-true}
 use Rattle.meaning.specs.Tree.{Forest, none, more, size}
 use Rattle.meaning.specs.File.{File}
 use Rattle.meaning.specs.Scoping.{Store}
-use Rattle.meaning.specs.Reading.{Outcome, accepted, refused, _>>_, ensure, scopesIn, symbolsIn, readFile}
+use Rattle.meaning.specs.Reading.{Outcome, accepted, refused, _>>_, ensure, readFile}
 use Rattle.meaning.specs.Walk.{settle, storeAt, storeOf, start}
 use Rattle.meaning.specs.Charges.{figuresIn, finalFigures}
 use Rattle.meaning.specs.Lowering.{Lent, checkMode, checkRows, checkFile, admit}
-use Rattle.totals.specs.Accepted.{Holds, bind, bind-any}
+use Rattle.parsing.specs.Outcomes.{Holds, bind, bind-any}
+use Rattle.parsing.specs.Parsed.{ParsedFile}
+use Rattle.parsing.specs.Files.{file-parsed}
 use Rattle.totals.specs.Fits.{accepted-fits}
 use Rattle.path.specs.declared.Walk.{Walk}
 use Rattle.path.specs.Path.{Tables, tables}
@@ -27,8 +29,7 @@ use Rattle.spots.specs.Spots.{Rest, openRowsOf, afterRowsOf, opensAt, visitedAt
 use Rattle.start.specs.Start.{lentIn, freeRows, zerosBehind}
 use Rattle.start.specs.Flat.{layoutOf, layoutF, countF, walkF, fillF}
 use Rattle.start.specs.Rows.{scopes-are, symbols-are}
-use Rattle.start.specs.Run.{count-is, records-are}
-use Rattle.start.specs.Read.{ReadFrom, accepted-from}
+use Rattle.start.specs.Run.{parsed-run, count-is, records-are}
 
 tables-eq : {x y : Tables} → x .records ≡ y .records → x .scopes ≡ y .scopes → x .symbols ≡ y .symbols → x .walk ≡ y .walk → x ≡ y
 tables-eq e₁ e₂ e₃ e₄ = λ i. record { records = e₁ i; scopes = e₂ i; symbols = e₃ i; walk = e₄ i }
@@ -67,16 +68,6 @@ first-held (more h k r) st g z =
 
 -- ---- how many rows
 
-scopes-long : (b : List ℕ) (n i : ℕ) → length (scopesIn b n i) ≡ n
-unfolding scopesIn
-scopes-long b zero i = refl
-scopes-long b (suc n) i = ap suc (scopes-long b n (suc i))
-
-symbols-long : (b : List ℕ) (n at : ℕ) → length (symbolsIn b n at) ≡ n
-unfolding symbolsIn
-symbols-long b zero at = refl
-symbols-long b (suc n) at = ap suc (symbols-long b n (at + 11))
-
 -- the final figures count what was read
 read-most : (f : File)
     → (size (f .tree) ≤ finalFigures f .records) × (length (f .scopes) ≤ finalFigures f .scopes)
@@ -86,22 +77,16 @@ read-most f = (omega arith, omega arith, omega arith)
 
 -- ---- the tables
 
-module _ (b : List ℕ) (f : File) (q : ReadFrom b f)
+module _ (b : List ℕ) (f : File) (q : ParsedFile b f)
     (fits : (finalFigures f .records ≤ 65535) × (finalFigures f .scopes ≤ 65535) × (finalFigures f .symbols ≤ 65535)) where
-  n-is : length (f .scopes) ≡ q .n
-  n-is = ap length (q .scopes) ∙ scopes-long b (q .n) 1
-
-  m-is : length (f .symbols) ≡ q .m
-  m-is = ap length (q .symbols) ∙ symbols-long b (q .m) (q .first)
-
-  layout-is : layoutF b ≡ layoutOf (q .n) (q .m) (q .first) (q .tree)
+  layout-is : layoutF b ≡ layoutOf (q .scope-number) (q .symbol-number) (q .first) (q .root)
   unfolding layoutF
   layout-is =
       let most = read-most f in
-      let d₁ : min (q .n) 65535 ≡ q .n = omega (arith, n-is) in
-      let d₂ : min (q .m) 65535 ≡ q .m = omega (arith, m-is) in
-      let d₃ : min (q .first) 65535 ≡ q .first = omega (arith, q .first-small) in
-      let d₄ : min (q .tree) 65535 ≡ q .tree = omega (arith, q .tree-small) in
+      let d₁ : min (q .scope-number) 65535 ≡ q .scope-number = omega (arith, q .scopes-many) in
+      let d₂ : min (q .symbol-number) 65535 ≡ q .symbol-number = omega (arith, q .symbols-many) in
+      let d₃ : min (q .first) 65535 ≡ q .first = omega (arith, q .small, q .scope-rows .ends) in
+      let d₄ : min (q .root) 65535 ≡ q .root = omega (arith, q .small, q .symbol-rows .ends) in
       rw (q .scopes-read, q .symbols-read, d₁, d₂, d₃, d₄)
 
   fill-is : (r s y : List ℕ) → finalFigures f .records ≤ length r / 7 → finalFigures f .scopes ≤ length s / 2
@@ -116,13 +101,14 @@ module _ (b : List ℕ) (f : File) (q : ReadFrom b f)
       let g = end - size (f .tree) in
       let all : g + length rs ≡ end = omega arith in
       let fit : min end 65535 ≡ end = omega arith in
-      let counted : countF b (q .tree) ≡ size (f .tree) = count-is b (q .next) (q .ends) rs (q .tree) (q .run) (omega arith) ∙ long in
+      let run = parsed-run (q .tree) in
+      let counted : countF b (q .root) ≡ size (f .tree) = count-is b (length b) (omega arith) rs (q .root) run (omega arith) ∙ long in
       rw (fit, layout-is, counted, first-held (f .tree) (storeOf f) g (zerosBehind f r s y), all)
       (tables-eq
-      (records-are b rs (q .tree) (q .next) g end r (q .run) all (omega arith))
-      (rw (n-is, q .scopes) (scopes-are b (q .n) s (omega (arith, n-is))))
-      (rw (m-is, q .symbols) (symbols-are b (q .first) (q .m) y (omega (arith, m-is))))
-      (rw (n-is, m-is, q .mode, q .esm)))
+      (records-are b rs (q .root) (length b) g end r run all (omega arith))
+      (rw (q .scopes-many, q .scopes) (scopes-are b (q .scope-number) s (omega (arith, q .scopes-many))))
+      (rw (q .symbols-many, q .symbols) (symbols-are b (q .first) (q .symbol-number) y (omega (arith, q .symbols-many))))
+      (rw (q .scopes-many, q .symbols-many, q .mode, q .esm)))
 
 -- ---- a file that is admitted
 
@@ -165,4 +151,4 @@ module _ (bytes r s y : List ℕ) (f : File) (e : admit bytes (lentIn r s y) ≡
   unfolding lentIn
   fill-law =
       let a = admitted in
-      fill-is bytes f (accepted-from bytes f (a .0)) (accepted-fits bytes f (a .0)) r s y (a .1) (a .2) (a .3)
+      fill-is bytes f (file-parsed bytes f (a .0)) (accepted-fits bytes f (a .0)) r s y (a .1) (a .2) (a .3)

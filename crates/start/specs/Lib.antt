@@ -3,5 +3,4 @@ pub mod Start
 pub mod Flat
 pub mod Rows
 pub mod Run
-pub mod Read
 pub mod Filled

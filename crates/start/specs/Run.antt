@@ -1,39 +1,22 @@
 -- Records that stand one after the other in a file: those of a tree that is read, counted, and stored as rows.
 -- Assumes nothing.
-use mathlib.Core.Path.{_≡_, refl, sym, ap, subst, _∙_}
-use mathlib.Core.Bool.{not}
+use mathlib.Core.Path.{_≡_, refl, sym, ap, _∙_}
 use mathlib.Core.List.{List, [], _∷_, _++_}
 use Prim.Native.Nat.{ℕ, zero, suc, _+_, _*_, _-_, _≤_, _<_}
 use native.Mathlib.Omega.{arith}
-use lib.ListN.{length, getD, replicate}
+use lib.ListN.{length, replicate}
 use lib.Seq.{append-snoc}
-use lib.Dec.{eqb, ltb}
-use borrow.Author.Tests.{ltb-false, le-leb, lt-leb}
-use Rattle.meaning.specs.Tree.{more, count}
-use Rattle.meaning.specs.File.{numbersOf, fieldBytes}
-use Rattle.meaning.specs.Grammar.{
-  allowed,
-  two,
-  fieldOf,
-  fieldAt,
-  right,
-  childrenOf,
-  placeOf,
-  headOf,
-  scopeOf,
-  below,
-  mayName,
-  naming,
-}
-use Rattle.meaning.specs.Reading.{Outcome, refused, ensure, field, Records, readList, readForest}
+use borrow.Author.Tests.{le-leb, lt-leb}
+use Rattle.meaning.specs.Tree.{Head, Forest, count}
+use Rattle.meaning.specs.File.{fieldBytes}
+use Rattle.meaning.specs.Grammar.{fieldOf}
 use Rattle.meaning.specs.declared.Place.{Place}
-use Rattle.meaning.specs.declared.Field.{Field}
 use Rattle.tables.specs.Loops.{turns, until, stopped}
 use Rattle.tables.specs.Table.{setRowF}
 use Rattle.tables.specs.declared.Row.{Row}
 use Rattle.gap.specs.Cells.{table, zeros, free, line, rowsOf, length-free}
 use Rattle.gap.specs.Rows.{set-row, length-snoc}
-use Rattle.totals.specs.Accepted.{Holds, bind, bind-any, by-tests}
+use Rattle.parsing.specs.Parsed.{RecordAt, Parsed, parsed-none, parsed-more}
 use Rattle.start.specs.Flat.{cleared, recordF, Counting, counting, counted, countOne, countF, filling, nextRecord, recordsF}
 use Rattle.start.specs.Rows.{blank, cleared-is}
 
@@ -48,62 +31,25 @@ run-++ f (r ∷ rs) qs at mid next (l, e, j) i = (l, e, run-++ f rs qs (fieldOf 
 
 -- ---- reading
 
-abbrev FieldHere : List ℕ → ℕ → Field → Type 0
-FieldHere f at x = (x ≡ fieldOf f at) × (at < length f)
+module _ {f : List ℕ} {syms : ℕ} where
+  begins : {p : Place} {cur at : ℕ} {m : List ℕ} {h : Head} {k : Forest} → RecordAt f syms p cur at m h k → at < length f
+  unfolding fieldBytes
+  begins y = omega (arith, y .field .bytes, y .field .ends)
 
-field-here : (f : List ℕ) (p : Place) (at : ℕ) → Holds (FieldHere f at) (field (fieldAt f p at))
-unfolding fieldAt fieldBytes
-field-here f p at =
-    let t = getD f at 0 in
-    by-tests (ltb (length f) (at + 3)) (allowed p t) (not (eqb (two f (at + 1)) (2 * numbersOf t))) (ltb (length f) (at + fieldBytes t))
-    (FieldHere f at) (fieldOf f at) at
-    (λ e s. (refl, omega (arith, ltb-false (length f) (at + fieldBytes t) s)))
+  row-is : {p : Place} {cur at : ℕ} {m : List ℕ} {h : Head} {k : Forest} → RecordAt f syms p cur at m h k
+      → line h (count k) ≡ recordF (fieldOf f at)
+  unfolding recordF
+  row-is y = rw (y .head, y .children)
 
--- so many records
-abbrev pub RunOf : List ℕ → ℕ → ℕ → Records → Type 0
-RunOf f at n r = Run f at (rowsOf (r .forest)) (r .next) × (count (r .forest) ≡ n)
-
-run-more : (f : List ℕ) (at n : ℕ) (x : Field) (kids beside : Records) → FieldHere f at x
-    → RunOf f (x .next) (childrenOf x) kids → RunOf f (kids .next) n beside
-    → RunOf f at (suc n) (record { forest = more (headOf x) (kids .forest) (beside .forest); next = beside .next; marks = beside .marks })
-unfolding rowsOf count recordF
-run-more f at n x kids beside (e, l) k r = (
-  (
-    l,
-    ap (line (headOf x)) (k .1) ∙ ap recordF e,
-    subst (λ (y : Field). Run f (y .next) (rowsOf (kids .forest) ++ rowsOf (beside .forest)) (beside .next)) e
-        (run-++ f (rowsOf (kids .forest)) (rowsOf (beside .forest)) (x .next) (kids .next) (beside .next) (k .0) (r .0)),
-  ),
-  ap suc (r .1),
-)
-
-module _ (inside : Place → Field → ℕ → ℕ → List ℕ → Outcome Records) (f : List ℕ) (syms : ℕ) (place : ℕ → Place) (cur : ℕ)
-    (kids-run : (p : Place) (x : Field) (at cur : ℕ) (m : List ℕ) → Holds (RunOf f (x .next) (childrenOf x)) (inside p x at cur m)) where
-  list-run : (n i at : ℕ) (m : List ℕ) → Holds (RunOf f at n) (readList inside f syms place cur i n at m)
-  unfolding readList rowsOf count
-  list-run zero i at m = (refl, refl)
-  list-run (suc n) i at m =
-      let P : Records → Type 0 = RunOf f at (suc n) in
-      let p = place i in
-      bind (FieldHere f at) P (field (fieldAt f p at)) _ (field-here f p at)
-      (λ x t. bind-any P (ensure (right p syms x) 5 at) _
-      (λ _. bind-any P (ensure (mayName f cur m (scopeOf (headOf x))) 5 at) _
-      (λ _.
-      let s = scopeOf (headOf x) in
-      bind (RunOf f (x .next) (childrenOf x)) P (inside p x at (below cur s) (naming m s)) _ (kids-run p x at (below cur s) (naming m s))
-      (λ kids k.
-      bind (RunOf f (kids .next) n) P (readList inside f syms place cur (suc i) n (kids .next) (kids .marks)) _
-      (list-run n (suc i) (kids .next) (kids .marks))
-      (λ beside r. run-more f at n x kids beside t k r)))))
-
-pub forest-run : (l : ℕ) (f : List ℕ) (syms : ℕ) (place : ℕ → Place) (cur i n at : ℕ) (m : List ℕ)
-    → Holds (RunOf f at n) (readForest l f syms place cur i n at m)
-unfolding readForest
-forest-run zero f syms place cur i n at m =
-    list-run (λ p x at cur m. refused 6 at) f syms place cur (λ p x at cur m. tt) n i at m
-forest-run (suc l) f syms place cur i n at m =
-    list-run (λ p x at cur m. readForest l f syms (placeOf p x) cur 0 (childrenOf x) (x .next) m) f syms place cur
-    (λ p x at cur m. forest-run l f syms (placeOf p x) cur 0 (childrenOf x) (x .next) m) n i at m
+  pub parsed-run : {place : ℕ → Place} {i cur at next : ℕ} {m o : List ℕ} {t : Forest} → Parsed f syms place i cur at m t next o
+      → Run f at (rowsOf t) next
+  unfolding rowsOf
+  parsed-run parsed-none = refl
+  parsed-run {at = at} {next = next} (parsed-more {mid = mid} {k = kids} {r = beside} y k r) = (
+    begins y,
+    row-is y,
+    run-++ f (rowsOf kids) (rowsOf beside) (fieldOf f at .next) mid next (parsed-run k) (parsed-run r),
+  )
 
 -- ---- counting
 

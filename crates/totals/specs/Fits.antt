@@ -1,63 +1,20 @@
 -- The final figures of an accepted file fit 16 bits: what is charged is less than the bytes of the records that it is charged for.
 -- Assumes nothing.
-use mathlib.Core.Path.{_≡_, refl, subst, _∙_}
+use mathlib.Core.Path.{_≡_, refl, _∙_}
 use mathlib.Core.Bool.{Bool, true, false, not, _||_, _&&_}
 use mathlib.Core.List.{List, [], _∷_}
-use Prim.Native.Nat.{ℕ, zero, suc, _+_, _*_, _≤_, max}
+use Prim.Native.Nat.{ℕ, zero, suc, _+_, _*_, _≤_}
 use native.Mathlib.Omega.{arith}
-use lib.ListN.{length, getD, replicate}
+use lib.ListN.{length}
 use lib.Dec.{eqb, leb, ltb, eqb·suc-zero}
-use borrow.Author.Tests.{eqb-true, ne-eqb, ltb-false, leb-true}
+use borrow.Author.Tests.{eqb-true, ne-eqb, leb-true}
 use Rattle.meaning.specs.Tree.{if_then_else_, oneOf, Head, Forest, none, more, count}
 use Rattle.meaning.specs.File.{Symbol, File, numbersOf, hasChildren, ownNumbers, fieldBytes}
-use Rattle.meaning.specs.Grammar.{
-  tagsOf,
-  is,
-  allowed,
-  two,
-  fieldOf,
-  fieldAt,
-  declarationRight,
-  right,
-  childrenOf,
-  placeOf,
-  headOf,
-  scopeOf,
-  below,
-  mayName,
-  naming,
-  unnamed,
-}
-use Rattle.meaning.specs.Reading.{
-  Outcome,
-  accepted,
-  refused,
-  ensure,
-  field,
-  Records,
-  readList,
-  readForest,
-  judged,
-  scopeAt,
-  symbolAt,
-  andRows,
-  readRows,
-  mostRows,
-  readScopes,
-  readSymbols,
-  scopesIn,
-  symbolsIn,
-  Counted,
-  rows,
-  readFile,
-}
+use Rattle.meaning.specs.Grammar.{tagsOf, is, allowed, fieldOf, declarationRight, right, childrenOf, placeOf}
+use Rattle.meaning.specs.Reading.{accepted, readFile}
 use Rattle.meaning.specs.declared.Place.{Place}
-use Rattle.meaning.specs.declared.Place.the-variants.{Settings, ScopeRow, SymbolRow, Program, ForOfLeft}
+use Rattle.meaning.specs.declared.Place.the-variants.{ForOfLeft}
 use Rattle.meaning.specs.declared.Field.{Field}
-use Rattle.meaning.specs.declared.Reading.{Reading}
-use Rattle.meaning.specs.declared.Reading.the-variants.{Whole, Refused}
-use Rattle.meaning.specs.declared.Rows.{Rows}
-use Rattle.meaning.specs.declared.Rows.the-variants.{Read}
 use Rattle.meaning.specs.Statements.{isUsing}
 use Rattle.meaning.specs.ForOf.{bindsIdentifier, boundSymbol}
 use Rattle.meaning.specs.Program.{keepsDefault}
@@ -83,10 +40,13 @@ use Rattle.tallies.specs.Tally.{
   tallyFigures,
 }
 use Rattle.tags.specs.Tags.{Seen, other, here, there, seen, clash}
+use Rattle.parsing.specs.Parsed.{same-tag, Parsed, parsed-none, parsed-more}
+use Rattle.parsing.specs.Counts.{parsed-bytes}
+use Rattle.parsing.specs.Files.{file-parsed}
 use Rattle.totals.specs.Roles.{upOf-all}
 use Rattle.totals.specs.Bound.{one-most, kept-most}
 use Rattle.totals.specs.Total.{figures-are}
-use Rattle.totals.specs.Accepted.{Holds, bind, bind-any, ensured, by-tests, either, accepted-is}
+use Rattle.totals.specs.Accepted.{either, accepted-is}
 
 -- ---- what pays
 
@@ -321,21 +281,7 @@ all-paid asRead (more h k r) ups i s =
       all-paid asRead r ups (suc i) (s .3),
     )
 
--- ---- a field
-
--- its place takes its tag; its bytes, and it ends in the file
-record ReadAt (f : List ℕ) (p : Place) (at : ℕ) (x : Field) : Type 0 where
-  taken : allowed p (x .tag) ≡ true
-  bytes : x .next ≡ at + fieldBytes (x .tag)
-  ends : x .next ≤ length f
-
-field-read : (f : List ℕ) (p : Place) (at : ℕ) → Holds (ReadAt f p at) (field (fieldAt f p at))
-unfolding fieldAt fieldOf
-field-read f p at =
-    let t = getD f at 0 in
-    by-tests (ltb (length f) (at + 3)) (allowed p t) (not (eqb (two f (at + 1)) (2 * numbersOf t))) (ltb (length f) (at + fieldBytes t))
-    (ReadAt f p at) (fieldOf f at) at
-    (λ e s. record { taken = e; bytes = refl; ends = ltb-false (length f) (at + fieldBytes t) s })
+-- ---- places below a record
 
 -- its place takes one tag
 Only : ℕ → Place → Type 0
@@ -367,13 +313,6 @@ default-child p syms x e r = rw e (eqb-true (x .a) 1 (rw e at r))
 
 -- ---- what is read
 
-record Got (f : List ℕ) (place : ℕ → Place) (n at : ℕ) (r : Records) : Type 0 where
-  sound : Sound (r .forest)
-  number : count (r .forest) ≡ n
-  declared : ((k : ℕ) → Only 6 (place k)) → declarators (r .forest) ≡ n
-  bytes : at + recordBytes (r .forest) ≤ r .next
-  ends : r .next ≤ max at (length f)
-
 a-declarator : (b : Bool) (p : Place) (x : Field) (syms d : ℕ) → eqb (x .tag) 5 ≡ b → right p syms x ≡ true
     → (((k : ℕ) → Only 6 (placeOf p x k)) → d ≡ childrenOf x) → oneIf b ≤ d
 a-declarator true p x syms d e r g =
@@ -381,122 +320,25 @@ a-declarator true p x syms d e r g =
     omega (arith, g (below-declaration p x t), declaration-children p syms x t r)
 a-declarator false p x syms d e r g = omega arith
 
-got-more : (f : List ℕ) (syms : ℕ) (place : ℕ → Place) (k n at : ℕ) (x : Field) (kids beside : Records) → ReadAt f (place k) at x
-    → right (place k) syms x ≡ true → Got f (placeOf (place k) x) (childrenOf x) (x .next) kids → Got f place n (kids .next) beside
-    → Got f place (suc n) at (record { forest = more (headOf x) (kids .forest) (beside .forest); next = beside .next; marks = beside .marks })
-unfolding headOf count declarators recordBytes Only
-got-more f syms place k n at x kids beside y r i j =
-    record {
-      sound = (
-        a-declarator (eqb (x .tag) 5) (place k) x syms (declarators (kids .forest)) refl r (i .declared),
-        λ e. i .number ∙ default-child (place k) syms x (eqb-true (x .tag) 18 e) r,
-        i .sound,
-        j .sound,
-      );
-      number = omega (arith, j .number);
-      declared = λ only. rw (only k (x .tag) (y .taken)) (omega (arith, j .declared only));
-      bytes = omega (arith, y .bytes, i .bytes, j .bytes);
-      ends = omega (arith, y .ends, i .ends, j .ends);
-    }
+module _ {f : List ℕ} {syms : ℕ} where
+  all-declarators : {place : ℕ → Place} {i cur at next : ℕ} {m o : List ℕ} {t : Forest} → ((j : ℕ) → Only 6 (place j))
+      → Parsed f syms place i cur at m t next o → declarators t ≡ count t
+  unfolding declarators count Only
+  all-declarators only parsed-none = refl
+  all-declarators {i = i} only (parsed-more y k r) =
+      rw (same-tag y, only i _ (y .field .taken)) (omega (arith, all-declarators only r))
 
-module _ (inside : Place → Field → ℕ → ℕ → List ℕ → Outcome Records) (f : List ℕ) (syms : ℕ) (place : ℕ → Place) (cur : ℕ)
-    (got : (p : Place) (x : Field) (at cur : ℕ) (m : List ℕ) → Holds (Got f (placeOf p x) (childrenOf x) (x .next)) (inside p x at cur m)) where
-  list-got : (n k at : ℕ) (m : List ℕ) → Holds (Got f place n at) (readList inside f syms place cur k n at m)
-  unfolding readList count declarators recordBytes
-  list-got zero k at m = record { sound = tt; number = refl; declared = λ _. refl; bytes = omega arith; ends = omega arith }
-  list-got (suc n) k at m =
-      let P : Records → Type 0 = Got f place (suc n) at in
-      bind (ReadAt f (place k) at) P (field (fieldAt f (place k) at)) _ (field-read f (place k) at)
-      (λ x y. bind (λ _. right (place k) syms x ≡ true) P (ensure (right (place k) syms x) 5 at) _ (ensured (right (place k) syms x) 5 at)
-      (λ _ e. bind-any P (ensure (mayName f cur m (scopeOf (headOf x))) 5 at) _
-      (λ _.
-      let s = scopeOf (headOf x) in
-      bind (Got f (placeOf (place k) x) (childrenOf x) (x .next)) P (inside (place k) x at (below cur s) (naming m s)) _
-      (got (place k) x at (below cur s) (naming m s))
-      (λ kids i.
-      bind (Got f place n (kids .next)) P (readList inside f syms place cur (suc k) n (kids .next) (kids .marks)) _
-      (list-got n (suc k) (kids .next) (kids .marks))
-      (λ beside j. got-more f syms place k n at x kids beside y e i j)))))
-
-forest-got : (l : ℕ) (f : List ℕ) (syms : ℕ) (place : ℕ → Place) (cur k n at : ℕ) (m : List ℕ)
-    → Holds (Got f place n at) (readForest l f syms place cur k n at m)
-unfolding readForest
-forest-got zero f syms place cur k n at m =
-    list-got (λ p x at cur m. refused 6 at) f syms place cur (λ p x at cur m. tt) n k at m
-forest-got (suc l) f syms place cur k n at m =
-    list-got (λ p x at cur m. readForest l f syms (placeOf p x) cur 0 (childrenOf x) (x .next) m) f syms place cur
-    (λ p x at cur m. forest-got l f syms (placeOf p x) cur 0 (childrenOf x) (x .next) m) n k at m
-
--- ---- rows
-
--- what each row keeps, they all keep
-row-kept : (P : Field → Type 0) (Q : Counted → Type 0) (b : Bool) (one : Reading) (g : Field → Rows) (k at : ℕ)
-    → Q (record { number = k; next = at }) → Holds P (field one) → ((x : Field) → P x → Holds Q (rows (g x)))
-    → Holds Q (rows (if b then andRows one g else Read k at))
-row-kept P Q true (Whole x) g k at q p h = h x p
-row-kept P Q true (Refused c d) g k at q p h = tt
-row-kept P Q false one g k at q p h = q
-
-rows-kept : (P : ℕ → ℕ → Type 0) (again : ℕ → ℕ → Bool) (one : ℕ → ℕ → Reading)
-    → ((k at : ℕ) → P k at → Holds (λ x. P (k + 1) (x .next)) (field (one k at)))
-    → (n k at : ℕ) → P k at → Holds (λ q. P (q .number) (q .next)) (rows (readRows again one n k at))
-unfolding readRows
-rows-kept P again one h zero k at p = p
-rows-kept P again one h (suc n) k at p =
-    row-kept (λ x. P (k + 1) (x .next)) (λ q. P (q .number) (q .next)) (again k at) (one k at) _ k at p (h k at p)
-    (λ x i. rows-kept P again one h n (k + 1) (x .next) i)
-
-judged-holds : (P : Field → Type 0) (test : Field → Bool) (at : ℕ) (one : Reading) → Holds P (field one) → Holds P (field (judged test at one))
-judged-holds P test at (Whole x) p = go (test x)
-  where
-    go : (b : Bool) → Holds P (field (if b then Whole x else Refused 5 at))
-    go true = p
-    go false = tt
-judged-holds P test at (Refused c q) p = tt
-
-holds-then : {A : Type 0} (P Q : A → Type 0) (m : Outcome A) → Holds P m → ((a : A) → P a → Q a) → Holds Q m
-holds-then P Q (accepted a) p h = h a p
-holds-then P Q (refused c q) p h = tt
-
-row-bytes : (f : List ℕ) (p : Place) (n at : ℕ) (x : Field) → Only n p → ReadAt f p at x → x .next ≡ at + fieldBytes n
-unfolding Only
-row-bytes f p n at x only y = rw (eqb-true (x .tag) n (only (x .tag) (y .taken))) at (y .bytes)
-
--- so many rows of so many bytes
-abbrev Scopes : List ℕ → ℕ → ℕ → ℕ → Type 0
-Scopes f from k at = (from + 7 * k ≤ at) × (at ≤ length f)
-
-abbrev Symbols : List ℕ → ℕ → ℕ → ℕ → Type 0
-Symbols f from k at = (from + 11 * k ≤ at) × (at ≤ length f)
-
-scopes-kept : (f : List ℕ) (from : ℕ) → from ≤ length f → Holds (λ q. Scopes f from (q .number) (q .next)) (rows (readScopes f from))
-unfolding readScopes scopeAt Only allowed tagsOf fieldBytes numbersOf
-scopes-kept f from l =
-    rows-kept (Scopes f from) _ _
-    (λ k at p. judged-holds (λ x. Scopes f from (k + 1) (x .next)) _ at (fieldAt f ScopeRow at)
-    (holds-then (ReadAt f ScopeRow at) _ (field (fieldAt f ScopeRow at)) (field-read f ScopeRow at)
-    (λ x y. omega (arith, row-bytes f ScopeRow 41 at x (λ t. or-false (eqb t 41)) y, y .ends))))
-    mostRows 0 from (omega arith)
-
-symbols-kept : (f : List ℕ) (scopes from : ℕ) → from ≤ length f
-    → Holds (λ q. Symbols f from (q .number) (q .next)) (rows (readSymbols f scopes from))
-unfolding readSymbols symbolAt Only allowed tagsOf fieldBytes numbersOf
-symbols-kept f scopes from l =
-    rows-kept (Symbols f from) _ _
-    (λ k at p. judged-holds (λ x. Symbols f from (k + 1) (x .next)) _ at (fieldAt f SymbolRow at)
-    (holds-then (ReadAt f SymbolRow at) _ (field (fieldAt f SymbolRow at)) (field-read f SymbolRow at)
-    (λ x y. omega (arith, row-bytes f SymbolRow 42 at x (λ t. or-false (eqb t 42)) y, y .ends))))
-    mostRows 0 from (omega arith)
-
-scopes-length : (f : List ℕ) (n s : ℕ) → length (scopesIn f n s) ≡ n
-unfolding scopesIn
-scopes-length f zero s = refl
-scopes-length f (suc n) s = omega (arith, scopes-length f n (suc s))
-
-symbols-length : (f : List ℕ) (n at : ℕ) → length (symbolsIn f n at) ≡ n
-unfolding symbolsIn
-symbols-length f zero at = refl
-symbols-length f (suc n) at = omega (arith, symbols-length f n (at + 11))
+  sound : {place : ℕ → Place} {i cur at next : ℕ} {m o : List ℕ} {t : Forest} → Parsed f syms place i cur at m t next o → Sound t
+  sound parsed-none = tt
+  sound {place} {i} {at = at} (parsed-more {k = kids} y k r) =
+      let p = place i in
+      let x = fieldOf f at in (
+        rw (same-tag y)
+            (a-declarator (eqb (x .tag) 5) p x syms (declarators kids) refl (y .numbers) (λ only. all-declarators only k ∙ y .children)),
+        λ e. y .children ∙ default-child p syms x (eqb-true (x .tag) 18 (rw (same-tag y) at e)) (y .numbers),
+        sound k,
+        sound r,
+      )
 
 -- ---- the file
 
@@ -504,37 +346,22 @@ pub record Room (g : File) : Type 0 where
   pub sound : Sound (g .tree)
   pub bytes : 7 + 7 * length (g .scopes) + 11 * length (g .symbols) + recordBytes (g .tree) ≤ 65535
 
-pub read-room : (f : List ℕ) → Holds Room (readFile f)
-unfolding readFile Only allowed tagsOf fieldBytes numbersOf
-read-room f =
-    let P : File → Type 0 = Room in
-    bind (λ _. leb (length f) 65535 ≡ true) P (ensure (leb (length f) 65535) 1 65535) _ (ensured (leb (length f) 65535) 1 65535)
-    (λ _ e. bind (ReadAt f Settings 0) P (field (fieldAt f Settings 0)) _ (field-read f Settings 0)
-    (λ settings y. bind-any P (ensure (leb (settings .a) 2 && leb (settings .b) 1) 5 0) _
-    (λ _. bind (λ q. Scopes f (settings .next) (q .number) (q .next)) P (rows (readScopes f (settings .next))) _
-    (scopes-kept f (settings .next) (y .ends))
-    (λ scopes s. bind (λ q. Symbols f (scopes .next) (q .number) (q .next)) P (rows (readSymbols f (scopes .number) (scopes .next))) _
-    (symbols-kept f (scopes .number) (scopes .next) (s .1))
-    (λ symbols z.
-    let at = symbols .next in
-    let marks = replicate (scopes .number) 0 in
-    bind (Got f (λ _. Program) 1 at) P (readForest 64 f (symbols .number) (λ _. Program) 0 0 1 at marks) _
-    (forest-got 64 f (symbols .number) (λ _. Program) 0 0 1 at marks)
-    (λ program i. bind-any P (ensure (leb (length f) (program .next)) 7 (program .next)) _
-    (λ _. bind-any P (ensure (leb (scopes .number) (unnamed (program .marks))) 5 (7 + 7 * unnamed (program .marks))) _
-    (λ _. record {
-      sound = i .sound;
+pub accepted-room : (f : List ℕ) (g : File) → readFile f ≡ accepted g → Room g
+accepted-room f g e =
+    let q = file-parsed f g e in
+    record {
+      sound = sound (q .tree);
       bytes =
           omega (
             arith,
-            leb-true (length f) 65535 e,
-            row-bytes f Settings 40 0 settings (λ t. or-false (eqb t 40)) y,
-            scopes-length f (scopes .number) 1,
-            symbols-length f (symbols .number) (scopes .next),
-            i .bytes,
-            i .ends,
+            q .small,
+            q .scope-rows .next-is,
+            q .symbol-rows .next-is,
+            q .scopes-many,
+            q .symbols-many,
+            parsed-bytes (q .tree),
           );
-    }))))))))
+    }
 
 helper-most : (b : Bool)
     → (total (if b then helper ∷ [] else []) .records ≡ 0) × (total (if b then helper ∷ [] else []) .scopes ≡ 0)
@@ -550,7 +377,7 @@ unfolding tallyFigures helperLines owed
 accepted-fits b f e =
     let t : Tally = tallyOf (f .symbols) (λ _. Plain) 0 (f .tree) in
     let a = accepted-is b f e in
-    let r : Room f = subst (Holds Room) e (read-room b) in
+    let r = accepted-room b f e in
     rw (figures-are f (a .regular))
     (omega (
       arith,
