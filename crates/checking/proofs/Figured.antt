@@ -18,8 +18,8 @@ use Rattle.figures.specs.Figures.{helperF, finalF, figuredF, shownFigures, figu
 use Rattle.figures.specs.declared.FinalFigures.{FinalFigures}
 use Rattle.figures.specs.declared.Figured.{Figured}
 use Rattle.figures.specs.declared.Figured.the-variants.{Fine as FineFigures, Refused as RefusedFigures}
-use Rattle.totals.specs.Total.{figuresFrom}
-use Rattle.totals.specs.Accepted.{accepted-figures}
+use Rattle.charge_laws.specs.Totals.Total.{figuresFrom}
+use Rattle.charge_laws.specs.Totals.Accepted.{accepted-figures}
 use Rattle.checking.specs.declared.Checked.{Checked}
 use Rattle.checking.specs.declared.Checked.the-variants.{Fine, Refused as RefusedCheck}
 use Rattle.checking.specs.declared.Whole.{Whole}

@@ -13,22 +13,22 @@ use Rattle.meaning.specs.Walk.{Spot, visits, start, treeAt, storeAt, fileAt}
 use Rattle.meaning.specs.Charges.{Figures, _⊕_, total, figuresIn, figuresAt, finalFigures}
 use Rattle.meaning.specs.VisitCharges.{visitCharges}
 use Rattle.meaning.specs.Lowering.{admit, lastSpot}
-use Rattle.counts.specs.Figures.{joined}
-use Rattle.fit.specs.Accepted.{accepted-after}
-use Rattle.fit.specs.Final.{never-above}
-use Rattle.room.specs.NumbersFit.{Bytes}
+use Rattle.charge_laws.specs.Counts.Figures.{joined}
+use Rattle.charge_laws.specs.Fit.Accepted.{accepted-after}
+use Rattle.charge_laws.specs.Fit.Final.{never-above}
+use Rattle.bound_laws.specs.NumbersFit.{Bytes}
 use Rattle.tables.specs.Loops.{turns}
 use Rattle.path.specs.Path.{Tables}
-use Rattle.spots.specs.Spots.{held}
+use Rattle.representation.specs.Spots.Spots.{held}
 use Rattle.start.specs.Start.{lentIn, freeRows, zerosBehind}
 use Rattle.start.specs.Filled.{admitted}
 use Rattle.walk.specs.Visit.{visitF}
 use Rattle.simulation.specs.Visits.{at-spot}
 use Rattle.simulation.specs.Started.{visits-after-start}
-use Rattle.ending.specs.Last.{last-figures}
-use Rattle.ending.specs.ReadBack.{fieldsOf, fieldCount, isRecord, counts-back}
-use Rattle.shown.specs.Shown.{recordsIn, scopesIn, symbolsIn}
-use Rattle.shown.specs.Held.{held-records, held-scopes, held-symbols, flatten-size}
+use Rattle.bound_laws.specs.Last.{last-figures}
+use Rattle.readback_laws.specs.ReadBack.{fieldsOf, fieldCount, isRecord, counts-back}
+use Rattle.representation.specs.Shown.Shown.{recordsIn, scopesIn, symbolsIn}
+use Rattle.representation.specs.Shown.Held.{held-records, held-scopes, held-symbols, flatten-size}
 use Rattle.lowering.specs.Law.{last-tagged}
 
 -- the tables that start leaves of an admitted file, and those after k calls of visit, each on exactly what the one before left
@@ -98,7 +98,7 @@ module _ (bytes r s y : List ℕ) (f : File) (e : admit bytes (lentIn r s y) ≡
   -- ---- the written file
 
   module _ (b : Bytes bytes) where
-    abbrev fields : List Rattle.ending.specs.ReadBack.Read
+    abbrev fields : List Rattle.readback_laws.specs.ReadBack.Read
     fields = fieldsOf (written (fileAt (lastSpot f)))
 
     pub file-shows : (fieldCount isRecord fields ≡ finalFigures f .records) × (fieldCount (λ t. eqb t 41) fields ≡ finalFigures f .scopes)

@@ -25,23 +25,23 @@ use Rattle.meaning.specs.Charges.{_⊕_, total, figuresIn, finalFigures}
 use Rattle.meaning.specs.VisitCharges.{visitCharges}
 use Rattle.meaning.specs.Lowering.{Lent, Written, checkFile, figuresOf, admit, lastSpot, lower}
 use Rattle.meaning.specs.Table.{table, table-holds}
-use Rattle.counts.specs.Figures.{joined}
-use Rattle.fit.specs.Ends.{isOver, walk-ends}
-use Rattle.fit.specs.Final.{charges-final}
-use Rattle.room.specs.NumbersFit.{Bytes}
+use Rattle.charge_laws.specs.Counts.Figures.{joined}
+use Rattle.charge_laws.specs.Fit.Ends.{isOver, walk-ends}
+use Rattle.charge_laws.specs.Fit.Final.{charges-final}
+use Rattle.bound_laws.specs.NumbersFit.{Bytes}
 use Rattle.figures.specs.Figures.{shownFigures}
 use Rattle.start.specs.declared.Started.the-variants.{Refused as NotStarted}
 use Rattle.start.specs.Start.{begun, lentIn, ready, startOf, startF}
 use Rattle.start.specs.Filled.{admitted}
-use Rattle.hints.specs.Hints.{ofRead, asked, given}
-use Rattle.ending.specs.Last.{last-spot, last-is}
-use Rattle.ending.specs.ReadBack.{fieldsOf, fieldCount, isRecord}
-use Rattle.decoded.specs.Decoded.{treeIn}
-use Rattle.decoded.specs.Back.{Childless, hints-back}
-use Rattle.decoded.specs.Childless.{accepted-childless}
-use Rattle.shown.specs.Shown.{recordsIn, scopesIn, symbolsIn}
-use Rattle.refusing.specs.Numbers.{read-numbers, figures-numbers, admit-numbers, lower-numbers}
-use Rattle.refusing.specs.Small.{Short, firstShort, small-refused, refused-small, lower-total, short-output, enough-output}
+use Rattle.hint_laws.specs.Hints.{ofRead, asked, given}
+use Rattle.bound_laws.specs.Last.{last-spot, last-is}
+use Rattle.readback_laws.specs.ReadBack.{fieldsOf, fieldCount, isRecord}
+use Rattle.readback_laws.specs.Decoded.{treeIn}
+use Rattle.readback_laws.specs.Back.{Childless, hints-back}
+use Rattle.readback_laws.specs.Childless.{accepted-childless}
+use Rattle.representation.specs.Shown.Shown.{recordsIn, scopesIn, symbolsIn}
+use Rattle.claims.specs.Refusals.Numbers.{read-numbers, figures-numbers, admit-numbers, lower-numbers}
+use Rattle.claims.specs.Refusals.Small.{Short, firstShort, small-refused, refused-small, lower-total, short-output, enough-output}
 use Rattle.lowering.specs.declared.Lowered.the-variants.{Written as WrittenIn, Refused}
 use Rattle.lowering.specs.Lower.{finished, zerosFor, writtenOver, lowerOf, lowerF}
 use Rattle.lowering.specs.Law.{last-tagged, last-length}

@@ -14,16 +14,16 @@ use Rattle.meaning.specs.Statements.{isUsing}
 use Rattle.meaning.specs.Walk.{Spot, at, leaving, over, visits, start, treeAt}
 use Rattle.meaning.specs.Charges.{finalFigures}
 use Rattle.meaning.specs.Lowering.{lastSpot}
-use Rattle.tags.specs.Tags.{clash}
-use Rattle.fit.specs.Ends.{isOver}
-use Rattle.hints.specs.Hints.{sumOver, overDeclarators, takesUp, ofRead, asked, called, given}
-use Rattle.asking.specs.Asked.{OldCalls, accepted-old, overs-none, calls-none, asked-by-kind, asked-of-read}
-use Rattle.hinted.specs.Balance.{letterIn, waits, doneIn, gives, balanceOf, balance}
-use Rattle.hinted.specs.Visit.{visits-balance}
-use Rattle.hinted.specs.Settled.{Settled, settled-gives}
-use Rattle.lowered.specs.Quiet.{Quiet, AllQuiet, nothing-asked}
-use Rattle.lowered.specs.Visits.{over-quiet}
-use Rattle.ending.specs.Last.{last-spot, last-over}
+use Rattle.spec_laws.specs.Tags.{clash}
+use Rattle.charge_laws.specs.Fit.Ends.{isOver}
+use Rattle.hint_laws.specs.Hints.{sumOver, overDeclarators, takesUp, ofRead, asked, called, given}
+use Rattle.hint_laws.specs.Requested.Asked.{OldCalls, accepted-old, overs-none, calls-none, asked-by-kind, asked-of-read}
+use Rattle.hint_laws.specs.Balanced.Balance.{letterIn, waits, doneIn, gives, balanceOf, balance}
+use Rattle.hint_laws.specs.Balanced.Visit.{visits-balance}
+use Rattle.hint_laws.specs.Balanced.Settled.{Settled, settled-gives}
+use Rattle.hint_laws.specs.Lowered.Quiet.{Quiet, AllQuiet, nothing-asked}
+use Rattle.hint_laws.specs.Lowered.Visits.{over-quiet}
+use Rattle.bound_laws.specs.Last.{last-spot, last-over}
 
 both : (u v : Head → Forest → ℕ) (f : Forest) → sumOver (λ h k. u h k + v h k) f ≡ sumOver u f + sumOver v f
 unfolding sumOver

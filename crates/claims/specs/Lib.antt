@@ -3,3 +3,4 @@ pub mod Hinting
 pub mod Calls
 pub mod ShutOut
 pub mod Claims
+pub mod Refusals

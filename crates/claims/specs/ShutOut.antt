@@ -15,8 +15,8 @@ use Rattle.meaning.specs.Lowering.{Lent, Written, checkOutput, checkFile, admit
 use Rattle.meaning.specs.Notation.{bytes}
 use Rattle.meaning.specs.Computing.{computing}
 use Rattle.meaning.specs.Hint.{hintOf, letterOf}
-use Rattle.tags.specs.Tags.{clash}
-use Rattle.hints.specs.Hints.{sumOver, namesOf, ofInitializer, overDeclarators, usingsIn, asksFor, asked}
+use Rattle.spec_laws.specs.Tags.{clash}
+use Rattle.hint_laws.specs.Hints.{sumOver, namesOf, ofInitializer, overDeclarators, usingsIn, asksFor, asked}
 
 -- ---- two files and what is seen of an answer
 

@@ -24,15 +24,15 @@ use Rattle.meaning.specs.File.{
 }
 use Rattle.meaning.specs.Scoping.{Store, noSymbol}
 use Rattle.meaning.specs.Walk.{over, storeAt, treeAt, fileAt}
-use Rattle.tags.specs.Tags.{and-left, and-right}
+use Rattle.spec_laws.specs.Tags.{and-left, and-right}
 use Rattle.tables.specs.Table.{columnF, rowF}
 use Rattle.tables.specs.declared.Row.{Row}
-use Rattle.gap.specs.Cells.{table, free, line, rowsOf}
-use Rattle.store.specs.Held.{scopeCells, symbolCells}
-use Rattle.spots.specs.Spots.{Rest, visitedAt, restAt, walkAt, held}
+use Rattle.representation.specs.Gap.Cells.{table, free, line, rowsOf}
+use Rattle.representation.specs.Store.Held.{scopeCells, symbolCells}
+use Rattle.representation.specs.Spots.Spots.{Rest, visitedAt, restAt, walkAt, held}
 use Rattle.writing.specs.Writing.{fieldWith, scopeBytes, symbolBytes, ownOr, recordBytes, rowsBytes, recordAt, fileBytes}
-use Rattle.ending.specs.ReadBack.{isRecord, Tagged}
-use Rattle.ending.specs.Length.{complete, record-complete}
+use Rattle.readback_laws.specs.ReadBack.{isRecord, Tagged}
+use Rattle.readback_laws.specs.Length.{complete, record-complete}
 
 -- ---- rows behind the first
 

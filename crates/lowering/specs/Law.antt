@@ -14,16 +14,16 @@ use Rattle.meaning.specs.Reading.{Outcome, accepted, refused, _>>=_, _>>_, ensu
 use Rattle.meaning.specs.Walk.{Spot, at, leaving, over, visits, start, treeAt, fileAt}
 use Rattle.meaning.specs.Charges.{Figures, figuresAt, finalFigures}
 use Rattle.meaning.specs.Lowering.{checkOutput, admit, lastSpot, lower}
-use Rattle.tags.specs.Tags.{clash, and-left, and-right}
-use Rattle.totals.specs.Fits.{accepted-fits}
-use Rattle.fit.specs.Ends.{isOver}
-use Rattle.room.specs.Numbers.{TreeWithin}
-use Rattle.room.specs.NumbersFit.{Bytes, numbers-fit}
+use Rattle.spec_laws.specs.Tags.{clash, and-left, and-right}
+use Rattle.charge_laws.specs.Totals.Fits.{accepted-fits}
+use Rattle.charge_laws.specs.Fit.Ends.{isOver}
+use Rattle.bound_laws.specs.Numbers.{TreeWithin}
+use Rattle.bound_laws.specs.NumbersFit.{Bytes, numbers-fit}
 use Rattle.figures.specs.declared.Figured.{Figured}
 use Rattle.figures.specs.Figures.{shownFigures, figuredOf}
 use Rattle.tables.specs.Loops.{turns, until}
 use Rattle.path.specs.Path.{Tables}
-use Rattle.spots.specs.Spots.{Rest, held}
+use Rattle.representation.specs.Spots.Spots.{Rest, held}
 use Rattle.start.specs.Start.{lentIn, admittedFigures}
 use Rattle.start.specs.Flat.{fillF}
 use Rattle.start.specs.Filled.{admitted, fill-law}
@@ -32,9 +32,9 @@ use Rattle.simulation.specs.Visits.{heldIn}
 use Rattle.simulation.specs.Started.{zerosAfter, visits-after-start}
 use Rattle.writing.specs.Writing.{fileBytes}
 use Rattle.writing.specs.Stored.{sets-front}
-use Rattle.ending.specs.Last.{last-spot, last-over, last-figures}
-use Rattle.ending.specs.ReadBack.{Tagged}
-use Rattle.ending.specs.Length.{tagged-length}
+use Rattle.bound_laws.specs.Last.{last-spot, last-over, last-figures}
+use Rattle.readback_laws.specs.ReadBack.{Tagged}
+use Rattle.readback_laws.specs.Length.{tagged-length}
 use Rattle.lowering.specs.Lower.{finished, zerosFor, writtenOver, lowerOf, lowerF}
 use Rattle.walk.specs.Plain.{isOverIn}
 use Rattle.lowering.specs.Flat.{visitAllF, outputF, runF, lowerBy}

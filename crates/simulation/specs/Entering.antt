@@ -28,20 +28,20 @@ use Rattle.meaning.specs.Walk.{
   currentScope,
   hoistScope,
 }
-use Rattle.tags.specs.Tags.{Seen, other, here, there, seen}
-use Rattle.growth.specs.Chosen.{Chosen, kept, as-program, as-block, as-body, as-try, as-for, as-switch, as-insert, as-wrap, chosen}
-use Rattle.counts.specs.Enter.{Fit}
-use Rattle.counts.specs.Fits.{Fits}
+use Rattle.spec_laws.specs.Tags.{Seen, other, here, there, seen}
+use Rattle.charge_laws.specs.Growth.Chosen.{Chosen, kept, as-program, as-block, as-body, as-try, as-for, as-switch, as-insert, as-wrap, chosen}
+use Rattle.charge_laws.specs.Counts.Enter.{Fit}
+use Rattle.charge_laws.specs.Counts.Fits.{Fits}
 use Rattle.tables.specs.Table.{columnF, rowF}
 use Rattle.tables.specs.declared.Row.{Row}
-use Rattle.store.specs.Agreed.{Agreed}
+use Rattle.representation.specs.Store.Agreed.{Agreed}
 use Rattle.path.specs.Path.{Tables}
-use Rattle.spots.specs.Spots.{Rest, held}
-use Rattle.streamed.specs.Parts.{Catches}
-use Rattle.rewritten.specs.Standing.{row-is}
-use Rattle.rewritten.specs.Kept.{block-kept, body-kept, for-kept, switch-kept, for-of-kept}
-use Rattle.tried.specs.Try.{try-agreed}
-use Rattle.arranged.specs.Program.{program-kept}
+use Rattle.representation.specs.Spots.Spots.{Rest, held}
+use Rattle.table_laws.specs.Streamed.Parts.{Catches}
+use Rattle.simulation.specs.Rewritten.Standing.{row-is}
+use Rattle.simulation.specs.Rewritten.Kept.{block-kept, body-kept, for-kept, switch-kept, for-of-kept}
+use Rattle.simulation.specs.Tried.Try.{try-agreed}
+use Rattle.simulation.specs.Arranged.Program.{program-kept}
 use Rattle.walk.specs.Visit.{
   rewriteProgramF,
   rewriteBlockF,

@@ -7,3 +7,7 @@ pub mod Entering
 pub mod Visit
 pub mod Visits
 pub mod Started
+pub mod Rewritten
+pub mod Tried
+pub mod Arranged
+pub mod Leaving

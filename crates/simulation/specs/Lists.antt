@@ -26,18 +26,18 @@ use Rattle.meaning.specs.Charges.{
 }
 use Rattle.meaning.specs.VisitCharges.{isContext, anyContext}
 use Rattle.meaning.specs.Walk.{Crumb, Spot, at, block, functionBody, forLoop, switch, actIf, enterAs, currentScope, hoistScope}
-use Rattle.growth.specs.Rows.{missing, oneIf}
-use Rattle.growth.specs.Contexts.{block-pays, body-pays, for-pays, switch-pays}
-use Rattle.counts.specs.TakenUp.{Labelled}
+use Rattle.charge_laws.specs.Growth.Rows.{missing, oneIf}
+use Rattle.charge_laws.specs.Growth.Contexts.{block-pays, body-pays, for-pays, switch-pays}
+use Rattle.charge_laws.specs.Counts.TakenUp.{Labelled}
 use Rattle.path.specs.Path.{Tables}
-use Rattle.spots.specs.Spots.{visitedAt, restAt, Rest, held}
-use Rattle.lists.specs.Plan.{usings, any-usings}
+use Rattle.representation.specs.Spots.Spots.{visitedAt, restAt, Rest, held}
+use Rattle.table_laws.specs.Lists.Plan.{usings, any-usings}
 use Rattle.for_switch.specs.For.{planForF}
-use Rattle.streamed.specs.Cases.{caseUsings, any-case-usings}
-use Rattle.rewritten.specs.Standing.{listPlan, casesPlan, n-is, list-plan, cases-plan, for-plan}
-use Rattle.rewritten.specs.Replaced.{withFree}
-use Rattle.rewritten.specs.Lists.{block-law, body-law}
-use Rattle.rewritten.specs.Loops.{for-law, switch-law}
+use Rattle.table_laws.specs.Streamed.Cases.{caseUsings, any-case-usings}
+use Rattle.simulation.specs.Rewritten.Standing.{listPlan, casesPlan, n-is, list-plan, cases-plan, for-plan}
+use Rattle.simulation.specs.Rewritten.Replaced.{withFree}
+use Rattle.simulation.specs.Rewritten.Lists.{block-law, body-law}
+use Rattle.simulation.specs.Rewritten.Loops.{for-law, switch-law}
 use Rattle.walk.specs.Visit.{planNextF, rewriteBlockF, rewriteBodyF, rewriteForF, rewriteSwitchF}
 use Rattle.simulation.specs.Rewrite.{By, done-by, kept-by, counts-some, context-takes, list-takes}
 

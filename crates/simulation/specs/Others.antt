@@ -35,29 +35,29 @@ use Rattle.meaning.specs.Walk.{
   currentScope,
   hoistScope,
 }
-use Rattle.tags.specs.Tags.{and-left}
-use Rattle.growth.specs.Rows.{missing, scope-below}
-use Rattle.growth.specs.Program.{Exports, program-pays}
-use Rattle.growth.specs.ForOf.{insert-pays, wrap-pays}
-use Rattle.counts.specs.Enter.{Left}
-use Rattle.gap.specs.Cells.{length-rows}
+use Rattle.spec_laws.specs.Tags.{and-left}
+use Rattle.charge_laws.specs.Growth.Rows.{missing, scope-below}
+use Rattle.charge_laws.specs.Growth.Program.{Exports, program-pays}
+use Rattle.charge_laws.specs.Growth.ForOf.{insert-pays, wrap-pays}
+use Rattle.charge_laws.specs.Counts.Enter.{Left}
+use Rattle.representation.specs.Gap.Cells.{length-rows}
 use Rattle.scoping.specs.Changes.{inSymbols}
-use Rattle.store.specs.Agreed.{Agreed}
+use Rattle.representation.specs.Store.Agreed.{Agreed}
 use Rattle.path.specs.Path.{Tables}
-use Rattle.spots.specs.Spots.{visitedAt, restAt, Rest, held}
+use Rattle.representation.specs.Spots.Spots.{visitedAt, restAt, Rest, held}
 use Rattle.for_of.specs.ForOf.{takesUsingF, insertsF, insertUsingF, wrapBodyF}
-use Rattle.streamed.specs.Parts.{tryRows, Catches, any-try}
-use Rattle.rewritten.specs.Standing.{n-is}
-use Rattle.rewritten.specs.Replaced.{withFree}
-use Rattle.rewritten.specs.Sides.{forOfActF, for-of-act-law}
-use Rattle.rewritten.specs.ForOf.{insert-law, wrap-law}
-use Rattle.tried.specs.Passing.{newScopes, newSymbols}
-use Rattle.tried.specs.Children.{children-law}
-use Rattle.tried.specs.Try.{try-plan, try-law}
-use Rattle.itemized.specs.Items.{itemsRows, itemsSymbols}
-use Rattle.itemized.specs.Program.{items-store}
-use Rattle.arranged.specs.Scopes.{items-same}
-use Rattle.arranged.specs.Program.{program-law}
+use Rattle.table_laws.specs.Streamed.Parts.{tryRows, Catches, any-try}
+use Rattle.simulation.specs.Rewritten.Standing.{n-is}
+use Rattle.simulation.specs.Rewritten.Replaced.{withFree}
+use Rattle.simulation.specs.Rewritten.Sides.{forOfActF, for-of-act-law}
+use Rattle.simulation.specs.Rewritten.ForOf.{insert-law, wrap-law}
+use Rattle.simulation.specs.Tried.Passing.{newScopes, newSymbols}
+use Rattle.simulation.specs.Tried.Children.{children-law}
+use Rattle.simulation.specs.Tried.Try.{try-plan, try-law}
+use Rattle.scoping_laws.specs.Itemized.Items.{itemsRows, itemsSymbols}
+use Rattle.scoping_laws.specs.Itemized.Program.{items-store}
+use Rattle.simulation.specs.Arranged.Scopes.{items-same}
+use Rattle.simulation.specs.Arranged.Program.{program-law}
 use Rattle.walk.specs.Visit.{planNextF, rewriteProgramF, rewriteTryF, rewriteForOfF}
 use Rattle.simulation.specs.Rewrite.{Takes, By, done-by, kept-by, counts-some, and-false, line-takes}
 use Rattle.simulation.specs.Lists.{in-list}

@@ -14,14 +14,14 @@ use Rattle.meaning.specs.Statements.{anyUsing}
 use Rattle.meaning.specs.Charges.{Kind, Line, contextCharge, lineCharge, total, wraps, contextLines}
 use Rattle.meaning.specs.VisitCharges.{isContext, anyContext}
 use Rattle.meaning.specs.Walk.{Crumb, Spot, at, Act, enterAs, currentScope, hoistScope}
-use Rattle.growth.specs.Rows.{missing, oneIf}
-use Rattle.growth.specs.Charged.{PaysFor}
-use Rattle.store.specs.Agreed.{Agreed}
+use Rattle.charge_laws.specs.Growth.Rows.{missing, oneIf}
+use Rattle.charge_laws.specs.Growth.Charged.{PaysFor}
+use Rattle.representation.specs.Store.Agreed.{Agreed}
 use Rattle.path.specs.Path.{Tables}
-use Rattle.spots.specs.Spots.{visitedAt, restAt, Rest, held}
-use Rattle.created.specs.Held.{freeScopes, freeSymbols, Room}
-use Rattle.rewritten.specs.Replaced.{withFree, rewritten}
-use Rattle.tried.specs.Passing.{newScopes, newSymbols}
+use Rattle.representation.specs.Spots.Spots.{visitedAt, restAt, Rest, held}
+use Rattle.scoping_laws.specs.Created.Held.{freeScopes, freeSymbols, Room}
+use Rattle.simulation.specs.Rewritten.Replaced.{withFree, rewritten}
+use Rattle.simulation.specs.Tried.Passing.{newScopes, newSymbols}
 
 -- how many records are added
 abbrev pub newRecords : Forest → Forest → ℕ

@@ -8,9 +8,9 @@ use lib.ListN.{length, length-append}
 use Rattle.meaning.specs.Tree.{Head, Forest, more, one, count, size, _&_}
 use Rattle.meaning.specs.Scoping.{Store}
 use Rattle.meaning.specs.Walk.{Crumb, crumb, Spot, at, leaving, over, settle, plug, treeAt}
-use Rattle.gap.specs.Cells.{length-rows, size-&}
-use Rattle.spots.specs.Spots.{openRowsOf, afterRowsOf, visitedAt, restAt}
-use Rattle.spots.specs.Lengths.{inner-length, after-length, visited-at, rest-at, visited-leaving, visited-settled, rest-settled}
+use Rattle.representation.specs.Gap.Cells.{length-rows, size-&}
+use Rattle.representation.specs.Spots.Spots.{openRowsOf, afterRowsOf, visitedAt, restAt}
+use Rattle.representation.specs.Spots.Lengths.{inner-length, after-length, visited-at, rest-at, visited-leaving, visited-settled, rest-settled}
 
 -- the records at the end of a path, and what stands around them
 plug-size : (path : List Crumb) (f : Forest) (n l : ℕ)

@@ -12,11 +12,11 @@ use Rattle.meaning.specs.Reading.{accepted}
 use Rattle.meaning.specs.Walk.{storeOf, start, visits, plug, treeAt, storeAt}
 use Rattle.meaning.specs.Charges.{finalFigures}
 use Rattle.meaning.specs.Lowering.{admit}
-use Rattle.fit.specs.Final.{never-above}
+use Rattle.charge_laws.specs.Fit.Final.{never-above}
 use Rattle.tables.specs.Loops.{turns}
-use Rattle.spots.specs.Spots.{Rest, held}
-use Rattle.spots.specs.Lengths.{store-settled}
-use Rattle.created.specs.Held.{freeScopes, freeSymbols}
+use Rattle.representation.specs.Spots.Spots.{Rest, held}
+use Rattle.representation.specs.Spots.Lengths.{store-settled}
+use Rattle.scoping_laws.specs.Created.Held.{freeScopes, freeSymbols}
 use Rattle.start.specs.Start.{lentIn, freeRows, zerosBehind}
 use Rattle.start.specs.Filled.{admitted}
 use Rattle.walk.specs.Visit.{visitF}

@@ -31,25 +31,25 @@ use Rattle.meaning.specs.Walk.{
   treeAt,
   storeAt,
 }
-use Rattle.growth.specs.Contexts.{static-pays}
-use Rattle.growth.specs.Charged.{counts}
-use Rattle.growth.specs.Enter.{entered}
-use Rattle.counts.specs.Visits.{&-assoc}
-use Rattle.counts.specs.Enter.{Fit, proper}
-use Rattle.counts.specs.Pending.{Pending}
-use Rattle.store.specs.Agreed.{Agreed}
+use Rattle.charge_laws.specs.Growth.Contexts.{static-pays}
+use Rattle.charge_laws.specs.Growth.Charged.{counts}
+use Rattle.charge_laws.specs.Growth.Enter.{entered}
+use Rattle.charge_laws.specs.Counts.Visits.{&-assoc}
+use Rattle.charge_laws.specs.Counts.Enter.{Fit, proper}
+use Rattle.charge_laws.specs.Counts.Pending.{Pending}
+use Rattle.representation.specs.Store.Agreed.{Agreed}
 use Rattle.path.specs.Path.{tables, onRecords, enterF}
-use Rattle.gap.specs.Cells.{free, rowsOf}
-use Rattle.spots.specs.Spots.{openRowsOf, opensAt, visitedAt, restAt, Rest, walkAt, held}
-use Rattle.spots.specs.Scopes.{some-open, inner-left}
-use Rattle.spots.specs.Lengths.{visited-at, rest-at, store-settled}
-use Rattle.spots.specs.Enter.{enter-law}
-use Rattle.created.specs.Held.{freeScopes, freeSymbols, Room}
-use Rattle.streamed.specs.Parts.{Catches}
-use Rattle.rewritten.specs.Replaced.{withFree}
-use Rattle.tried.specs.Passing.{newScopes, newSymbols}
-use Rattle.leaving.specs.Block.{recordsFor, scopesFor, symbolsFor, leaveBy}
-use Rattle.leaving.specs.Leaving.{leave-visit-law, leave-kept}
+use Rattle.representation.specs.Gap.Cells.{free, rowsOf}
+use Rattle.representation.specs.Spots.Spots.{openRowsOf, opensAt, visitedAt, restAt, Rest, walkAt, held}
+use Rattle.representation.specs.Spots.Scopes.{some-open, inner-left}
+use Rattle.representation.specs.Spots.Lengths.{visited-at, rest-at, store-settled}
+use Rattle.representation.specs.Spots.Enter.{enter-law}
+use Rattle.scoping_laws.specs.Created.Held.{freeScopes, freeSymbols, Room}
+use Rattle.table_laws.specs.Streamed.Parts.{Catches}
+use Rattle.simulation.specs.Rewritten.Replaced.{withFree}
+use Rattle.simulation.specs.Tried.Passing.{newScopes, newSymbols}
+use Rattle.simulation.specs.Leaving.Block.{recordsFor, scopesFor, symbolsFor, leaveBy}
+use Rattle.simulation.specs.Leaving.Leaving.{leave-visit-law, leave-kept}
 use Rattle.walk.specs.Visit.{isLeavingF, visitF}
 use Rattle.simulation.specs.Rows.{rows-size, settled-size, plug-other}
 use Rattle.simulation.specs.Rewrite.{newRecords, Takes, list-takes}

@@ -37,21 +37,21 @@ use Rattle.meaning.specs.Charges.{
   finalFigures,
 }
 use Rattle.meaning.specs.VisitCharges.{visitCharges}
-use Rattle.totals.specs.Fits.{accepted-fits}
-use Rattle.counts.specs.Figures.{joined}
-use Rattle.counts.specs.Pending.{Pending, spot-fits}
-use Rattle.fit.specs.Accepted.{accepted-fit, accepted-after}
-use Rattle.fit.specs.Final.{never-above}
+use Rattle.charge_laws.specs.Totals.Fits.{accepted-fits}
+use Rattle.charge_laws.specs.Counts.Figures.{joined}
+use Rattle.charge_laws.specs.Counts.Pending.{Pending, spot-fits}
+use Rattle.charge_laws.specs.Fit.Accepted.{accepted-fit, accepted-after}
+use Rattle.charge_laws.specs.Fit.Final.{never-above}
 use Rattle.tables.specs.Loops.{turns}
-use Rattle.gap.specs.Rows.{turns-last}
-use Rattle.store.specs.Held.{Agrees}
-use Rattle.store.specs.Agreed.{Agreed}
+use Rattle.representation.specs.Gap.Rows.{turns-last}
+use Rattle.representation.specs.Store.Held.{Agrees}
+use Rattle.representation.specs.Store.Agreed.{Agreed}
 use Rattle.path.specs.Path.{Tables}
-use Rattle.spots.specs.Spots.{Rest, held}
-use Rattle.spots.specs.Lengths.{store-settled}
-use Rattle.created.specs.Held.{Room}
-use Rattle.rewritten.specs.Replaced.{withFree}
-use Rattle.tried.specs.Passing.{newScopes, newSymbols, scopes-more, symbols-more}
+use Rattle.representation.specs.Spots.Spots.{Rest, held}
+use Rattle.representation.specs.Spots.Lengths.{store-settled}
+use Rattle.scoping_laws.specs.Created.Held.{Room}
+use Rattle.simulation.specs.Rewritten.Replaced.{withFree}
+use Rattle.simulation.specs.Tried.Passing.{newScopes, newSymbols, scopes-more, symbols-more}
 use Rattle.walk.specs.Visit.{visitF}
 use Rattle.simulation.specs.Rewrite.{newRecords}
 use Rattle.simulation.specs.Visit.{visit-grows, visit-kept, visit-law}

@@ -19,13 +19,13 @@ use Rattle.meaning.specs.Lowering.{Lent, checkMode, checkRows, checkFile, admit
 use Rattle.parsing.specs.Outcomes.{Holds, bind, bind-any}
 use Rattle.parsing.specs.Parsed.{ParsedFile}
 use Rattle.parsing.specs.Files.{file-parsed}
-use Rattle.totals.specs.Fits.{accepted-fits}
+use Rattle.charge_laws.specs.Totals.Fits.{accepted-fits}
 use Rattle.path.specs.declared.Walk.{Walk}
 use Rattle.path.specs.Path.{Tables, tables}
 use Rattle.tables.specs.declared.Row.{Row}
-use Rattle.gap.specs.Cells.{table, free, rowsOf, length-rows}
-use Rattle.store.specs.Held.{scopeCells, symbolCells, ctxOf}
-use Rattle.spots.specs.Spots.{Rest, openRowsOf, afterRowsOf, opensAt, visitedAt, restAt, walkAt, held}
+use Rattle.representation.specs.Gap.Cells.{table, free, rowsOf, length-rows}
+use Rattle.representation.specs.Store.Held.{scopeCells, symbolCells, ctxOf}
+use Rattle.representation.specs.Spots.Spots.{Rest, openRowsOf, afterRowsOf, opensAt, visitedAt, restAt, walkAt, held}
 use Rattle.start.specs.Start.{lentIn, freeRows, zerosBehind}
 use Rattle.start.specs.Flat.{layoutOf, layoutF, countF, walkF, fillF}
 use Rattle.start.specs.Rows.{scopes-are, symbols-are}

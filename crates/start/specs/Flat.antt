@@ -16,7 +16,7 @@ use Rattle.figures.specs.declared.Figured.the-variants.{Fine, Refused as Refuse
 use Rattle.tables.specs.Loops.{turns, until}
 use Rattle.tables.specs.Table.{setRowF}
 use Rattle.tables.specs.declared.Row.{Row}
-use Rattle.gap.specs.Cells.{line}
+use Rattle.representation.specs.Gap.Cells.{line}
 use Rattle.path.specs.declared.Walk.{Walk}
 use Rattle.path.specs.Path.{Tables, tables}
 use Rattle.start.specs.Start.{Begun, begun, ready}

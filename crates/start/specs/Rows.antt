@@ -10,7 +10,7 @@ use lib.Seq.{set-at}
 use Rattle.meaning.specs.Grammar.{two, parentIn}
 use Rattle.meaning.specs.Reading.{scopesIn, symbolsIn}
 use Rattle.tables.specs.Loops.{turns}
-use Rattle.store.specs.Held.{scopeCells, symbolCells}
+use Rattle.representation.specs.Store.Held.{scopeCells, symbolCells}
 use Rattle.start.specs.Flat.{cleared, storing, scopeIntoF, nextScope, scopesF, symbolIntoF, nextSymbol, symbolsF}
 
 -- ---- cleared rows

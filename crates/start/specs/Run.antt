@@ -14,8 +14,8 @@ use Rattle.meaning.specs.declared.Place.{Place}
 use Rattle.tables.specs.Loops.{turns, until, stopped}
 use Rattle.tables.specs.Table.{setRowF}
 use Rattle.tables.specs.declared.Row.{Row}
-use Rattle.gap.specs.Cells.{table, zeros, free, line, rowsOf, length-free}
-use Rattle.gap.specs.Rows.{set-row, length-snoc}
+use Rattle.representation.specs.Gap.Cells.{table, zeros, free, line, rowsOf, length-free}
+use Rattle.representation.specs.Gap.Rows.{set-row, length-snoc}
 use Rattle.parsing.specs.Parsed.{RecordAt, Parsed, parsed-none, parsed-more}
 use Rattle.start.specs.Flat.{cleared, recordF, Counting, counting, counted, countOne, countF, filling, nextRecord, recordsF}
 use Rattle.start.specs.Rows.{blank, cleared-is}

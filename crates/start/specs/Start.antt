@@ -10,7 +10,7 @@ use Rattle.meaning.specs.Walk.{start}
 use Rattle.meaning.specs.Charges.{Figures, finalFigures}
 use Rattle.meaning.specs.Lowering.{Lent, admit}
 use Rattle.path.specs.Path.{Tables}
-use Rattle.spots.specs.Spots.{Rest, held}
+use Rattle.representation.specs.Spots.Spots.{Rest, held}
 use Rattle.start.specs.declared.Started.{Started}
 use Rattle.start.specs.declared.Started.the-variants.{Ready, Refused}
 

@@ -11,7 +11,7 @@ use borrow.Author.Tests.{not-true, ne-eqb, leb-true}
 use Rattle.meaning.specs.Tree.{oneOf, Head}
 use Rattle.meaning.specs.File.{fieldBytes}
 use Rattle.meaning.specs.Statements.{isUsing}
-use Rattle.tags.specs.Tags.{and-left, and-right, or-none}
+use Rattle.spec_laws.specs.Tags.{and-left, and-right, or-none}
 use Rattle.tallies.specs.Tally.{upIndex, takesUp, takesUpCases, getsContext, isExport, itemsKept, own, isSilent, silent}
 use Rattle.tallies.specs.declared.Tally.{Tally}
 use Rattle.tallies.specs.declared.Up.{Up}

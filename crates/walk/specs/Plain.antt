@@ -8,7 +8,7 @@ use native.Mathlib.Omega.{arith}
 use borrow.Author.Tests.{not-true, ltb-true, ltb-false, lt-leb, le-leb, ne-eqb}
 use lib.Dec.{eqb, ltb}
 use Rattle.meaning.specs.Tree.{if_then_else_, oneOf}
-use Rattle.tags.specs.Tags.{and-left, and-right, or-none}
+use Rattle.spec_laws.specs.Tags.{and-left, and-right, or-none}
 use Rattle.tables.specs.Table.{columnF}
 use Rattle.tables.specs.Loops.{until}
 use Rattle.path.specs.Path.{Tables, tables, onRecords, enterF}

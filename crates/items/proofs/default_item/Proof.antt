@@ -1,6 +1,6 @@
 -- `items::default_item` meets its contract. Assumes nothing.
 use mathlib.Core.List.{[], _∷_}
-use Rattle.tags.specs.Match.{other}
+use Rattle.spec_laws.specs.Match.{other}
 use Rattle.items.specs.Kinds.{defaultItemF}
 use borrow.Author.Tests.{eq-eqb, ne-eqb}
 use borrow.Author.Needs.{needs}

@@ -1,6 +1,6 @@
 -- `items::exported_item` meets its contract. Assumes nothing.
 use mathlib.Core.List.{[], _∷_}
-use Rattle.tags.specs.Match.{other}
+use Rattle.spec_laws.specs.Match.{other}
 use Rattle.items.specs.Kinds.{exportedItemF}
 use borrow.Author.Tests.{eq-eqb, ne-eqb}
 use Rattle.items.proofs.exported_item.Statement.{statement}

@@ -1,6 +1,6 @@
 -- `items::item_after` meets its contract. Assumes nothing.
 use mathlib.Core.List.{[], _∷_}
-use Rattle.tags.specs.Match.{other}
+use Rattle.spec_laws.specs.Match.{other}
 use Rattle.items.specs.Kinds.{itemF}
 use borrow.Author.Needs.{needs}
 use Rattle.items.proofs.item_after.Statement.{statement}

@@ -1,7 +1,7 @@
 -- `path::is_hoist` meets its contract. Assumes nothing.
 use mathlib.Core.List.{[], _∷_}
 use Rattle.path.specs.Path.{isHoistF}
-use Rattle.tags.specs.Match.{other}
+use Rattle.spec_laws.specs.Match.{other}
 use borrow.Author.Tests.{eq-eqb, ne-eqb}
 use borrow.Author.Needs.{needs}
 use Rattle.path.proofs.is_hoist.Statement.{statement}

@@ -2,7 +2,7 @@
 use mathlib.Core.List.{List, [], _∷_}
 use Prim.Native.Nat.{ℕ}
 use Rattle.meaning.specs.Grammar.{scopeOf}
-use Rattle.tags.specs.Match.{other}
+use Rattle.spec_laws.specs.Match.{other}
 use Rattle.path.proofs.scope_of.Statement.{statement}
 use Rattle.path.proofs.scope_of.Tie as tie
 

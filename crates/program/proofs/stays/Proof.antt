@@ -1,6 +1,6 @@
 -- `program::stays` meets its contract. Assumes nothing.
 use mathlib.Core.List.{[], _∷_}
-use Rattle.tags.specs.Match.{other}
+use Rattle.spec_laws.specs.Match.{other}
 use Rattle.program.proofs.stays.Statement.{statement}
 use Rattle.program.proofs.stays.Tie as tie
 

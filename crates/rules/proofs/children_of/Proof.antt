@@ -10,7 +10,7 @@ use mir.Facts.{and-yes}
 use borrow.Author.Tests.{le-leb, lt-leb, eqb-false}
 use Rattle.meaning.specs.File.{numbersOf, hasChildren, ownNumbers}
 use Rattle.meaning.specs.Grammar.{childrenOf}
-use Rattle.tags.specs.Match.{other}
+use Rattle.spec_laws.specs.Match.{other}
 use Rattle.rules.proofs.children_of.Statement.{statement}
 use Rattle.rules.proofs.children_of.Tie as tie
 

@@ -3,7 +3,7 @@ use mathlib.Core.List.{List, [], _∷_}
 use Prim.Native.Nat.{ℕ}
 use borrow.Author.Needs.{needs}
 use Rattle.meaning.specs.Grammar.{right, declarationRight, declaratorRight, tryRight, functionRight, classRight}
-use Rattle.tags.specs.Match.{other}
+use Rattle.spec_laws.specs.Match.{other}
 use Rattle.rules.proofs.is_right.Statement.{statement}
 use Rattle.rules.proofs.is_right.Tie as tie
 

@@ -3,7 +3,7 @@ use mathlib.Core.List.{List, [], _∷_}
 use Prim.Native.Nat.{ℕ}
 use Rattle.meaning.specs.File.{numbersOf, hasChildren, ownNumbers}
 use Rattle.meaning.specs.Grammar.{headOf, scopeOf}
-use Rattle.tags.specs.Match.{other}
+use Rattle.spec_laws.specs.Match.{other}
 use Rattle.rules.proofs.scope_in.Statement.{statement}
 use Rattle.rules.proofs.scope_in.Tie as tie
 

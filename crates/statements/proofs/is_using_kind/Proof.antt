@@ -1,6 +1,6 @@
 -- `statements::is_using_kind` meets its contract. Assumes nothing.
 use mathlib.Core.List.{[], _∷_}
-use Rattle.tags.specs.Match.{other}
+use Rattle.spec_laws.specs.Match.{other}
 use Rattle.statements.proofs.is_using_kind.Statement.{statement}
 use Rattle.statements.proofs.is_using_kind.Tie as tie
 

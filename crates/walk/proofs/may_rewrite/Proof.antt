@@ -1,6 +1,6 @@
 -- `walk::may_rewrite` meets its contract. Assumes nothing.
 use mathlib.Core.List.{[], _∷_}
-use Rattle.tags.specs.Match.{other}
+use Rattle.spec_laws.specs.Match.{other}
 use Rattle.walk.proofs.may_rewrite.Statement.{statement}
 use Rattle.walk.proofs.may_rewrite.Tie as tie
 

@@ -1,6 +1,6 @@
 -- `walk::rewrite` meets its contract. Assumes nothing.
 use mathlib.Core.List.{[], _∷_}
-use Rattle.tags.specs.Match.{other}
+use Rattle.spec_laws.specs.Match.{other}
 use Rattle.walk.specs.Visit.{rewriteF}
 use borrow.Author.Needs.{needs}
 use Rattle.walk.proofs.rewrite.Statement.{statement}

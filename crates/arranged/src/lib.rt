@@ -1,1 +1,0 @@
-// The rewrite of a Program on tables is 01's. No code.

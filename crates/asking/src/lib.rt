@@ -1,1 +1,0 @@
-// The hints that an accepted source asks for: no code.

@@ -1,0 +1,337 @@
+-- The rewrites of ForOf and of Program weigh no more than what they rewrite.
+-- Assumes nothing.
+use mathlib.Core.Path.{_≡_, refl}
+use mathlib.Core.Bool.{Bool, true, false, not, _&&_}
+use mathlib.Core.List.{List, [], _∷_, _++_}
+use Prim.Native.Nat.{ℕ, _+_, _*_, _≤_}
+use native.Mathlib.Omega.{arith}
+use lib.Dec.{eqb}
+use borrow.Author.Tests.{eqb-true}
+use Rattle.meaning.specs.Tree.{if_then_else_, Head, hd, Forest, none, more, one, _&_}
+use Rattle.meaning.specs.Shapes.{declaration, read}
+use Rattle.meaning.specs.Scoping.{Store, Change, return, symbolIn, generateUid, setFlagsOf, insertScopeBelow}
+use Rattle.meaning.specs.Statements.{isUsing, anyUsing}
+use Rattle.meaning.specs.Contexts.{namesIn}
+use Rattle.meaning.specs.ForOf.{bindsIdentifier, boundSymbol, rebind, insertUsing, wrapBody, enterForOfStatement}
+use Rattle.meaning.specs.Program.{
+  preserveClassExpressionName,
+  transformClassDecl,
+  Split,
+  split,
+  boundNames,
+  specifiers,
+  topLevelDeclaration,
+  exportedDeclaration,
+  exportedClass,
+  exportedItem,
+  defaultClass,
+  asExpression,
+  defaultValue,
+  keepsDefault,
+  defaultItem,
+  programItem,
+  programItems,
+  enterProgram,
+}
+use Rattle.spec_laws.specs.Tags.{Seen, other, here, there, seen, clash, and-left}
+use Rattle.charge_laws.specs.Growth.Rows.{Grown, both, scope-below, symbol-made, symbol-flags, binding-moved, flags-of}
+use Rattle.charge_laws.specs.Growth.Trees.{using-tag}
+use Rattle.bound_laws.specs.Rows.{given, Kind, perRecord, perScope, perSymbol, rows, rows-most}
+use Rattle.bound_laws.specs.Weights.{
+  Role,
+  plain,
+  item,
+  first,
+  exported,
+  declarator,
+  name,
+  held,
+  next,
+  inDeclaration,
+  inDeclarator,
+  below,
+  context,
+  extra,
+  own,
+  weigh,
+  weight,
+  least,
+  lighter,
+  plain-&,
+  item-&,
+  given-or,
+}
+use Rattle.bound_laws.specs.Contexts.{Within}
+
+-- ---- a ForOf's using
+
+-- the new using, which may be none
+new-using : (K : Kind) (u : Bool) (e : Forest)
+    → own K plain 5 u + weigh K (inDeclaration plain u) (one (hd 6 0 1 0) e) ≤ 3 * perRecord K + context K + weigh K plain e
+unfolding own extra weigh next below inDeclaration inDeclarator isUsing
+new-using K true e = omega arith
+new-using K false e = omega arith
+
+using-weighs : (K : Kind) (kind y temp : ℕ) (f : Forest)
+    → weigh K plain (declaration kind y (read temp) & f) ≤ 5 * perRecord K + context K + weigh K plain f
+unfolding own extra weigh next below inDeclaration isUsing _&_
+using-weighs K kind y temp f = omega (arith, new-using K (isUsing (hd 5 kind 0 0)) (more (hd 26 y 0 0) none (read temp)))
+
+-- the Declarator's Name
+renamed : (K : Kind) (y : ℕ) (h : Head) (k r : Forest) → weigh K plain (more (hd 26 y 0 0) k r) ≤ weigh K plain (more h k r)
+unfolding own extra weigh next below isUsing
+renamed K y h k r = omega (arith, lighter K k {r = below plain (h .tag) (isUsing h)} least)
+
+declarator-lighter : (K : Kind) (h : Head) (k k′ r : Forest) → (eqb (h .tag) 6 && eqb (h .a) 0) ≡ true → weigh K plain k′ ≤ weigh K plain k
+    → weigh K plain (more h k′ r) + perRecord K ≤ weigh K held (more h k r)
+unfolding own extra weigh next below inDeclarator
+declarator-lighter K h k k′ r e l =
+    rw (eqb-true (h .tag) 6 (and-left (eqb (h .tag) 6) (eqb (h .a) 0) e)) (omega (arith, lighter K r {r = held} least))
+
+rebound : (K : Kind) (y : ℕ) (k : Forest) → bindsIdentifier k ≡ true → weigh K plain (rebind y k) + perRecord K ≤ weigh K held k
+unfolding rebind bindsIdentifier
+rebound K y none e = absurd (clash refl e)
+rebound K y (more h none r) e = declarator-lighter K h none none r e (omega arith)
+rebound K y (more h (more h₁ k₁ r₁) r) e = declarator-lighter K h (more h₁ k₁ r₁) (more (hd 26 y 0 0) k₁ r₁) r e (renamed K y h₁ k₁ r₁)
+
+-- the body gets the using, or is wrapped with it
+abbrev BodyWithin : Kind → Forest → Store → Forest × Store → Type 0
+BodyWithin K f st e =
+    rows K (e .1) + weigh K plain (e .0) ≤ rows K st + weigh K plain f + 6 * perRecord K + context K + perScope K
+
+inserted : (K : Kind) (y kind temp : ℕ) (h : Head) (k : Forest) (st : Store) → eqb (h .tag) 2 ≡ true
+    → BodyWithin K (one h k) st (insertUsing y (declaration kind y (read temp)) h k st)
+unfolding insertUsing weigh next below
+inserted K y kind temp h k st e =
+    rw (eqb-true (h .tag) 2 e) (omega (arith, using-weighs K kind y temp k, rows-most K (binding-moved y (h .a) st)))
+
+wrapped : (K : Kind) (y kind temp scope : ℕ) (f : Forest) (st : Store)
+    → BodyWithin K f st (wrapBody y (declaration kind y (read temp)) scope f st)
+unfolding wrapBody weigh next own extra below isUsing
+wrapped K y kind temp scope f st =
+    let s = insertScopeBelow scope f st in
+    omega (arith, using-weighs K kind y temp f, rows-most K (both (scope-below scope f st) (binding-moved y (s .0) (s .1))))
+
+for-of-body : (K : Kind) (wraps : Bool) (y kind temp scope : ℕ) (h : Head) (k : Forest) (st : Store) → (wraps ≡ false → eqb (h .tag) 2 ≡ true)
+    → BodyWithin K (one h k) st
+    ((if wraps then wrapBody y (declaration kind y (read temp)) scope (one h k) else insertUsing y (declaration kind y (read temp)) h k) st)
+for-of-body K true y kind temp scope h k st e = wrapped K y kind temp scope (one h k) st
+for-of-body K false y kind temp scope h k st e = inserted K y kind temp h k st (e refl)
+
+-- the left side becomes const
+left-lighter : (K : Kind) (y : ℕ) (h : Head) (k : Forest) → isUsing h ≡ true → bindsIdentifier k ≡ true
+    → weight K first (hd 5 2 0 0) (rebind y k) + (6 * perRecord K + context K + perScope K + perSymbol K) ≤ weight K first h k
+unfolding own extra below inDeclaration isUsing
+left-lighter K y h k e n = rw (e, using-tag h e) (omega (arith, rebound K y k n))
+
+for-of-role : (t : ℕ) (r : Role) (u : Bool) → eqb t 8 ≡ true → below r t u ≡ first
+unfolding below
+for-of-role t r u e = rw (eqb-true t 8 e)
+
+module _ (K : Kind) (r : Role) (wraps : Bool) (h h₁ : Head) (k₁ : Forest) (h₂ : Head) (k₂ : Forest) (h₃ : Head) (k₃ f : Forest) (st : Store) where
+  pub for-of-within : eqb (h .tag) 8 ≡ true → isUsing h₁ ≡ true → bindsIdentifier k₁ ≡ true → (wraps ≡ false → eqb (h₃ .tag) 2 ≡ true)
+      → Within K r h (more h₁ k₁ (more h₂ k₂ (more h₃ k₃ f))) st (enterForOfStatement wraps h (more h₁ k₁ (more h₂ k₂ (more h₃ k₃ f))) st)
+  unfolding enterForOfStatement weigh next
+  for-of-within e u b w =
+      let y = boundSymbol k₁ in
+      let t = generateUid (symbolIn st y .name) (h .a) 6 st in
+      let held = declaration (h₁ .a) y (read (t .0)) in
+      let body : Change Forest = if wraps then wrapBody y held (h .a) (one h₃ k₃) else insertUsing y held h₃ k₃ in
+      rw (for-of-role (h .tag) r (isUsing h) e)
+      (omega (
+        arith,
+        left-lighter K (t .0) h₁ k₁ u b,
+        for-of-body K wraps y (h₁ .a) (t .0) (h .a) h₃ k₃ (t .1) w,
+        plain-& K ((body (t .1)) .0) f,
+        rows-most K (symbol-made (symbolIn st y .name) 6 (h .a) 1 st),
+      ))
+
+-- ---- Program's items
+
+-- an item's parts weigh no more, with the rows; a using frees Program's Block
+abbrev SplitWithin : Kind → Bool → ℕ → Store → Split × Store → Type 0
+SplitWithin K u n st e =
+    rows K (e .1) + weigh K item (e .0 .kept) + weigh K plain (e .0 .moved) + given u (perRecord K + perScope K) ≤ rows K st + n
+
+class-weighs : (K : Kind) (h : Head) (k : Forest) (st : Store)
+    → weigh K plain ((transformClassDecl h k st) .0) ≡ 4 * perRecord K + weigh K plain k
+unfolding transformClassDecl weigh next own extra below inDeclaration inDeclarator isUsing
+class-weighs K h k st = omega arith
+
+class-added : (h : Head) (k : Forest) (st : Store) → Grown false 0 1 0 st ((transformClassDecl h k st) .1)
+unfolding transformClassDecl preserveClassExpressionName
+class-added h k st = both (symbol-made _ 8 (h .b) _ st) (symbol-flags (h .c) 1 _)
+
+-- a direct Declaration becomes var
+moved-lighter : (K : Kind) (v : Bool) (k : Forest) → own K plain 5 v + weigh K (inDeclaration plain v) k ≤ perRecord K + context K + weigh K held k
+unfolding own extra inDeclaration
+moved-lighter K true k = omega arith
+moved-lighter K false k = omega (arith, lighter K k {r = held} least)
+
+var-head : isUsing (hd 5 0 0 0) ≡ false
+unfolding isUsing
+var-head = refl
+
+declaration-within : (K : Kind) (u : Bool) (h : Head) (k : Forest) (st : Store) → isUsing h ≡ u
+    → SplitWithin K u (own K item 5 u + weigh K (inDeclaration item u) k) st (topLevelDeclaration h k st)
+unfolding topLevelDeclaration weigh next own extra below inDeclaration
+declaration-within K true h k st e =
+    rw e (omega (arith, moved-lighter K (isUsing (hd 5 0 (h .a) 0)) k, rows-most K (flags-of (boundNames k) 1 st)))
+declaration-within K false h k st e = rw (e, var-head) (omega (arith, rows-most K (flags-of (boundNames k) 1 st)))
+
+-- ---- 19
+
+specifiers-++ : (K : Kind) (st : Store) (xs ys : List ℕ)
+    → weigh K plain (specifiers st (xs ++ ys)) ≡ weigh K plain (specifiers st xs) + weigh K plain (specifiers st ys)
+unfolding specifiers weigh next
+specifiers-++ K st [] ys = omega arith
+specifiers-++ K st (x ∷ xs) ys = omega (arith, specifiers-++ K st xs ys)
+
+specifier-weighs : (K : Kind) (b : Bool) (st : Store) (y : ℕ) (ys : List ℕ)
+    → weigh K plain (specifiers st (if b then y ∷ ys else ys)) ≡ given b (perRecord K) + weigh K plain (specifiers st ys)
+unfolding specifiers weigh next own extra below isUsing
+specifier-weighs K true st y ys = omega arith
+specifier-weighs K false st y ys = omega arith
+
+-- a Specifier for each Name
+names-specified : (K : Kind) (st : Store) (f : Forest) → weigh K plain f + weigh K plain (specifiers st (namesIn f)) ≤ weigh K name f
+unfolding namesIn specifiers weigh next own extra below inDeclaration inDeclarator
+names-specified K st none = omega arith
+names-specified K st (more h k r) =
+    omega (arith, specifier-weighs K (eqb (h .tag) 26) st (h .a) (namesIn r), names-specified K st r)
+
+declarator-specified : (K : Kind) (b : Bool) (t : ℕ) (u : Bool) (st : Store) (k : Forest) → eqb t 6 ≡ b
+    → own K plain t u + weigh K (below plain t u) k + weigh K plain (specifiers st (if b then namesIn k else []))
+    ≤ own K declarator t u + weigh K (below declarator t u) k
+unfolding specifiers weigh next own extra below inDeclaration inDeclarator
+declarator-specified K true t u st k e = rw (eqb-true t 6 e) (omega (arith, names-specified K st k))
+declarator-specified K false t u st k e = rw e (omega arith)
+
+declaration-specified : (K : Kind) (st : Store) (f : Forest) → weigh K plain f + weigh K plain (specifiers st (boundNames f)) ≤ weigh K declarator f
+unfolding boundNames weigh next specifiers
+declaration-specified K st none = omega arith
+declaration-specified K st (more h k r) =
+    omega (
+      arith,
+      specifiers-++ K st (if eqb (h .tag) 6 then namesIn k else []) (boundNames r),
+      declarator-specified K (eqb (h .tag) 6) (h .tag) (isUsing h) st k refl,
+      declaration-specified K st r,
+    )
+
+exported-weighs : (K : Kind) (t : ℕ) (u : Bool) (k : Forest) → eqb t 15 ≡ true
+    → 5 * perRecord K + perSymbol K + weigh K plain k ≤ own K exported t u + weigh K (below exported t u) k
+unfolding own extra below
+exported-weighs K t u k e = rw (eqb-true t 15 e) (omega arith)
+
+export-if : (K : Kind) (b c : Bool) (h h₁ : Head) (k r : Forest) (st : Store) → h .tag ≡ 19 → eqb (h₁ .tag) 15 ≡ b → eqb (h₁ .tag) 5 ≡ c
+    → SplitWithin K false (weight K item h (more h₁ k r)) st
+    ((if b then exportedClass h₁ k else if c then exportedDeclaration k else return (split (one h (more h₁ k r)) none)) st)
+unfolding exportedClass exportedDeclaration weigh next own extra below inDeclaration isUsing
+export-if K true c h h₁ k r st e e₁₅ e₅ =
+    rw e
+    (omega (
+      arith,
+      exported-weighs K (h₁ .tag) (isUsing h₁) k e₁₅,
+      class-weighs K h₁ k st,
+      rows-most K (class-added h₁ k st),
+    ))
+export-if K false true h h₁ k r st e e₁₅ e₅ =
+    let s = setFlagsOf (boundNames k) 1 st in
+    rw (e, eqb-true (h₁ .tag) 5 e₅) (omega (arith, declaration-specified K (s .1) k, rows-most K (flags-of (boundNames k) 1 st)))
+export-if K false false h h₁ k r st e e₁₅ e₅ = omega arith
+
+export-within : (K : Kind) (h : Head) (k : Forest) (st : Store) → h .tag ≡ 19
+    → SplitWithin K false (weight K item h k) st (exportedItem h k st)
+unfolding exportedItem weigh next
+export-within K h none st e = omega arith
+export-within K h (more h₁ k₁ r₁) st e = export-if K (eqb (h₁ .tag) 15) (eqb (h₁ .tag) 5) h h₁ k₁ r₁ st e refl refl
+
+-- ---- 18
+
+expression-lighter : (K : Kind) (b : Bool) (h : Head) (k : Forest)
+    → weigh K plain (one (if b then hd 15 1 (h .b) (h .c) else h) k) ≤ weigh K plain (one h k)
+unfolding weigh next own extra below isUsing
+expression-lighter K true h k = omega (arith, lighter K k {r = below plain (h .tag) (isUsing h)} least)
+expression-lighter K false h k = omega arith
+
+default-if : (K : Kind) (b c : Bool) (h h₁ : Head) (k r : Forest) (st : Store) → h .tag ≡ 18
+    → SplitWithin K false (weight K item h (more h₁ k r)) st
+    ((if b then return (split (one h (more h₁ k r)) none) else if c then defaultClass h₁ k else defaultValue h₁ k) st)
+unfolding defaultClass defaultValue asExpression weigh next own extra below inDeclaration inDeclarator isUsing
+default-if K true c h h₁ k r st e = omega arith
+default-if K false true h h₁ k r st e =
+    rw e
+    (omega (
+      arith,
+      class-weighs K h₁ k st,
+      rows-most K (class-added h₁ k st),
+      lighter K k {r = below plain (h₁ .tag) (isUsing h₁)} least,
+    ))
+default-if K false false h h₁ k r st e =
+    rw e (omega (arith, expression-lighter K (eqb (h₁ .tag) 15) h₁ k, rows-most K (symbol-made 4 1 1 0 st)))
+
+default-within : (K : Kind) (h : Head) (k : Forest) (st : Store) → h .tag ≡ 18
+    → SplitWithin K false (weight K item h k) st (defaultItem h k st)
+unfolding defaultItem weigh next
+default-within K h none st e = omega arith
+default-within K h (more h₁ k₁ r₁) st e =
+    default-if K (keepsDefault h₁) (eqb (h₁ .tag) 15 && eqb (h₁ .a) 0 && not (eqb (h₁ .c) 0)) h h₁ k₁ r₁ st e
+
+-- ---- all items
+
+moved-within : (K : Kind) (h : Head) (k : Forest) (st : Store) (m : Change Split) → m ≡ return (split none (one h k))
+    → SplitWithin K (isUsing h) (weight K item h k) st (m st)
+unfolding weigh next own extra below inDeclaration inDeclarator
+moved-within K h k st m e = rw e (omega arith)
+
+item-within : (K : Kind) {t : ℕ} (a b c : ℕ) (k : Forest) (st : Store) → Seen (13 ∷ 17 ∷ 18 ∷ 19 ∷ 15 ∷ 5 ∷ []) t
+    → SplitWithin K (isUsing (hd t a b c)) (weight K item (hd t a b c) k) st (programItem (hd t a b c) k st)
+unfolding programItem weigh next own extra below inDeclaration inDeclarator isUsing
+item-within K a b c k st here = omega arith
+item-within K a b c k st (there e₁₃ here) = omega arith
+item-within K a b c k st (there e₁₃ (there e₁₇ here)) = default-within K (hd 18 a b c) k st refl
+item-within K a b c k st (there e₁₃ (there e₁₇ (there e₁₈ here))) = export-within K (hd 19 a b c) k st refl
+item-within K a b c k st (there e₁₃ (there e₁₇ (there e₁₈ (there e₁₉ here)))) =
+    omega (arith, class-weighs K (hd 15 a b c) k st, rows-most K (class-added (hd 15 a b c) k st))
+item-within K a b c k st (there e₁₃ (there e₁₇ (there e₁₈ (there e₁₉ (there e₁₅ here))))) =
+    declaration-within K (isUsing (hd 5 a b c)) (hd 5 a b c) k st refl
+item-within K {t} a b c k st (there e₁₃ (there e₁₇ (there e₁₈ (there e₁₉ (there e₁₅ (there e₅ other)))))) =
+    moved-within K (hd t a b c) k st (programItem (hd t a b c) k) (rw (e₁₃, e₁₇, e₁₈, e₁₉, e₁₅, e₅))
+
+items-within : (K : Kind) (f : Forest) (st : Store) → SplitWithin K (anyUsing f) (weigh K item f) st (programItems f st)
+unfolding programItems anyUsing weigh next
+items-within K none st = omega arith
+items-within K (more h k r) st =
+    let i = programItem h k st in
+    let j = programItems r (i .1) in
+    omega (
+      arith,
+      item-within K (h .a) (h .b) (h .c) k st (seen (13 ∷ 17 ∷ 18 ∷ 19 ∷ 15 ∷ 5 ∷ []) (h .tag)),
+      items-within K r (i .1),
+      item-& K (i .0 .kept) (j .0 .kept),
+      plain-& K (i .0 .moved) (j .0 .moved),
+      given-or (isUsing h) (anyUsing r) (perRecord K + perScope K),
+    )
+
+program-role : (t : ℕ) (r : Role) (u : Bool) → eqb t 1 ≡ true → below r t u ≡ item
+unfolding below
+program-role t r u e = rw (eqb-true t 1 e)
+
+block-weighs : (K : Kind) (scope : ℕ) (f : Forest) → weigh K item (one (hd 2 scope 0 0) f) ≡ perRecord K + weigh K plain f
+unfolding weigh next own extra below isUsing
+block-weighs K scope f = omega arith
+
+pub program-within : (K : Kind) (r : Role) (h : Head) (k : Forest) (st : Store) → eqb (h .tag) 1 ≡ true → anyUsing k ≡ true
+    → Within K r h k st (enterProgram h k st)
+unfolding enterProgram weigh next extra isUsing
+program-within K r h k st e any =
+    let p = programItems k st in
+    let s = insertScopeBelow (h .a) (p .0 .moved) (p .1) in
+    rw (program-role (h .tag) r (isUsing h) e)
+    (omega (
+      arith,
+      rw any at (items-within K k st),
+      item-& K (p .0 .kept) (one (hd 2 (s .0) 0 0) (p .0 .moved)),
+      block-weighs K (s .0) (p .0 .moved),
+      rows-most K (scope-below (h .a) (p .0 .moved) (p .1)),
+    ))

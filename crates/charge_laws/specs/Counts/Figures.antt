@@ -1,0 +1,262 @@
+-- After any number of visits the figures are those before and the charges so far.
+-- Assumes nothing.
+use mathlib.Core.Path.{_≡_, refl, sym, ap, ap₂, subst, _∙_}
+use mathlib.Core.Bool.{Bool, true, false, not, _&&_}
+use mathlib.Core.List.{List, [], _∷_, _++_}
+use mathlib.Core.Logic.{_⊎_, inl, inr}
+use Prim.Native.Nat.{ℕ, zero, suc, _+_, _*_}
+use native.Mathlib.Omega.{arith}
+use lib.ListN.{length, take}
+use lib.Seq.{take-nil}
+use lib.Dec.{eqb}
+use Rattle.meaning.specs.Tree.{if_then_else_, Head, Forest, none, more, one, Node, single, size, _&_}
+use Rattle.meaning.specs.File.{File}
+use Rattle.meaning.specs.Scoping.{Store}
+use Rattle.meaning.specs.Walk.{
+  isStaticBlock,
+  enter,
+  leave,
+  Crumb,
+  crumb,
+  Spot,
+  at,
+  leaving,
+  over,
+  currentScope,
+  hoistScope,
+  settle,
+  opened,
+  closed,
+  visit,
+  visits,
+  storeOf,
+  start,
+  plug,
+  treeAt,
+  storeAt,
+  fileAt,
+}
+use Rattle.meaning.specs.Charges.{Line, helper, Figures, figures, _⊕_, total, recordBytes, figuresIn, figuresAt}
+use Rattle.meaning.specs.VisitCharges.{standing, anyContext, addHelper, visitsIn, visitCharges}
+use Rattle.charge_laws.specs.Growth.Rows.{missing}
+use Rattle.charge_laws.specs.Growth.Trees.{more-&}
+use Rattle.charge_laws.specs.Growth.Charged.{counts, helperLine, Same, figures-same, Visited}
+use Rattle.charge_laws.specs.Growth.Enter.{entered}
+use Rattle.charge_laws.specs.Counts.Visits.{++-nil, &-none, &-assoc}
+use Rattle.charge_laws.specs.Counts.Enter.{Fit, proper}
+use Rattle.charge_laws.specs.Counts.Fits.{Fits}
+use Rattle.charge_laws.specs.Counts.Pending.{Pending, ready, pending-start, pending-visit}
+use Rattle.charge_laws.specs.Counts.Left.{rest, left, due, left-settle, Ready, visit-step}
+
+-- ---- the tree and the store at a spot
+
+settled-if : (b : Bool) (h : Head) (d d₀ r₀ : Forest) (p : List Crumb) (st : Store)
+    → (treeAt (settle (d₀ & one h d) r₀ p st) ≡ plug ((d₀ & one h d) & r₀) p) × (storeAt (settle (d₀ & one h d) r₀ p st) ≡ st)
+    → let s = (if b then leaving d h d₀ r₀ p st else settle (d₀ & one h d) r₀ p st) in
+    (treeAt s ≡ plug (d₀ & more h (d & none) r₀) p) × (storeAt s ≡ st)
+unfolding treeAt storeAt _&_
+settled-if true h d d₀ r₀ p st i = (ap (λ (f : Forest). plug (d₀ & more h f r₀) p) (sym (&-none d)), refl)
+settled-if false h d d₀ r₀ p st i =
+    (i .0 ∙ ap (λ (f : Forest). plug f p) (&-assoc d₀ (one h d) r₀ ∙ ap (λ (f : Forest). d₀ & more h f r₀) (sym (&-none d))), i .1)
+
+-- going on changes neither
+settled : (p : List Crumb) (d f : Forest) (st : Store) → (treeAt (settle d f p st) ≡ plug (d & f) p) × (storeAt (settle d f p st) ≡ st)
+unfolding settle treeAt plug storeAt
+settled [] d none st = (sym (&-none d), refl)
+settled [] d (more h k r) st = (refl, refl)
+settled (crumb h d₀ r₀ ∷ p) d none st = settled-if (isStaticBlock h) h d d₀ r₀ p st (settled p (d₀ & one h d) r₀ st)
+settled (c ∷ p) d (more h k r) st = (refl, refl)
+
+-- what stands around the end of a path
+around : List Crumb → ℕ × ℕ
+around [] = (0, 0)
+around (crumb h d r ∷ p) = (size (more h none d) + (size r + around p .0), recordBytes (more h none d) + (recordBytes r + around p .1))
+
+plugged : (p : List Crumb) (f : Forest) → (size (plug f p) ≡ size f + around p .0) × (recordBytes (plug f p) ≡ recordBytes f + around p .1)
+unfolding plug around size recordBytes
+plugged [] f = omega arith
+plugged (crumb h d r ∷ p) f = omega (arith, plugged p (d & more h f r), more-& d (more h f r))
+
+-- the figures of a tree and a store
+abbrev whole : Forest → Store → Figures
+whole f st =
+    figures
+    (size f)
+    (length (st .scopes))
+    (length (st .symbols))
+    (st .contexts)
+    (7 + (7 * length (st .scopes) + (11 * length (st .symbols) + recordBytes f)))
+
+whole-at : (s : Spot) → Same (figuresAt s) (whole (treeAt s) (storeAt s))
+unfolding figuresAt figuresIn fileAt
+whole-at s = omega arith
+
+whole-settled : (p : List Crumb) (d f : Forest) (st : Store) → Same (figuresAt (settle d f p st)) (whole (plug (d & f) p) st)
+whole-settled p d f st =
+    let s = settle d f p st in
+    let t = settled p d f st in
+    subst (λ (x : Figures). Same (figuresAt s) x) (ap₂ whole (t .0) (t .1)) (whole-at s)
+
+-- a record that is replaced on the path adds to the whole what it adds to itself
+replaced : (d r : Forest) (p : List Crumb) (h h′ : Head) (k k′ : Forest) (st st′ : Store) (x : Figures)
+    → Same (counts st′ (one h′ k′)) (counts st (one h k) ⊕ x)
+    → Same (whole (plug (d & more h′ k′ r) p) st′) (whole (plug (d & more h k r) p) st ⊕ x)
+unfolding counts size recordBytes
+replaced d r p h h′ k k′ st st′ x e =
+    omega (
+      arith,
+      plugged p (d & more h k r),
+      plugged p (d & more h′ k′ r),
+      more-& d (more h k r),
+      more-& d (more h′ k′ r),
+    )
+
+-- ---- one visit
+
+-- it adds what it is charged, and the helper with it
+abbrev Charged : Spot → Spot → Type 0
+Charged s s′ =
+    Same (figuresAt s′) (figuresAt s ⊕ (total (due s) ⊕ total (helperLine (storeAt s) (due s))))
+    × (missing (storeAt s′) ≡ (missing (storeAt s) && not (anyContext (due s))))
+
+still-missing : (m h u : Bool) → (m && (h && not (m && u))) ≡ ((m && h) && not u)
+still-missing true true u = refl
+still-missing true false u = refl
+still-missing false h u = refl
+
+missing-then : {ls : List Line} {f : Forest} {st : Store} {e : Node × Store} → Visited ls f st e
+    → missing (e .1) ≡ (missing st && not (anyContext ls))
+missing-then {ls} {st = st} {e = e} v =
+    ap₂ (λ (m : ℕ) (b : Bool). eqb m 0 && b) (v .mode) (v .helper) ∙ still-missing (eqb (st .mode) 0) (eqb (st .helper) 0) (anyContext ls)
+
+enter-charged : (cur hoist : ℕ) (d : Forest) (h : Head) (k r : Forest) (p : List Crumb) (st : Store) → Fit h k
+    → Charged (at d h k r p st) (opened d r p (enter cur hoist h k st))
+unfolding due treeAt storeAt plug _&_
+enter-charged cur hoist d h k r p st fit =
+    let e = enter cur hoist h k st in
+    let v = entered cur hoist h k st (proper h k fit) in
+    let path = crumb (e .0 .head) d r ∷ p in (
+      omega (
+        arith,
+        whole-at (at d h k r p st),
+        whole-settled path none (e .0 .children) (e .1),
+        replaced d r p h (e .0 .head) k (e .0 .children) st (e .1) _ (v .adds),
+      ),
+      ap missing (settled path none (e .0 .children) (e .1) .1) ∙ missing-then v,
+    )
+
+leave-charged : (d : Forest) (h : Head) (k r : Forest) (p : List Crumb) (st : Store) → isStaticBlock h ≡ true
+    → Charged (leaving k h d r p st) (closed d r p (leave h k st))
+unfolding due treeAt storeAt _&_
+leave-charged d h k r p st static =
+    let e = leave h k st in
+    let v = Rattle.charge_laws.specs.Growth.Enter.left h k st static in
+    let done = d & single (e .0) in (
+      omega (
+        arith,
+        whole-at (leaving k h d r p st),
+        rw (&-assoc d (single (e .0)) r) at (whole-settled p done r (e .1)),
+        replaced d r p h (e .0 .head) k (e .0 .children) st (e .1) _ (v .adds),
+      ),
+      ap missing (settled p done r (e .1) .1) ∙ missing-then v,
+    )
+
+over-charged : (tree : Forest) (st : Store) → Charged (over tree st) (over tree st)
+unfolding due total helperLine anyContext storeAt
+over-charged tree st = free-of (missing st)
+  where
+    free-of : (m : Bool)
+        → Same (figuresAt (over tree st)) (figuresAt (over tree st) ⊕ (total [] ⊕ total (if m && false then helper ∷ [] else [])))
+        × (m ≡ (m && true))
+    free-of true = (omega arith, refl)
+    free-of false = (omega arith, refl)
+
+visit-charged : (s : Spot) → Ready s → Charged s (visit s)
+unfolding visit
+visit-charged (over tree st) ready = over-charged tree st
+visit-charged (at d h k r p st) ready = enter-charged (currentScope p) (hoistScope p) d h k r p st ready
+visit-charged (leaving k h d r p st) ready = leave-charged d h k r p st ready
+
+-- ---- all visits
+
+-- charges one after another
+unfoldable pub joined : List (List Line) → List Line
+joined [] = []
+joined (x ∷ xs) = x ++ joined xs
+
+total-++ : (xs zs : List Line) → Same (total (xs ++ zs)) (total xs ⊕ total zs)
+unfolding total
+total-++ [] zs = omega arith
+total-++ (x ∷ xs) zs = omega (arith, total-++ xs zs)
+
+with-helper : (b : Bool) (ls : List Line) → Same (total (if b then helper ∷ ls else ls)) (total ls ⊕ total (if b then helper ∷ [] else []))
+unfolding total
+with-helper true ls = omega arith
+with-helper false ls = omega arith
+
+-- the charges of the first k visits from a spot, the helper's among them
+abbrev dues : ℕ → Spot → List Line
+dues k s = joined (take k (addHelper (missing (storeAt s)) (left s)))
+
+-- the figures after so many visits
+abbrev Sum : ℕ → Spot → Spot → List Line → Type 0
+Sum k s s₀ ls = Same (figuresAt (visits k s)) (figuresAt s₀ ⊕ total ls)
+
+sum-over : (k : ℕ) (s : Spot) → left s ≡ [] → visit s ≡ s → Sum k (visit s) (visit s) (dues k (visit s)) → Sum k (visit s) s (dues (suc k) s)
+unfolding addHelper joined
+sum-over k s e v i = rw (v, e) (rw (v, e, take-nil {A = List Line} k) at i)
+
+sum-step : (k : ℕ) (s : Spot) → left s ≡ due s ∷ left (visit s) → Charged s (visit s) → Sum k (visit s) (visit s) (dues k (visit s))
+    → Sum k (visit s) s (dues (suc k) s)
+unfolding addHelper joined helperLine
+sum-step k s e c i =
+    let m = missing (storeAt s) in
+    let b = m && anyContext (due s) in
+    let j = rw (c .1) at i in
+    rw e
+    (omega (
+      arith,
+      j,
+      c .0,
+      with-helper b (due s),
+      total-++ (if b then helper ∷ due s else due s) (joined (take k (addHelper (m && not (anyContext (due s))) (left (visit s))))),
+    ))
+
+sums : (k : ℕ) (s : Spot) → Pending s → Sum k s s (dues k s)
+unfolding visits total joined
+sums zero s q = omega arith
+sums (suc k) s q = go (visit-step s (ready s q)) (sums k (visit s) (pending-visit s q))
+  where
+    go : ((left s ≡ []) × (visit s ≡ s)) ⊎ (left s ≡ due s ∷ left (visit s)) → Sum k (visit s) (visit s) (dues k (visit s))
+        → Sum k (visit s) s (dues (suc k) s)
+    go (inl e) i = sum-over k s (e .0) (e .1) i
+    go (inr e) i = sum-step k s e (visit-charged s (ready s q)) i
+
+-- ---- a file
+
+and-true : (b : Bool) → (b && true) ≡ b
+and-true true = refl
+and-true false = refl
+
+start-dues : (k : ℕ) (f : File) → dues k (start f) ≡ joined (take k (visitCharges f))
+unfolding start storeOf visitCharges rest
+start-dues k f =
+    let st = storeOf f in
+    ap₂ (λ (m : Bool) (xs : List (List Line)). joined (take k (addHelper m xs)))
+    (ap missing (settled [] none (f .tree) st .1) ∙ and-true (eqb (f .mode) 0))
+    (left-settle [] none (f .tree) st ∙ ++-nil (visitsIn (f .symbols) (f .tree) standing))
+
+start-figures : (f : File) → Same (figuresAt (start f)) (figuresIn f)
+unfolding start storeOf figuresIn plug _&_
+start-figures f = omega (arith, whole-settled [] none (f .tree) (storeOf f))
+
+-- After k visits the figures are those read and the first k charges, the helper's among them.
+pub after : (k : ℕ) (f : File) → Fits (f .tree)
+    → figuresAt (visits k (start f)) ≡ figuresIn f ⊕ total (joined (take k (visitCharges f)))
+after k f p =
+    figures-same _ _
+    (omega (
+      arith,
+      start-figures f,
+      rw (start-dues k f) at (sums k (start f) (pending-start f p)),
+    ))

@@ -1,0 +1,323 @@
+-- The children of a record that is entered are fit, as it was.
+-- Assumes nothing.
+use mathlib.Core.Path.{_≡_, refl, sym, subst}
+use mathlib.Core.Bool.{Bool, true, false, not, _&&_}
+use mathlib.Core.List.{List, [], _∷_}
+use Prim.Native.Nat.{ℕ}
+use lib.Dec.{eqb}
+use borrow.Author.Tests.{eqb-true}
+use Rattle.meaning.specs.Tree.{if_then_else_, oneOf, Head, hd, Forest, none, more, one, Node, node, single, _&_}
+use Rattle.meaning.specs.Scoping.{
+  Store,
+  Change,
+  return,
+  symbolIn,
+  createChildScope,
+  createSymbol,
+  insertScopeBelow,
+  insertScopeBetween,
+  changeScopeParent,
+  moveBindings,
+  blockScopedIn,
+}
+use Rattle.meaning.specs.Shapes.{read}
+use Rattle.meaning.specs.HelperLoader.{helperLoad}
+use Rattle.meaning.specs.Statements.{anyUsing, anyAwaitUsing, takeUp, makeContext, transformStatements, createTryStmt}
+use Rattle.meaning.specs.Contexts.{
+  transformBlockStatement,
+  enterFunctionBody,
+  transformTryBlock,
+  transformHandler,
+  transformTryParts,
+  enterTryStatement,
+  forList,
+  takeUpFor,
+  transformForStatement,
+  anyCaseAwaitUsing,
+  takeUpCases,
+  transformSwitchStatement,
+}
+use Rattle.meaning.specs.ForOf.{bindsIdentifier, boundSymbol, rebind, insertUsing, wrapBody, enterForOfStatement}
+use Rattle.meaning.specs.Program.{
+  transformClassDecl,
+  Split,
+  split,
+  boundNames,
+  specifiers,
+  topLevelDeclaration,
+  exportedDeclaration,
+  exportedClass,
+  exportedItem,
+  defaultClass,
+  asExpression,
+  defaultValue,
+  keepsDefault,
+  defaultItem,
+  programItem,
+  programItems,
+  enterProgram,
+}
+use Rattle.meaning.specs.Walk.{Act, enterAs, enter}
+use Rattle.spec_laws.specs.Tags.{Seen, other, here, there, seen, clash, and-left}
+use Rattle.charge_laws.specs.Totals.Roles.{Lacks}
+use Rattle.charge_laws.specs.Growth.Chosen.{Chosen, kept, as-program, as-block, as-body, as-try, as-for, as-switch, as-insert, as-wrap, chosen}
+use Rattle.charge_laws.specs.Counts.Enter.{Fit}
+use Rattle.charge_laws.specs.Counts.Fits.{Fits, easy, catch-fit, fits-&, list-fits, cases-fit, loop-fits, declared-fits, try-fits}
+
+-- ---- contexts
+
+block-fits : (cur hoist : ℕ) (h : Head) (k : Forest) (st : Store) → Fits k → Fits ((transformBlockStatement cur hoist h k st) .0 .children)
+unfolding transformBlockStatement transformStatements
+block-fits cur hoist h k st p =
+    let c = makeContext hoist st in
+    let l = helperLoad cur (c .1) in
+    try-fits (h .a) (takeUp false (c .0) false k) (c .0) cur (c .0) cur (anyAwaitUsing k) (c .1) (l .1) (list-fits k false (c .0) false p)
+
+body-fits : (cur hoist : ℕ) (k : Forest) (st : Store) → Fits k → Fits ((enterFunctionBody cur hoist k st) .0 .children)
+unfolding enterFunctionBody transformStatements createTryStmt
+body-fits cur hoist k st p =
+    let c = makeContext hoist st in
+    let l = helperLoad cur (c .1) in
+    let s = insertScopeBelow cur k (l .1) in
+    let m = moveBindings (blockScopedIn (s .1 .symbols) cur (s .1 .symbols) 1) (s .0) (s .1) in (
+      easy refl,
+      try-fits (s .0) (takeUp false (c .0) false k) (c .0) cur (c .0) cur (anyAwaitUsing k) (c .1) (m .1) (list-fits k false (c .0) false p),
+      tt,
+    )
+
+for-fits : (cur hoist : ℕ) (h : Head) (k : Forest) (st : Store) → Fit h k → anyUsing (forList (one h k)) ≡ true → Fits k
+    → Fits ((transformForStatement cur hoist h k st) .0 .children)
+unfolding transformForStatement
+for-fits cur hoist h k st o u p =
+    let c = makeContext hoist st in
+    let s = insertScopeBelow cur (one h k) (c .1) in
+    let l = helperLoad cur (s .1) in
+    try-fits (s .0) (takeUpFor (c .0) (one h k)) (c .0) cur (c .0) cur (anyAwaitUsing (forList (one h k))) (s .1) (l .1)
+    (loop-fits (one h k) (c .0) (o .label) u (o, p, tt))
+
+switch-fits : (cur a b d : ℕ) (k : Forest) (st : Store) → Fits k → Fits ((transformSwitchStatement cur (hd 9 a b d) k st) .0 .children)
+unfolding transformSwitchStatement
+switch-fits cur a b d k st p =
+    let h = hd 9 a b d in
+    let c = makeContext cur st in
+    let s = createChildScope cur 0 (c .1) in
+    let q = changeScopeParent (h .a) (s .0) (s .1) in
+    let l = helperLoad cur (q .1) in
+    try-fits (s .0) (one h (takeUpCases (c .0) false k)) (c .0) cur (c .0) cur (anyCaseAwaitUsing k) (q .1) (l .1)
+    (easy refl, cases-fit k (c .0) false p, tt)
+
+-- ---- the parts of a Try
+
+block-part : (u : Bool) (cur hoist a b c : ℕ) (k r : Forest) (st : Store) → Fit (hd 2 a b c) k → Fits k → Fits r
+    → Fits (single (((if u then transformTryBlock cur hoist (hd 2 a b c) k else return (node (hd 2 a b c) k)) st) .0) & r)
+unfolding transformTryBlock transformStatements createTryStmt _&_
+block-part true cur hoist a b d k r st o p q =
+    let c = makeContext a st in
+    let l = helperLoad cur (c .1) in
+    let s = insertScopeBetween a 0 (l .1) in (
+      easy refl,
+      (
+        easy refl,
+        try-fits a (takeUp false (c .0) false k) (c .0) cur (c .0) (s .0) (anyAwaitUsing k) (c .1) (s .1) (list-fits k false (c .0) false p),
+        tt,
+      ),
+      q,
+    )
+block-part false cur hoist a b c k r st o p q = (o, p, q)
+
+-- A part that is no Catch does not become one.
+part-lacks : (u : Bool) (cur hoist : ℕ) (h : Head) (k r : Forest) (st : Store) → eqb (h .tag) 12 ≡ false → Lacks 12 r
+    → Lacks 12 (single (((if u then transformTryBlock cur hoist h k else return (node h k)) st) .0) & r)
+unfolding transformTryBlock _&_
+part-lacks true cur hoist h k r st e q = (refl, q)
+part-lacks false cur hoist h k r st e q = (e, q)
+
+parts-lack : (f : Forest) (cur hoist : ℕ) (st : Store) → Lacks 12 f → Lacks 12 ((transformTryParts cur hoist f st) .0)
+unfolding transformTryParts
+parts-lack none cur hoist st p = tt
+parts-lack (more h k r) cur hoist st p =
+    rw (p .0) (part-lacks (eqb (h .tag) 2 && anyUsing k) cur hoist h k _ st (p .0) (parts-lack r cur hoist _ (p .1)))
+
+-- neither a Catch nor a Block
+other-part : (x y u : Bool) (h : Head) (k r : Forest) (catches blocks : Change Node) (st : Store) → x ≡ false → y ≡ false → Fits (more h k r)
+    → Fits (single (((if x then catches else if y && u then blocks else return (node h k)) st) .0) & r)
+unfolding _&_
+other-part true y u h k r catches blocks st e d p = absurd (clash e refl)
+other-part false true u h k r catches blocks st e d p = absurd (clash d refl)
+other-part false false u h k r catches blocks st e d p = p
+
+one-part : {t : ℕ} (cur hoist a b c : ℕ) (k r : Forest) (inside : Change Forest) (st : Store) → Seen (12 ∷ 2 ∷ []) t → Fit (hd t a b c) k → Fits k
+    → (Lacks 12 k → Lacks 12 ((inside st) .0)) → Fits ((inside st) .0) → Fits r
+    → let h = hd t a b c in
+    Fits
+    (single
+    (((if eqb t 12 then transformHandler h k inside
+    else if eqb t 2 && anyUsing k then transformTryBlock cur hoist h k
+    else return (node h k))
+    st) .0)
+    & r)
+unfolding transformHandler _&_
+one-part cur hoist a b c k r inside st here o p l i q = (catch-fit (l (o .handler refl)), i, q)
+one-part cur hoist a b c k r inside st (there e₁₂ here) o p l i q = block-part (anyUsing k) cur hoist a b c k r st o p q
+one-part {t} cur hoist a b c k r inside st (there e₁₂ (there e₂ other)) o p l i q =
+    let h = hd t a b c in
+    other-part (eqb t 12) (eqb t 2) (anyUsing k) h k r (transformHandler h k inside) (transformTryBlock cur hoist h k) st e₁₂ e₂ (o, p, q)
+
+parts-fit : (f : Forest) (cur hoist : ℕ) (st : Store) → Fits f → Fits ((transformTryParts cur hoist f st) .0)
+unfolding transformTryParts
+parts-fit none cur hoist st p = tt
+parts-fit (more h k r) cur hoist st p =
+    one-part cur hoist (h .a) (h .b) (h .c) k _ (transformTryParts cur hoist k) st (seen (12 ∷ 2 ∷ []) (h .tag)) (p .0) (p .1)
+    (parts-lack k cur hoist st)
+    (parts-fit k cur hoist st (p .1))
+    (parts-fit r cur hoist _ (p .2))
+
+-- ---- ForOf
+
+rebind-fits : (y : ℕ) (k : Forest) → bindsIdentifier k ≡ true → Fits k → Fits (rebind y k)
+unfolding rebind bindsIdentifier
+rebind-fits y none e p = tt
+rebind-fits y (more h none r) e p = p
+rebind-fits y (more h (more h₁ k₁ r₁) r) e p =
+    let six = eqb-true (h .tag) 6 (and-left (eqb (h .tag) 6) (eqb (h .a) 0) e) in
+    (easy (rw six), (easy refl, p .1 .1, p .1 .2), p .2)
+
+module _ (h h₁ : Head) (k₁ : Forest) (h₂ : Head) (k₂ : Forest) (h₃ : Head) (k₃ r : Forest) (st : Store) (b : bindsIdentifier k₁ ≡ true) where
+  abbrev sides : Forest
+  sides = more h₁ k₁ (more h₂ k₂ (more h₃ k₃ r))
+
+  insert-fits : h₃ .tag ≡ 2 → Fits sides → Fits ((enterForOfStatement false h sides st) .0 .children)
+  unfolding enterForOfStatement insertUsing _&_
+  insert-fits e p =
+      let t = (createSymbol (symbolIn st (boundSymbol k₁) .name) 6 (h .a) 1 st) .0 in
+      let q = p .2 .2 in (
+        easy refl,
+        rebind-fits t k₁ b (p .1),
+        (
+          p .2 .0,
+          p .2 .1,
+          (
+            easy (rw e),
+            declared-fits (h₁ .a) (boundSymbol k₁) (read t) k₃ (easy refl, tt, tt) (q .1),
+            q .2,
+          ),
+        ),
+      )
+
+  wrap-fits : Fits sides → Fits ((enterForOfStatement true h sides st) .0 .children)
+  unfolding enterForOfStatement wrapBody _&_
+  wrap-fits p =
+      let t = (createSymbol (symbolIn st (boundSymbol k₁) .name) 6 (h .a) 1 st) .0 in
+      let q = p .2 .2 in (
+        easy refl,
+        rebind-fits t k₁ b (p .1),
+        (
+          p .2 .0,
+          p .2 .1,
+          (
+            easy refl,
+            declared-fits (h₁ .a) (boundSymbol k₁) (read t) (one h₃ k₃) (easy refl, tt, tt) (q .0, q .1, tt),
+            q .2,
+          ),
+        ),
+      )
+
+-- ---- Program
+
+-- what stays and what moves
+abbrev FitSplit : Split × Store → Type 0
+FitSplit e = Fits (e .0 .kept) × Fits (e .0 .moved)
+
+either : (b : Bool) (x y : Change Split) (st : Store) → FitSplit (x st) → FitSplit (y st) → FitSplit ((if b then x else y) st)
+either true x y st p q = p
+either false x y st p q = q
+
+class-fits : (h : Head) (k : Forest) (st : Store) → Fits k → Fits ((transformClassDecl h k st) .0)
+unfolding transformClassDecl
+class-fits h k st p = (easy refl, (easy refl, (easy refl, tt, (easy refl, p, tt)), tt), tt)
+
+specifiers-fit : (st : Store) (names : List ℕ) → Fits (specifiers st names)
+unfolding specifiers
+specifiers-fit st [] = tt
+specifiers-fit st (y ∷ names) = (easy refl, tt, specifiers-fit st names)
+
+expression-fits : (b : Bool) (h : Head) (k : Forest) → Fit h k → Fit (if b then hd 15 1 (h .b) (h .c) else h) k
+expression-fits true h k o = easy refl
+expression-fits false h k o = o
+
+value-fits : (h : Head) (k : Forest) (st : Store) → Fit h k → Fits k → FitSplit (defaultValue h k st)
+unfolding defaultValue asExpression
+value-fits h k st o p = (
+  (easy refl, (easy refl, tt, tt), tt),
+  (easy refl, (easy refl, (easy refl, tt, (expression-fits (eqb (h .tag) 15) h k o, p, tt)), tt), tt),
+)
+
+default-fits : (h : Head) (k : Forest) (st : Store) → Fit h k → Fits k → FitSplit (defaultItem h k st)
+unfolding defaultItem defaultClass
+default-fits h none st o p = ((o, p, tt), tt)
+default-fits h (more h₁ k₁ r₁) st o p =
+    either (keepsDefault h₁) (return (split (one h (more h₁ k₁ r₁)) none)) _ st ((o, p, tt), tt)
+    (either (eqb (h₁ .tag) 15 && eqb (h₁ .a) 0 && not (eqb (h₁ .c) 0)) (defaultClass h₁ k₁) (defaultValue h₁ k₁) st
+    ((easy refl, (easy refl, tt, tt), tt), class-fits h₁ k₁ st (p .1))
+    (value-fits h₁ k₁ st (p .0) (p .1)))
+
+exported-fits : (h : Head) (k : Forest) (st : Store) → Fit h k → Fits k → FitSplit (exportedItem h k st)
+unfolding exportedItem exportedClass exportedDeclaration
+exported-fits h none st o p = ((o, p, tt), tt)
+exported-fits h (more h₁ k₁ r₁) st o p =
+    either (eqb (h₁ .tag) 15) (exportedClass h₁ k₁) _ st
+    ((easy refl, (easy refl, tt, tt), tt), class-fits h₁ k₁ st (p .1))
+    (either (eqb (h₁ .tag) 5) (exportedDeclaration k₁) (return (split (one h (more h₁ k₁ r₁)) none)) st
+    ((easy refl, specifiers-fit _ (boundNames k₁), tt), (easy refl, p .1, tt))
+    ((o, p, tt), tt))
+
+item-fits : (h : Head) (k : Forest) (st : Store) → Fit h k → Fits k → FitSplit (programItem h k st)
+unfolding programItem topLevelDeclaration
+item-fits h k st o p =
+    either (oneOf (13 ∷ 17 ∷ []) (h .tag)) (return (split (one h k) none)) _ st ((o, p, tt), tt)
+    (either (eqb (h .tag) 18) (defaultItem h k) _ st (default-fits h k st o p)
+    (either (eqb (h .tag) 19) (exportedItem h k) _ st (exported-fits h k st o p)
+    (either (eqb (h .tag) 15) _ _ st (tt, class-fits h k st p)
+    (either (eqb (h .tag) 5) (topLevelDeclaration h k) (return (split none (one h k))) st
+    (tt, (easy refl, p, tt))
+    (tt, (o, p, tt))))))
+
+items-fit : (f : Forest) (st : Store) → Fits f → FitSplit (programItems f st)
+unfolding programItems
+items-fit none st p = (tt, tt)
+items-fit (more h k r) st p =
+    let i = programItem h k st in
+    let j = programItems r (i .1) in
+    let q = item-fits h k st (p .0) (p .1) in
+    let s = items-fit r (i .1) (p .2) in
+    (fits-& (i .0 .kept) (j .0 .kept) (q .0) (s .0), fits-& (i .0 .moved) (j .0 .moved) (q .1) (s .1))
+
+program-fits : (h : Head) (k : Forest) (st : Store) → Fits k → Fits ((enterProgram h k st) .0 .children)
+unfolding enterProgram
+program-fits h k st p =
+    let s = programItems k st in
+    let i = items-fit k st p in
+    fits-& (s .0 .kept) (one _ (s .0 .moved)) (i .0) (easy refl, i .1, tt)
+
+-- ---- any record
+
+entered-fits : {a : Act} {h : Head} {k : Forest} (cur hoist : ℕ) (st : Store) → Fit h k → Fits k → Chosen a h k
+    → Fits ((enterAs a cur hoist h k st) .0 .children)
+unfolding enterAs enterTryStatement
+entered-fits cur hoist st o p kept = p
+entered-fits {h = h} {k = k} cur hoist st o p (as-program e u) = program-fits h k st p
+entered-fits {h = h} {k = k} cur hoist st o p (as-block e u) = block-fits cur hoist h k st p
+entered-fits {k = k} cur hoist st o p (as-body e u) = body-fits cur hoist k st p
+entered-fits {k = k} cur hoist st o p (as-try e u) = parts-fit k cur hoist st p
+entered-fits {h = h} {k = k} cur hoist st o p (as-for e u) = for-fits cur hoist h k st o u p
+entered-fits {h = h} {k = k} cur hoist st o p (as-switch e u) =
+    subst (λ (t : ℕ). Fits ((transformSwitchStatement cur (hd t (h .a) (h .b) (h .c)) k st) .0 .children)) (sym e)
+    (switch-fits cur (h .a) (h .b) (h .c) k st p)
+entered-fits {h = h} cur hoist st o p (as-insert {h₁ = h₁} {h₂ = h₂} {h₃ = h₃} {k₁ = k₁} {k₂ = k₂} {k₃ = k₃} {r = r} e b two) =
+    insert-fits h h₁ k₁ h₂ k₂ h₃ k₃ r st (b .identifier) two p
+entered-fits {h = h} cur hoist st o p (as-wrap {h₁ = h₁} {h₂ = h₂} {h₃ = h₃} {k₁ = k₁} {k₂ = k₂} {k₃ = k₃} {r = r} e b) =
+    wrap-fits h h₁ k₁ h₂ k₂ h₃ k₃ r st (b .identifier) p
+
+pub enter-fits : (cur hoist : ℕ) (h : Head) (k : Forest) (st : Store) → Fit h k → Fits k → Fits ((enter cur hoist h k st) .0 .children)
+unfolding enter
+enter-fits cur hoist h k st o p = entered-fits cur hoist st o p (chosen (st .asRead) h k)

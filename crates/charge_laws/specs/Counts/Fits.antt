@@ -1,0 +1,168 @@
+-- Visits keep a tree fit.
+-- Assumes nothing.
+use mathlib.Core.Path.{_≡_, refl}
+use mathlib.Core.Bool.{Bool, true, false, _||_, _&&_}
+use mathlib.Core.List.{[], _∷_}
+use Prim.Native.Nat.{ℕ, zero, suc}
+use lib.Dec.{eqb}
+use borrow.Author.Tests.{eqb-true}
+use Rattle.meaning.specs.Tree.{if_then_else_, oneOf, Head, hd, Forest, none, more, one, _&_}
+use Rattle.meaning.specs.Scoping.{Store, createChildScope, createSymbol}
+use Rattle.meaning.specs.Shapes.{declaration}
+use Rattle.meaning.specs.HelperLoader.{loadRuntime, loadExternal, helperLoad}
+use Rattle.meaning.specs.Statements.{
+  isUsing,
+  isAwaitUsing,
+  anyUsing,
+  anyAwaitUsing,
+  letterIf,
+  wrapInitializer,
+  wrapInitializers,
+  asConst,
+  takeUp,
+  createCatchClause,
+  createFinallyBlock,
+  createTryStmt,
+}
+use Rattle.meaning.specs.Contexts.{forList, takeUpFor, takeUpCases}
+use Rattle.spec_laws.specs.Tags.{Seen, other, here, there, seen, clash}
+use Rattle.charge_laws.specs.Counts.TakenUp.{Labelled}
+use Rattle.charge_laws.specs.Totals.Roles.{Lacks}
+use Rattle.charge_laws.specs.Counts.Enter.{Fit}
+
+-- each record of a tree is fit
+abbrev pub Fits : Forest → Type 0
+Fits none = Unit {0}
+Fits (more h k r) = Fit h k × Fits k × Fits r
+
+-- a record that is no Program, no ForOf, no Label and no Catch
+pub easy : {h : Head} {k : Forest} → oneOf (1 ∷ 8 ∷ 4 ∷ 12 ∷ []) (h .tag) ≡ false → Fit h k
+easy {h} p =
+    let t = h .tag in
+    record {
+      items = λ e. absurd (clash p (rw (eqb-true t 1 e)));
+      side = λ e. absurd (clash p (rw (eqb-true t 8 e)));
+      label = λ e. absurd (clash p (rw (eqb-true t 4 e)));
+      handler = λ e. absurd (clash p (rw (eqb-true t 12 e)));
+    }
+
+label-fit : {a b c : ℕ} {k : Forest} → Labelled k → Fit (hd 4 a b c) k
+label-fit p =
+    record {
+      items = λ e. absurd (clash refl e);
+      side = λ e. absurd (clash refl e);
+      label = λ e. p;
+      handler = λ e. absurd (clash refl e);
+    }
+
+pub catch-fit : {a b c : ℕ} {k : Forest} → Lacks 12 k → Fit (hd 12 a b c) k
+catch-fit p =
+    record {
+      items = λ e. absurd (clash refl e);
+      side = λ e. absurd (clash refl e);
+      label = λ e. absurd (clash refl e);
+      handler = λ e. p;
+    }
+
+pub fits-& : (f g : Forest) → Fits f → Fits g → Fits (f & g)
+unfolding _&_
+fits-& none g p q = q
+fits-& (more h k r) g p q = (p .0, p .1, fits-& r g (p .2) q)
+
+-- ---- lists that a context takes up
+
+initializer-fits : (f : Forest) (letter ctx m : ℕ) → Fits f → Fits (wrapInitializer letter ctx m f)
+unfolding wrapInitializer _&_
+initializer-fits none letter ctx m p = tt
+initializer-fits (more h k r) letter ctx zero p = (easy refl, (p .0, p .1, tt), p .2)
+initializer-fits (more h k r) letter ctx (suc m) p = (p .0, p .1, initializer-fits r letter ctx m (p .2))
+
+declarator-fits : {t : ℕ} (a b c : ℕ) (k r : Forest) (letter ctx : ℕ) → Seen (6 ∷ []) t → Fit (hd t a b c) k → Fits k → Fits r
+    → Fits (more (hd t a b c) (if eqb t 6 then wrapInitializer letter ctx b k else k) r)
+declarator-fits a b c k r letter ctx here o p q = (easy refl, initializer-fits k letter ctx b p, q)
+declarator-fits a b c k r letter ctx (there e other) o p q = rw e (o, p, q)
+
+initializers-fit : (f : Forest) (letter ctx : ℕ) → Fits f → Fits (wrapInitializers letter ctx f)
+unfolding wrapInitializers
+initializers-fit none letter ctx p = tt
+initializers-fit (more h k r) letter ctx p =
+    declarator-fits (h .a) (h .b) (h .c) k (wrapInitializers letter ctx r) letter ctx (seen (6 ∷ []) (h .tag)) (p .0) (p .1)
+    (initializers-fit r letter ctx (p .2))
+
+using-fits : (u : Bool) (h : Head) (k r : Forest) (letter ctx : ℕ) → Fit h k → Fits k → Fits r
+    → Fits (if u then more (asConst h) (wrapInitializers letter ctx k) r else more h k r)
+unfolding asConst
+using-fits true h k r letter ctx o p q = (easy refl, initializers-fit k letter ctx p, q)
+using-fits false h k r letter ctx o p q = (o, p, q)
+
+pub list-fits : (f : Forest) (running : Bool) (ctx : ℕ) (needsAwait : Bool) → Fits f → Fits (takeUp running ctx needsAwait f)
+unfolding takeUp
+list-fits none running ctx needsAwait p = tt
+list-fits (more h k r) running ctx needsAwait p =
+    let awaits = needsAwait || isAwaitUsing h in
+    using-fits (isUsing h) h k (takeUp running ctx (running && awaits) r) (letterIf awaits) ctx (p .0) (p .1)
+    (list-fits r running ctx (running && awaits) (p .2))
+
+case-fits : {t : ℕ} (a b c : ℕ) (k k′ r r′ : Forest) → Seen (10 ∷ []) t → Fit (hd t a b c) k → Fits k → Fits k′ → Fits r → Fits r′
+    → Fits (if eqb t 10 then more (hd t a b c) k′ r else more (hd t a b c) k r′)
+case-fits a b c k k′ r r′ here o p p′ q q′ = (easy refl, p′, q)
+case-fits a b c k k′ r r′ (there e other) o p p′ q q′ = rw e (o, p, q′)
+
+pub cases-fit : (f : Forest) (ctx : ℕ) (needsAwait : Bool) → Fits f → Fits (takeUpCases ctx needsAwait f)
+unfolding takeUpCases
+cases-fit none ctx needsAwait p = tt
+cases-fit (more h k r) ctx needsAwait p =
+    case-fits (h .a) (h .b) (h .c) k (takeUp true ctx needsAwait k) _ _ (seen (10 ∷ []) (h .tag)) (p .0) (p .1)
+    (list-fits k true ctx needsAwait (p .1))
+    (cases-fit r ctx (needsAwait || anyAwaitUsing k) (p .2))
+    (cases-fit r ctx needsAwait (p .2))
+
+labelled-if : (b : Bool) (f g : Forest) → Labelled f → b ≡ true → Labelled (if b then f else g)
+labelled-if true f g a e = a
+labelled-if false f g a e = absurd (clash refl e)
+
+labelled-taken : (f : Forest) (ctx : ℕ) → Labelled f → Labelled (takeUpFor ctx f)
+unfolding takeUpFor
+labelled-taken none ctx a = absurd a
+labelled-taken (more h k none) ctx a =
+    λ e. labelled-if (eqb (h .tag) 4) (takeUpFor ctx k) (takeUp false ctx false k) (labelled-taken k ctx (a e)) e
+labelled-taken (more h k (more h₁ k₁ r₁)) ctx a = absurd a
+
+loop-one : {t : ℕ} (a b c : ℕ) (k : Forest) (ctx : ℕ) → Seen (4 ∷ 7 ∷ []) t → anyUsing (forList (one (hd t a b c) k)) ≡ true
+    → (eqb t 4 ≡ true → Labelled k) → Fits k → (eqb t 4 ≡ true → anyUsing (forList k) ≡ true → Fits (takeUpFor ctx k))
+    → Fits (takeUpFor ctx (one (hd t a b c) k))
+unfolding takeUpFor forList anyUsing
+loop-one a b c k ctx here u l p i = (label-fit (labelled-taken k ctx (l refl)), i refl u, tt)
+loop-one a b c k ctx (there e₄ here) u l p i = (easy refl, list-fits k false ctx false p, tt)
+loop-one a b c k ctx (there e₄ (there e₇ other)) u l p i = absurd (clash (rw (e₄, e₇)) u)
+
+pub loop-fits : (f : Forest) (ctx : ℕ) → Labelled f → anyUsing (forList f) ≡ true → Fits f → Fits (takeUpFor ctx f)
+unfolding takeUpFor
+loop-fits none ctx a u p = absurd a
+loop-fits (more h k none) ctx a u p =
+    loop-one (h .a) (h .b) (h .c) k ctx (seen (4 ∷ 7 ∷ []) (h .tag)) u a (p .1) (λ e v. loop-fits k ctx (a e) v (p .1))
+loop-fits (more h k (more h₁ k₁ r₁)) ctx a u p = absurd a
+
+-- ---- the Try that a context makes
+
+pub declared-fits : (kind y : ℕ) (e g : Forest) → Fits e → Fits g → Fits (declaration kind y e & g)
+unfolding _&_
+declared-fits kind y e g p q = (easy refl, (easy refl, (easy refl, tt, p), tt), q)
+
+load-if : (b : Bool) (cur : ℕ) (st : Store) → Fits (((if b then loadRuntime else loadExternal cur) st) .0)
+unfolding loadRuntime loadExternal
+load-if true cur st = (easy refl, tt, tt)
+load-if false cur st = (easy refl, tt, tt)
+
+pub try-fits : (scope : ℕ) (list : Forest) (ctx cur ctx′ parent : ℕ) (needsAwait : Bool) (st st′ : Store) → Fits list
+    → Fits ((createTryStmt scope (declaration 0 ctx ((helperLoad cur st) .0) & list) ctx′ parent needsAwait st′) .0 .children)
+unfolding createTryStmt createCatchClause createFinallyBlock createChildScope createSymbol helperLoad _&_
+try-fits scope list ctx cur ctx′ parent needsAwait st st′ p = (
+  easy refl,
+  declared-fits 0 ctx ((helperLoad cur st) .0) list (load-if (eqb (st .mode) 0) cur st) p,
+  (
+    catch-fit (refl, (refl, tt)),
+    (easy refl, tt, (easy refl, (easy refl, tt, tt), tt)),
+    (easy refl, (easy refl, tt, tt), tt),
+  ),
+)

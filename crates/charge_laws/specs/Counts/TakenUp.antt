@@ -1,0 +1,180 @@
+-- Lists whose usings a context took up: visited as they then stand, they give the charges of the source's list.
+-- Assumes nothing.
+use mathlib.Core.Path.{_≡_, refl, ap, ap₂, _∙_}
+use mathlib.Core.Bool.{Bool, true, false, _||_, _&&_}
+use mathlib.Core.List.{List, [], _∷_, _++_}
+use Prim.Native.Nat.{ℕ, zero, suc}
+use lib.Dec.{eqb}
+use Rattle.meaning.specs.Tree.{if_then_else_, Head, hd, Forest, none, more, one, _&_}
+use Rattle.meaning.specs.File.{Symbol}
+use Rattle.meaning.specs.Statements.{
+  isUsing,
+  isAwaitUsing,
+  anyUsing,
+  anyAwaitUsing,
+  letterIf,
+  wrapInitializer,
+  wrapInitializers,
+  asConst,
+  takeUp,
+}
+use Rattle.meaning.specs.Contexts.{forList, takeUpFor, anyCaseUsing, takeUpCases}
+use Rattle.meaning.specs.Walk.{forLoop, actOf}
+use Rattle.meaning.specs.Charges.{Line}
+use Rattle.meaning.specs.VisitCharges.{
+  standing,
+  takenUp,
+  declarators,
+  initializer,
+  loop,
+  cases,
+  next,
+  around,
+  free,
+  visitsAs,
+  visitsStanding,
+  visitsTakenUp,
+  visitsOf,
+  visitsIn,
+}
+use Rattle.spec_laws.specs.Tags.{Seen, other, here, there, seen, clash}
+use Rattle.charge_laws.specs.Counts.Visits.{spread, spread-++, kept-if}
+
+-- ---- no using is left
+
+using-gone : (b : Bool) (h : Head) (k k′ r : Forest) → isUsing h ≡ b → anyUsing r ≡ false
+    → anyUsing (if b then more (asConst h) k′ r else more h k r) ≡ false
+unfolding anyUsing isUsing asConst
+using-gone true h k k′ r u e = const-plain (eqb (h .b) 0) r e
+  where
+    const-plain : (c : Bool) (r : Forest) → anyUsing r ≡ false → anyUsing (more (hd 5 (if c then 2 else 0) 0 0) none r) ≡ false
+    const-plain true r e = e
+    const-plain false r e = e
+using-gone false h k k′ r u e = rw u e
+
+pub none-left : (f : Forest) (running : Bool) (ctx : ℕ) (needsAwait : Bool) → anyUsing (takeUp running ctx needsAwait f) ≡ false
+unfolding takeUp anyUsing
+none-left none running ctx needsAwait = refl
+none-left (more h k r) running ctx needsAwait =
+    let awaits = needsAwait || isAwaitUsing h in
+    using-gone (isUsing h) h k (wrapInitializers (letterIf awaits) ctx k) (takeUp running ctx (running && awaits) r) refl
+    (none-left r running ctx (running && awaits))
+
+case-gone : (b : Bool) (h : Head) (k k′ r r′ : Forest) → eqb (h .tag) 10 ≡ b → anyUsing k′ ≡ false → anyCaseUsing r ≡ false → anyCaseUsing r′ ≡ false
+    → anyCaseUsing (if b then more h k′ r else more h k r′) ≡ false
+unfolding anyCaseUsing
+case-gone true h k k′ r r′ t e i j = rw (t, e) i
+case-gone false h k k′ r r′ t e i j = rw t j
+
+pub no-case-left : (f : Forest) (ctx : ℕ) (needsAwait : Bool) → anyCaseUsing (takeUpCases ctx needsAwait f) ≡ false
+unfolding takeUpCases anyCaseUsing
+no-case-left none ctx needsAwait = refl
+no-case-left (more h k r) ctx needsAwait =
+    case-gone (eqb (h .tag) 10) h k (takeUp true ctx needsAwait k) (takeUpCases ctx (needsAwait || anyAwaitUsing k) r) (takeUpCases ctx needsAwait r) refl
+    (none-left k true ctx needsAwait)
+    (no-case-left r ctx (needsAwait || anyAwaitUsing k))
+    (no-case-left r ctx needsAwait)
+
+loop-gone : (a b : Bool) (ctx : ℕ) (k : Forest) → anyUsing (forList (takeUpFor ctx k)) ≡ false
+    → let k′ = (if a then takeUpFor ctx k else takeUp false ctx false k) in
+    anyUsing (if a then forList k′ else if b then k′ else none) ≡ false
+unfolding anyUsing
+loop-gone true b ctx k i = i
+loop-gone false true ctx k i = none-left k false ctx false
+loop-gone false false ctx k i = refl
+
+no-loop-left : (f : Forest) (ctx : ℕ) → anyUsing (forList (takeUpFor ctx f)) ≡ false
+unfolding takeUpFor forList anyUsing
+no-loop-left none ctx = refl
+no-loop-left (more h k r) ctx = loop-gone (eqb (h .tag) 4) (eqb (h .tag) 7) ctx k (no-loop-left k ctx)
+
+-- ---- the visits
+
+-- one record; below a Label, one again
+abbrev pub Labelled : Forest → Type 0
+Labelled none = ⊥
+Labelled (more h k none) = eqb (h .tag) 4 ≡ true → Labelled k
+Labelled (more h k (more h₁ k₁ r₁)) = ⊥
+
+module _ (ys : List Symbol) where
+  initializer-visits : (f : Forest) (letter ctx m : ℕ) → visitsIn ys (wrapInitializer letter ctx m f) standing ≡ visitsIn ys f (initializer m)
+  unfolding wrapInitializer visitsIn visitsOf visitsStanding visitsAs actOf next _&_
+  initializer-visits none letter ctx m = refl
+  initializer-visits (more h k r) letter ctx zero = ap (_∷_ []) (spread-++ ys (visitsStanding ys h k) k [] (visitsIn ys r standing))
+  initializer-visits (more h k r) letter ctx (suc m) =
+      ap (λ (v : List (List Line)). spread ys (visitsStanding ys h k) k v) (initializer-visits r letter ctx m)
+
+  declarator-visits : {t : ℕ} (a b c : ℕ) (k r r′ : Forest) (letter ctx : ℕ) → Seen (6 ∷ []) t
+      → visitsIn ys r′ standing ≡ visitsIn ys r declarators
+      → visitsIn ys (more (hd t a b c) (if eqb t 6 then wrapInitializer letter ctx b k else k) r′) standing
+      ≡ visitsIn ys (more (hd t a b c) k r) declarators
+  unfolding visitsIn visitsOf visitsStanding visitsAs actOf next
+  declarator-visits a b c k r r′ letter ctx here i =
+      ap₂ (λ (v w : List (List Line)). [] ∷ (v ++ w)) (initializer-visits k letter ctx b) i
+  declarator-visits {t} a b c k r r′ letter ctx (there e other) i =
+      rw e (ap (λ (v : List (List Line)). spread ys (visitsStanding ys (hd t a b c) k) k v) i)
+
+  declarators-visits : (f : Forest) (letter ctx : ℕ) → visitsIn ys (wrapInitializers letter ctx f) standing ≡ visitsIn ys f declarators
+  unfolding wrapInitializers visitsIn
+  declarators-visits none letter ctx = refl
+  declarators-visits (more h k r) letter ctx =
+      declarator-visits (h .a) (h .b) (h .c) k r (wrapInitializers letter ctx r) letter ctx (seen (6 ∷ []) (h .tag))
+      (declarators-visits r letter ctx)
+
+  using-visits : (u : Bool) (h : Head) (k r r′ : Forest) (letter ctx : ℕ)
+      → visitsIn ys r′ standing ≡ visitsIn ys r takenUp
+      → visitsIn ys (if u then more (asConst h) (wrapInitializers letter ctx k) r′ else more h k r′) standing
+      ≡ spread ys (if u then around (free 1) declarators [] else visitsStanding ys h k) k (visitsIn ys r takenUp)
+  unfolding visitsIn visitsOf visitsStanding visitsAs actOf next asConst
+  using-visits true h k r r′ letter ctx i =
+      ap₂ (λ (v w : List (List Line)). [] ∷ (v ++ w)) (declarators-visits k letter ctx) i
+  using-visits false h k r r′ letter ctx i =
+      ap (λ (v : List (List Line)). spread ys (visitsStanding ys h k) k v) i
+
+  pub list-visits : (f : Forest) (running : Bool) (ctx : ℕ) (needsAwait : Bool)
+      → visitsIn ys (takeUp running ctx needsAwait f) standing ≡ visitsIn ys f takenUp
+  unfolding takeUp visitsIn visitsOf visitsTakenUp next
+  list-visits none running ctx needsAwait = refl
+  list-visits (more h k r) running ctx needsAwait =
+      let awaits = needsAwait || isAwaitUsing h in
+      using-visits (isUsing h) h k r (takeUp running ctx (running && awaits) r) (letterIf awaits) ctx
+      (list-visits r running ctx (running && awaits))
+
+  case-visits : {t : ℕ} (a b c : ℕ) (k r r₁ r₂ : Forest) (ctx : ℕ) (needsAwait : Bool) → Seen (10 ∷ []) t
+      → visitsIn ys r₁ standing ≡ visitsIn ys r cases → visitsIn ys r₂ standing ≡ visitsIn ys r cases
+      → visitsIn ys (if eqb t 10 then more (hd t a b c) (takeUp true ctx needsAwait k) r₁ else more (hd t a b c) k r₂) standing
+      ≡ visitsIn ys (more (hd t a b c) k r) cases
+  unfolding visitsIn visitsOf visitsStanding visitsAs actOf next
+  case-visits a b c k r r₁ r₂ ctx needsAwait here i j =
+      ap₂ (λ (v w : List (List Line)). [] ∷ (v ++ w)) (list-visits k true ctx needsAwait) i
+  case-visits {t} a b c k r r₁ r₂ ctx needsAwait (there e other) i j =
+      rw e (ap (λ (v : List (List Line)). spread ys (visitsStanding ys (hd t a b c) k) k v) j)
+
+  pub cases-visits : (f : Forest) (ctx : ℕ) (needsAwait : Bool) → visitsIn ys (takeUpCases ctx needsAwait f) standing ≡ visitsIn ys f cases
+  unfolding takeUpCases visitsIn
+  cases-visits none ctx needsAwait = refl
+  cases-visits (more h k r) ctx needsAwait =
+      case-visits (h .a) (h .b) (h .c) k r (takeUpCases ctx (needsAwait || anyAwaitUsing k) r) (takeUpCases ctx needsAwait r) ctx needsAwait
+      (seen (10 ∷ []) (h .tag))
+      (cases-visits r ctx (needsAwait || anyAwaitUsing k))
+      (cases-visits r ctx needsAwait)
+
+  loop-one : {t : ℕ} (a b c : ℕ) (k : Forest) (ctx : ℕ) → Seen (4 ∷ 7 ∷ []) t → anyUsing (forList (one (hd t a b c) k)) ≡ true
+      → (eqb t 4 ≡ true → anyUsing (forList k) ≡ true → visitsIn ys (takeUpFor ctx k) standing ≡ visitsIn ys k loop)
+      → visitsIn ys (takeUpFor ctx (one (hd t a b c) k)) standing ≡ visitsIn ys (one (hd t a b c) k) loop
+  unfolding visitsIn visitsOf visitsStanding visitsAs actOf takeUpFor forList anyUsing
+  loop-one a b c k ctx here u i =
+      kept-if ys (anyUsing (forList (takeUpFor ctx k))) forLoop (hd 4 a b c) (takeUpFor ctx k) [] (no-loop-left k ctx)
+      ∙ ap (λ (v : List (List Line)). [] ∷ (v ++ [])) (i refl u)
+  loop-one a b c k ctx (there e₄ here) u i =
+      kept-if ys (anyUsing (takeUp false ctx false k)) forLoop (hd 7 a b c) (takeUp false ctx false k) [] (none-left k false ctx false)
+      ∙ ap (λ (v : List (List Line)). [] ∷ (v ++ [])) (list-visits k false ctx false)
+  loop-one a b c k ctx (there e₄ (there e₇ other)) u i = absurd (clash (rw (e₄, e₇)) u)
+
+  pub loop-visits : (f : Forest) (ctx : ℕ) → Labelled f → anyUsing (forList f) ≡ true
+      → visitsIn ys (takeUpFor ctx f) standing ≡ visitsIn ys f loop
+  unfolding takeUpFor visitsIn
+  loop-visits none ctx a u = absurd a
+  loop-visits (more h k none) ctx a u =
+      loop-one (h .a) (h .b) (h .c) k ctx (seen (4 ∷ 7 ∷ []) (h .tag)) u (λ e v. loop-visits k ctx (a e) v)
+  loop-visits (more h k (more h₁ k₁ r₁)) ctx a u = absurd a

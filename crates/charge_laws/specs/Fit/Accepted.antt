@@ -1,0 +1,172 @@
+-- An accepted file is fit, so the counts after any number of visits are those of its charges.
+-- Assumes nothing.
+use mathlib.Core.Path.{_≡_, refl, sym, ap, subst, _∙_}
+use mathlib.Core.Bool.{Bool, true, false, not, _||_, _&&_}
+use mathlib.Core.List.{List, [], _∷_}
+use Prim.Native.Nat.{ℕ, suc}
+use native.Mathlib.Omega.{arith}
+use lib.ListN.{take}
+use lib.Dec.{eqb}
+use borrow.Author.Tests.{eqb-true}
+use Rattle.meaning.specs.Tree.{oneOf, Head, Forest, none, more, count}
+use Rattle.meaning.specs.File.{File, numbersOf, hasChildren, ownNumbers}
+use Rattle.meaning.specs.Grammar.{tagsOf, allowed, is, declaratorRight, right, childrenOf, placeOf, headOf}
+use Rattle.meaning.specs.Reading.{accepted, readFile}
+use Rattle.meaning.specs.declared.Place.{Place}
+use Rattle.meaning.specs.declared.Place.the-variants.{Program, Name, ForOfDeclarator}
+use Rattle.meaning.specs.declared.Field.{Field}
+use Rattle.meaning.specs.Statements.{isUsing}
+use Rattle.meaning.specs.ForOf.{bindsIdentifier}
+use Rattle.meaning.specs.Walk.{start, visits}
+use Rattle.meaning.specs.Charges.{_⊕_, total, figuresIn, figuresAt}
+use Rattle.meaning.specs.VisitCharges.{visitCharges}
+use Rattle.spec_laws.specs.Tags.{Seen, other, here, there, seen, clash, and-left, and-right}
+use Rattle.charge_laws.specs.Growth.ForOf.{Named}
+use Rattle.charge_laws.specs.Growth.Program.{Exports}
+use Rattle.charge_laws.specs.Counts.TakenUp.{Labelled}
+use Rattle.charge_laws.specs.Counts.Program.{Kinds}
+use Rattle.charge_laws.specs.Counts.Enter.{Begins, Body, Left}
+use Rattle.charge_laws.specs.Counts.Fits.{Fits}
+use Rattle.charge_laws.specs.Counts.Figures.{joined, after}
+use Rattle.charge_laws.specs.Fit.Placed.{ReadAs, same-tag, Placed, accepted-placed}
+use Rattle.charge_laws.specs.Fit.Barred.{Bars, barred, no-catch}
+
+-- ---- a field
+
+module _ (p : Place) (syms : ℕ) where
+  -- Labels and exports have one child
+  one-child : {t : ℕ} (a b c d next : ℕ) → Seen (4 ∷ 18 ∷ 19 ∷ []) t → oneOf (4 ∷ 18 ∷ 19 ∷ []) t ≡ true
+      → let x : Field = record { tag = t; a = a; b = b; c = c; d = d; next = next } in
+      right p syms x ≡ true → childrenOf x ≡ 1
+  unfolding right childrenOf ownNumbers hasChildren numbersOf
+  one-child a b c d next here s e = eqb-true b 1 e
+  one-child a b c d next (there e₄ here) s e = eqb-true a 1 e
+  one-child a b c d next (there e₄ (there e₁₈ here)) s e = eqb-true a 1 e
+  one-child a b c d next (there e₄ (there e₁₈ (there e₁₉ other))) s e = absurd (clash (rw (e₄, e₁₈, e₁₉)) s)
+
+  -- a Declarator with pattern 0 has a Name
+  module _ (x : Field) (t : x .tag ≡ 6) (z : x .a ≡ 0) (e : right p syms x ≡ true) where
+    one-name : x .b ≡ 1
+    unfolding right declaratorRight
+    one-name = eqb-true (x .b) 1 (and-left (eqb (x .b) 1) _ (rw (t, z) at e))
+
+    name-first : placeOf p x 0 ≡ Name
+    unfolding placeOf
+    name-first = rw (t, one-name)
+
+    not-empty : 0 ≡ childrenOf x → ⊥
+    unfolding right declaratorRight childrenOf ownNumbers hasChildren numbersOf
+    not-empty n =
+        let c : 0 ≡ x .c = n ∙ rw t in
+        clash refl (and-right (not (is p ForOfDeclarator)) false (rw (t, z, one-name, ← c) at e))
+
+-- tests joined by or
+or-false : (b : Bool) → (b || false) ≡ true → b ≡ true
+or-false true e = e
+or-false false e = e
+
+or-true : (b : Bool) → (b || true) ≡ true
+or-true true = refl
+or-true false = refl
+
+-- a Declaration's only number is its kind
+own-kind : {t : ℕ} (a b c d next : ℕ) → Seen (5 ∷ []) t
+    → let h = headOf (record { tag = t; a = a; b = b; c = c; d = d; next = next }) in
+    isUsing h ≡ true → oneOf (3 ∷ 4 ∷ []) (h .a) ≡ true
+unfolding isUsing headOf ownNumbers hasChildren numbersOf
+own-kind a b c d next here u = or-false (oneOf (3 ∷ 4 ∷ []) a) u
+own-kind a b c d next (there e other) u = absurd (clash (rw e) u)
+
+-- ---- a record read
+
+module _ {syms : ℕ} {p : Place} {x : Field} {h : Head} {k : Forest} (q : ReadAs syms p x h k) where
+  has-one : oneOf (4 ∷ 18 ∷ 19 ∷ []) (h .tag) ≡ true → count k ≡ 1
+  has-one e =
+      q .children
+      ∙ one-child p syms (x .a) (x .b) (x .c) (x .d) (x .next) (seen (4 ∷ 18 ∷ 19 ∷ []) (x .tag)) (rw (same-tag q) at e) (q .numbers)
+
+  using-kind : isUsing h ≡ true → oneOf (3 ∷ 4 ∷ []) (h .a) ≡ true
+  using-kind u =
+      let k = own-kind (x .a) (x .b) (x .c) (x .d) (x .next) (seen (5 ∷ []) (x .tag)) in
+      rw (q .head) (k (rw (q .head) at u))
+
+  -- a Declarator with pattern 0, as a field
+  of-identifier : (eqb (h .tag) 6 && eqb (h .a) 0) ≡ true → (x .tag ≡ 6) × (x .a ≡ 0)
+  unfolding headOf ownNumbers hasChildren numbersOf
+  of-identifier e =
+      let t : x .tag ≡ 6 = sym (same-tag q) ∙ eqb-true (h .tag) 6 (and-left (eqb (h .tag) 6) (eqb (h .a) 0) e) in
+      let a : h .a ≡ x .a = ap (λ (v : Head). v .a) (q .head) ∙ rw t in
+      (t, sym a ∙ eqb-true (h .a) 0 (and-right (eqb (h .tag) 6) (eqb (h .a) 0) e))
+
+-- ---- lists
+
+-- the body of a ForOf is no Declaration
+pub body-bars-5 : (p : Place) (x : Field) → x .tag ≡ 8 → Bars 5 (placeOf p x 2)
+unfolding Bars placeOf allowed tagsOf
+body-bars-5 p x e = rw e
+
+module _ (syms : ℕ) where
+  exports : (f : Forest) (place : ℕ → Place) (i : ℕ) → Placed syms place i f → Exports f
+  exports none place i q = tt
+  exports (more h k r) place i q = ((λ e. has-one (q .1) (rw e (or-true (eqb (h .tag) 4)))), exports r place (suc i) (q .3))
+
+  kinds : (f : Forest) (place : ℕ → Place) (i : ℕ) → Placed syms place i f → Kinds f
+  kinds none place i q = tt
+  kinds (more h k r) place i q = (using-kind (q .1), kinds r place (suc i) (q .3))
+
+  labelled : (f : Forest) (place : ℕ → Place) (i : ℕ) → Placed syms place i f → count f ≡ 1 → Labelled f
+  unfolding count
+  labelled none place i q e = absurd (omega arith)
+  labelled (more h k none) place i q e = λ t. labelled k (placeOf (place i) (q .0)) 0 (q .2) (has-one (q .1) (rw t))
+  labelled (more h k (more h₁ k₁ r₁)) place i q e = absurd (omega arith)
+
+  named : (f : Forest) (place : ℕ → Place) (i : ℕ) → Placed syms place i f → bindsIdentifier f ≡ true → Named f × Begins f
+  unfolding bindsIdentifier allowed tagsOf count
+  named none place i q e = absurd (clash refl e)
+  named (more h none r) place i q e =
+      let o = of-identifier (q .1) e in
+      absurd (not-empty (place i) syms (q .0) (o .0) (o .1) (q .1 .numbers) (q .1 .children))
+  named (more h (more h₁ k₁ r₁) r) place i q e =
+      let o = of-identifier (q .1) e in
+      let n = q .2 .0 .tag in
+      let first = name-first (place i) syms (q .0) (o .0) (o .1) (q .1 .numbers) in (
+        same-tag (q .2 .1) ∙ eqb-true n 26 (or-false (eqb n 26) (subst (λ (p : Place). allowed p n ≡ true) first (q .2 .1 .taken))),
+        tt,
+      )
+
+  body : (f : Forest) (place : ℕ → Place) (i : ℕ) → Bars 5 (place (suc i)) → Placed syms place i f → Body f
+  body none place i bars q = tt
+  body (more h k none) place i bars q = tt
+  body (more h₂ k₂ (more h₃ k₃ r)) place i bars q = barred 5 bars (q .3 .1)
+
+  left : (f : Forest) (place : ℕ → Place) → Bars 5 (place 2) → Placed syms place 0 f → Left f
+  left none place bars q = tt
+  left (more h k r) place bars q =
+      λ e.
+      let n = named k (placeOf (place 0) (q .0)) 0 (q .2) (and-right (isUsing h) (bindsIdentifier k) e) in
+      (n .0, n .1, using-kind (q .1) (and-left (isUsing h) (bindsIdentifier k) e), body r place 1 bars (q .3))
+
+  fits : (f : Forest) (place : ℕ → Place) (i : ℕ) → Placed syms place i f → Fits f
+  fits none place i q = tt
+  fits (more h k r) place i q =
+      let inside = placeOf (place i) (q .0) in (
+        record {
+          items = λ e u. (exports k inside 0 (q .2), kinds k inside 0 (q .2));
+          side = λ e. left k inside (body-bars-5 (place i) (q .0) (eqb-true (q .0 .tag) 8 (rw (same-tag (q .1)) at e))) (q .2);
+          label = λ e. labelled k inside 0 (q .2) (has-one (q .1) (rw e));
+          handler = λ e. no-catch (q .1) (q .2) (rw (eqb-true (h .tag) 12 e));
+        },
+        fits k inside 0 (q .2),
+        fits r place (suc i) (q .3),
+      )
+
+-- ---- the file
+
+-- The tree of an accepted file is fit.
+pub accepted-fit : (b : List ℕ) (f : File) → readFile b ≡ accepted f → Fits (f .tree)
+accepted-fit b f e = let q = accepted-placed b f e in fits (q .0) (f .tree) (λ _. Program) 0 (q .1)
+
+-- After k visits the figures of an accepted file are those read and the first k charges.
+pub accepted-after : (b : List ℕ) (f : File) (k : ℕ) → readFile b ≡ accepted f
+    → figuresAt (visits k (start f)) ≡ figuresIn f ⊕ total (joined (take k (visitCharges f)))
+accepted-after b f k e = after k f (accepted-fit b f e)

@@ -1,0 +1,116 @@
+-- The tree of an accepted file is regular, and not too large for the tally's counters.
+-- Assumes nothing.
+use mathlib.Core.Path.{_≡_, refl, subst}
+use mathlib.Core.Bool.{Bool, true, false, not, _&&_}
+use mathlib.Core.List.{List, [], _∷_}
+use Prim.Native.Nat.{ℕ, _≤_}
+use native.Mathlib.Omega.{arith}
+use lib.Dec.{eqb, ltb}
+use borrow.Author.Tests.{eqb-true}
+use Rattle.meaning.specs.Tree.{if_then_else_, oneOf, Head, Forest, size}
+use Rattle.meaning.specs.File.{File}
+use Rattle.meaning.specs.Grammar.{tagsOf, is, allowed, fieldOf, placeOf}
+use Rattle.meaning.specs.Reading.{accepted, readFile}
+use Rattle.meaning.specs.declared.Place.{Place}
+use Rattle.meaning.specs.declared.Place.the-variants.{ForOfLeft, SwitchExpression}
+use Rattle.meaning.specs.declared.Field.{Field}
+use Rattle.meaning.specs.Charges.{finalFigures}
+use Rattle.tallies.specs.declared.Up.the-variants.{Plain}
+use Rattle.tallies.specs.Tally.{cap, tallyOf, tallyFigures}
+use Rattle.spec_laws.specs.Tags.{clash}
+use Rattle.parsing.specs.Parsed.{RecordAt, same-tag, Parsed, parsed-none, parsed-more}
+use Rattle.parsing.specs.Counts.{parsed-bytes, size-bytes}
+use Rattle.parsing.specs.Files.{file-parsed}
+use Rattle.charge_laws.specs.Totals.Total.{figuresFrom, figures-are}
+use Rattle.charge_laws.specs.Totals.Bound.{tally-cap}
+use Rattle.charge_laws.specs.Totals.Roles.{Lacks, LacksBelow, Regular}
+
+-- ---- places below a record
+
+-- no tag that its place does not take
+Bars : ℕ → Place → Type 0
+Bars n p = allowed p n ≡ false
+
+bars-tag : (b : Bool) (p : Place) (t n : ℕ) → eqb t n ≡ b → allowed p t ≡ true → Bars n p → b ≡ false
+unfolding Bars
+bars-tag true p t n e y bars = absurd (clash bars (subst (λ (x : ℕ). allowed p x ≡ true) (eqb-true t n e) y))
+bars-tag false p t n e y bars = refl
+
+pub either : (P : Place → Type 0) (b : Bool) {p q : Place} → P p → P q → P (if b then p else q)
+either P true x y = x
+either P false x y = y
+
+-- no Program
+below-bars-1 : (p : Place) (x : Field) (k : ℕ) → Bars 1 (placeOf p x k)
+unfolding Bars placeOf allowed tagsOf
+below-bars-1 p x k =
+    let t = x .tag in
+    let P : Place → Type 0 = Bars 1 in
+    either P (eqb t 1) refl
+    (either P (oneOf (2 ∷ 14 ∷ 16 ∷ []) t) refl
+    (either P (eqb t 3) refl
+    (either P (eqb t 4) refl
+    (either P (eqb t 5) (either P (is p ForOfLeft) refl refl)
+    (either P (eqb t 6) (either P (ltb k (x .b)) refl refl)
+    (either P (eqb t 7) (either P (eqb k 0) refl (either P (eqb k 1) refl refl))
+    (either P (eqb t 8) (either P (eqb k 0) refl (either P (eqb k 1) refl refl))
+    (either P (eqb t 9) (either P (eqb k 0) refl refl)
+    (either P (eqb t 10) (either P (ltb k (x .a)) refl refl)
+    (either P (eqb t 11) (either P (eqb k 1 && not (eqb (x .a) 2)) refl refl)
+    (either P (eqb t 12) (either P (ltb k (x .b)) refl refl)
+    (either P (eqb t 13) (either P (eqb k 0) refl refl)
+    (either P (eqb t 15) refl
+    (either P (eqb t 17) refl
+    (either P (eqb t 18) refl
+    (either P (eqb t 19) refl
+    (either P (is p SwitchExpression) refl refl)))))))))))))))))
+
+-- in a Declaration no Declaration
+below-bars-5 : (p : Place) (x : Field) → x .tag ≡ 5 → (k : ℕ) → Bars 5 (placeOf p x k)
+unfolding Bars placeOf allowed tagsOf
+below-bars-5 p x e k = rw e (either (Bars 5) (is p ForOfLeft) refl refl)
+
+-- ---- what is read
+
+module _ {f : List ℕ} {syms : ℕ} where
+  barred : {p : Place} {cur at : ℕ} {m : List ℕ} {h : Head} {k : Forest} (n : ℕ) → Bars n p → RecordAt f syms p cur at m h k
+      → eqb (h .tag) n ≡ false
+  barred {p} {at = at} n bars y = let t = fieldOf f at .tag in rw (same-tag y) (bars-tag (eqb t n) p t n refl (y .field .taken) bars)
+
+  lacks : {place : ℕ → Place} {i cur at next : ℕ} {m o : List ℕ} {t : Forest} (n : ℕ) → ((j : ℕ) → Bars n (place j))
+      → Parsed f syms place i cur at m t next o → Lacks n t
+  lacks n bars parsed-none = tt
+  lacks {i = i} n bars (parsed-more y k r) = (barred n (bars i) y, lacks n bars r)
+
+  lacks-program : {place : ℕ → Place} {i cur at next : ℕ} {m o : List ℕ} {t : Forest} → ((j : ℕ) → Bars 1 (place j))
+      → Parsed f syms place i cur at m t next o → LacksBelow 1 t
+  lacks-program bars parsed-none = tt
+  lacks-program {i = i} bars (parsed-more y k r) =
+      (barred 1 (bars i) y, lacks-program (below-bars-1 _ _) k, lacks-program bars r)
+
+  regular : {place : ℕ → Place} {i cur at next : ℕ} {m o : List ℕ} {t : Forest} → Parsed f syms place i cur at m t next o → Regular t
+  regular parsed-none = tt
+  regular (parsed-more {h = h} y k r) = (
+    λ e. lacks 5 (below-bars-5 _ _ (eqb-true _ 5 (rw (same-tag y) at e))) k,
+    λ e. lacks-program (below-bars-1 _ _) k,
+    regular k,
+    regular r,
+  )
+
+-- ---- the file
+
+pub record Accepted (g : File) : Type 0 where
+  pub regular : Regular (g .tree)
+  pub small : size (g .tree) ≤ 65535
+
+pub accepted-is : (f : List ℕ) (g : File) → readFile f ≡ accepted g → Accepted g
+accepted-is f g e =
+    let q = file-parsed f g e in
+    record { regular = regular (q .tree); small = omega (arith, q .small, parsed-bytes (q .tree), size-bytes (g .tree)) }
+
+-- its final figures are those of its tally, which no cap has changed
+pub accepted-figures : (f : List ℕ) (g : File) → readFile f ≡ accepted g
+    → finalFigures g ≡ figuresFrom g (tallyFigures (cap (tallyOf (g .symbols) (λ _. Plain) 0 (g .tree))))
+accepted-figures f g e =
+    let a = accepted-is f g e in
+    rw (tally-cap (g .symbols) (g .tree) (λ _. Plain) 0 (a .small)) (figures-are g (a .regular))

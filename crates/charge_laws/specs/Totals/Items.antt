@@ -1,0 +1,277 @@
+-- What Program's items are charged.
+-- Assumes nothing.
+use mathlib.Core.Path.{_≡_, refl}
+use mathlib.Core.Bool.{Bool, true, false, not, _||_, _&&_}
+use mathlib.Core.List.{List, [], _∷_}
+use Prim.Native.Nat.{ℕ, suc, _+_}
+use native.Mathlib.Omega.{arith}
+use lib.ListN.{length, length-append}
+use lib.Dec.{eqb}
+use Rattle.meaning.specs.Tree.{if_then_else_, Head, hd, Forest, none, more, count}
+use Rattle.meaning.specs.File.{Symbol}
+use Rattle.meaning.specs.Statements.{isUsing, anyUsing}
+use Rattle.meaning.specs.Contexts.{namesIn}
+use Rattle.meaning.specs.Program.{boundNames, keepsDefault}
+use Rattle.meaning.specs.Charges.{
+  Line,
+  topLevelClass,
+  exportedClass,
+  defaultExport,
+  exportedNames,
+  Figures,
+  _⊕_,
+  lineCharge,
+  total,
+  exportLines,
+  defaultLines,
+  itemLines,
+}
+use Rattle.tallies.specs.declared.Tally.{Tally}
+use Rattle.tallies.specs.declared.Up.{Up}
+use Rattle.tallies.specs.declared.Up.the-variants.{Plain, Part, Item, Default, Exported, ExportedDeclarator, ExportedName, Held, Body}
+use Rattle.tallies.specs.Tally.{upIndex, isUp, upOf, bodyOf, insertsIn, oneIf, isExport, itemsKept, own, tallyOf}
+use Rattle.spec_laws.specs.Tags.{Seen, other, here, there, seen, clash}
+use Rattle.charge_laws.specs.Totals.Roles.{LacksBelow, Regular, upOf-all, bodyOf-all}
+use Rattle.charge_laws.specs.Totals.Lists.{usings-are}
+use Rattle.charge_laws.specs.Totals.Sums.{Same, total-++, total-three, itemFigures, itemsOf, programOwn, no-program, programLines}
+
+-- ---- roles
+
+-- the roles that are no item's and no part of one
+pub data Apart : Up → Type 0 where
+  plain : Apart Plain
+  part : Apart Part
+  held : Apart Held
+  body : {y : ℕ} → Apart (Body y)
+
+-- below such a record all roles are apart
+abbrev Ends : Up → ℕ → Type 0
+Ends u t =
+    (eqb t 1 ≡ false) × ((isUp u Exported && eqb t 5) ≡ false) × ((isUp u ExportedDeclarator && eqb t 6) ≡ false)
+    × ((isUp u Item && eqb t 18) ≡ false) × ((isUp u Item && eqb t 19) ≡ false)
+
+ends-below : (u : Up) (t : ℕ) (kept : Bool) (k : Forest) → Ends u t → (i : ℕ) → Apart (upOf u t kept (bodyOf k) i)
+ends-below u t kept k e i =
+    upOf-all Apart u t kept (bodyOf k) i plain held (λ _. part) (λ d. absurd (clash (e .0) d)) (λ _. bodyOf-all Apart plain (λ y. body) k)
+    (λ d x. absurd (clash (e .1) (rw (x, d)))) (λ d x. absurd (clash (e .2) (rw (x, d))))
+    (λ d x. absurd (clash (e .3) (rw (x, d)))) (λ d x. absurd (clash (e .4) (rw (x, d))))
+
+apart-ends : {u : Up} → Apart u → (t : ℕ) → eqb t 1 ≡ false → Ends u t
+unfolding upIndex
+apart-ends plain t e = (e, refl, refl, refl, refl)
+apart-ends part t e = (e, refl, refl, refl, refl)
+apart-ends held t e = (e, refl, refl, refl, refl)
+apart-ends body t e = (e, refl, refl, refl, refl)
+
+-- what `own` adds by the role
+abbrev roleItems : Up → Head → Figures
+roleItems u h =
+    itemFigures (oneIf (isUp u Item && eqb (h .tag) 15)) (oneIf (isExport u h)) (oneIf (isUp u Exported && eqb (h .tag) 5))
+    (oneIf (isUp u ExportedName && eqb (h .tag) 26))
+
+apart-items : {u : Up} → Apart u → (h : Head) → Same (roleItems u h) (itemFigures 0 0 0 0)
+unfolding upIndex isExport
+apart-items plain h = omega arith
+apart-items part h = omega arith
+apart-items held h = omega arith
+apart-items body h = omega arith
+
+-- ---- lines
+
+length-if : (b : Bool) (y : ℕ) (ys : List ℕ) → length (if b then y ∷ ys else ys) ≡ oneIf b + length ys
+length-if true y ys = omega arith
+length-if false y ys = omega arith
+
+default-charge : (keeps : Bool) → Same (itemFigures 0 (oneIf (not keeps || false)) 0 0) (total (if keeps then [] else defaultExport ∷ []))
+unfolding total lineCharge
+default-charge true = omega arith
+default-charge false = omega arith
+
+-- a Program's items are dropped, if its list has no using
+kept-items : (any : Bool) (kids : Tally) (items : List Line) → Same (itemsOf kids) (total items)
+    → Same
+    (itemFigures (if not any then 0 else kids .classes) (if not any then 0 else kids .exports) (if not any then 0 else kids .declarations)
+    (if not any then 0 else kids .names))
+    (total (if any then items else []))
+unfolding total
+kept-items true kids items e = e
+kept-items false kids items e = omega arith
+
+no-programs : (f : Forest) → LacksBelow 1 f → programLines f ≡ []
+unfolding programLines programOwn
+no-programs none l = refl
+no-programs (more h k r) l = rw (l .0, no-programs k (l .1), no-programs r (l .2))
+
+-- ---- items
+
+-- Each lemma `..-are` is about records beside each other that have one role, the one above it about one of them.
+module _ (asRead : List Symbol) where
+  abbrev below : Up → Head → Forest → Tally
+  below u h k = tallyOf asRead (upOf u (h .tag) (isUsing h) (bodyOf k)) 0 k
+
+  abbrev recordTally : Up → Head → Forest → Tally
+  recordTally u h k = own u (insertsIn asRead u h) h (count k) (below u h k)
+
+  own-items : (u : Up) (h : Head) (k : Forest) → eqb (h .tag) 1 ≡ false
+      → Same (itemsOf (recordTally u h k)) (itemsOf (below u h k) ⊕ roleItems u h)
+  unfolding own itemsKept
+  own-items u h k e = rw e (omega arith)
+
+  -- nothing is charged where all roles are apart
+  no-items : (f : Forest) (ups : ℕ → Up) (i : ℕ) → LacksBelow 1 f → ((j : ℕ) → Apart (ups j))
+      → Same (itemsOf (tallyOf asRead ups i f)) (itemFigures 0 0 0 0)
+  unfolding tallyOf
+  no-items none ups i l a = omega arith
+  no-items (more h k r) ups i l a =
+      let u = ups i in
+      omega (
+        arith,
+        own-items u h k (l .0),
+        apart-items (a i) h,
+        no-items k (upOf u (h .tag) (isUsing h) (bodyOf k)) 0 (l .1)
+            (ends-below u (h .tag) (isUsing h) k (apart-ends (a i) (h .tag) (l .0))),
+        no-items r ups (suc i) (l .2) a,
+      )
+
+  ends-items : (u : Up) (h : Head) (k : Forest) → LacksBelow 1 k → Ends u (h .tag)
+      → Same (itemsOf (recordTally u h k)) (roleItems u h)
+  ends-items u h k l e =
+      omega (
+        arith,
+        own-items u h k (e .0),
+        no-items k (upOf u (h .tag) (isUsing h) (bodyOf k)) 0 l (ends-below u (h .tag) (isUsing h) k e),
+      )
+
+  -- the Names of an exported Declaration, in its Declarators
+  names-are : (f : Forest) (i : ℕ) → LacksBelow 1 f
+      → Same (itemsOf (tallyOf asRead (λ _. ExportedName) i f)) (itemFigures 0 0 0 (length (namesIn f)))
+  unfolding tallyOf namesIn upIndex isExport
+  names-are none i l = omega arith
+  names-are (more h k r) i l =
+      omega (
+        arith,
+        ends-items ExportedName h k (l .1) (l .0, refl, refl, refl, refl),
+        length-if (eqb (h .tag) 26) (h .a) (namesIn r),
+        names-are r (suc i) (l .2),
+      )
+
+  declarator-names : {t : ℕ} (a b c : ℕ) (k : Forest) → LacksBelow 1 k → eqb t 1 ≡ false → Seen (6 ∷ []) t
+      → Same (itemsOf (recordTally ExportedDeclarator (hd t a b c) k)) (itemFigures 0 0 0 (length (if eqb t 6 then namesIn k else [])))
+  unfolding upIndex isExport upOf
+  declarator-names a b c k l e here =
+      omega (arith, own-items ExportedDeclarator (hd 6 a b c) k e, names-are k 0 l)
+  declarator-names {t} a b c k l e (there e₆ other) =
+      rw e₆ (omega (arith, ends-items ExportedDeclarator (hd t a b c) k l (e, refl, e₆, refl, refl)))
+
+  bound-are : (f : Forest) (i : ℕ) → LacksBelow 1 f
+      → Same (itemsOf (tallyOf asRead (λ _. ExportedDeclarator) i f)) (itemFigures 0 0 0 (length (boundNames f)))
+  unfolding tallyOf boundNames
+  bound-are none i l = omega arith
+  bound-are (more h k r) i l =
+      omega (
+        arith,
+        declarator-names (h .a) (h .b) (h .c) k (l .1) (l .0) (seen (6 ∷ []) (h .tag)),
+        length-append (if eqb (h .tag) 6 then namesIn k else []) (boundNames r),
+        bound-are r (suc i) (l .2),
+      )
+
+  -- what 19 and 18 export
+  exported-item : {t : ℕ} (a b c : ℕ) (k : Forest) → LacksBelow 1 k → eqb t 1 ≡ false → Seen (15 ∷ 5 ∷ []) t
+      → Same (itemsOf (recordTally Exported (hd t a b c) k))
+      (total
+      (if eqb t 15 then exportedClass ∷ [] else if eqb t 5 then exportedNames (length (boundNames k)) ∷ [] else []))
+  unfolding upIndex isExport upOf total lineCharge
+  exported-item a b c k l e here = omega (arith, ends-items Exported (hd 15 a b c) k l (refl, refl, refl, refl, refl))
+  exported-item a b c k l e (there e₁₅ here) = omega (arith, own-items Exported (hd 5 a b c) k e, bound-are k 0 l)
+  exported-item {t} a b c k l e (there e₁₅ (there e₅ other)) =
+      rw (e₁₅, e₅) (omega (arith, rw (e₁₅, e₅) at (ends-items Exported (hd t a b c) k l (e, e₅, refl, refl, refl))))
+
+  exports-are : (f : Forest) (i : ℕ) → LacksBelow 1 f → Same (itemsOf (tallyOf asRead (λ _. Exported) i f)) (total (exportLines f))
+  unfolding tallyOf exportLines total
+  exports-are none i l = omega arith
+  exports-are (more h k r) i l =
+      omega (
+        arith,
+        exported-item (h .a) (h .b) (h .c) k (l .1) (l .0) (seen (15 ∷ 5 ∷ []) (h .tag)),
+        total-++ (if eqb (h .tag) 15 then exportedClass ∷ [] else if eqb (h .tag) 5 then exportedNames (length (boundNames k)) ∷ [] else [])
+            (exportLines r),
+        exports-are r (suc i) (l .2),
+      )
+
+  defaults-are : (f : Forest) (i : ℕ) → LacksBelow 1 f → Same (itemsOf (tallyOf asRead (λ _. Default) i f)) (total (defaultLines f))
+  unfolding tallyOf defaultLines total upIndex isExport
+  defaults-are none i l = omega arith
+  defaults-are (more h k r) i l =
+      omega (
+        arith,
+        ends-items Default h k (l .1) (l .0, refl, refl, refl, refl),
+        default-charge (keepsDefault h),
+        total-++ (if keepsDefault h then [] else defaultExport ∷ []) (defaultLines r),
+        defaults-are r (suc i) (l .2),
+      )
+
+  -- Program's items
+  program-item : {t : ℕ} (a b c : ℕ) (k : Forest) → LacksBelow 1 k → eqb t 1 ≡ false → Seen (15 ∷ 18 ∷ 19 ∷ []) t
+      → Same (itemsOf (recordTally Item (hd t a b c) k))
+      (total (if eqb t 15 then topLevelClass ∷ [] else if eqb t 18 then defaultLines k else if eqb t 19 then exportLines k else []))
+  unfolding upIndex isExport upOf total lineCharge
+  program-item a b c k l e here = omega (arith, ends-items Item (hd 15 a b c) k l (refl, refl, refl, refl, refl))
+  program-item a b c k l e (there e₁₅ here) = omega (arith, own-items Item (hd 18 a b c) k e, defaults-are k 0 l)
+  program-item a b c k l e (there e₁₅ (there e₁₈ here)) = omega (arith, own-items Item (hd 19 a b c) k e, exports-are k 0 l)
+  program-item {t} a b c k l e (there e₁₅ (there e₁₈ (there e₁₉ other))) =
+      rw (e₁₅, e₁₈, e₁₉) (omega (arith, rw e₁₅ at (ends-items Item (hd t a b c) k l (e, refl, refl, e₁₈, e₁₉))))
+
+  item-lines-are : (f : Forest) (i : ℕ) → LacksBelow 1 f → Same (itemsOf (tallyOf asRead (λ _. Item) i f)) (total (itemLines f))
+  unfolding tallyOf itemLines total
+  item-lines-are none i l = omega arith
+  item-lines-are (more h k r) i l =
+      omega (
+        arith,
+        program-item (h .a) (h .b) (h .c) k (l .1) (l .0) (seen (15 ∷ 18 ∷ 19 ∷ []) (h .tag)),
+        total-++
+            (if eqb (h .tag) 15 then topLevelClass ∷ []
+            else if eqb (h .tag) 18 then defaultLines k
+            else if eqb (h .tag) 19 then exportLines k
+            else [])
+            (itemLines r),
+        item-lines-are r (suc i) (l .2),
+      )
+
+  -- a Program, and any record
+  program-items : {u : Up} → Apart u → (a b c : ℕ) (k : Forest) → LacksBelow 1 k
+      → Same (itemsOf (recordTally u (hd 1 a b c) k)) (total (programOwn 1 k))
+  unfolding own itemsKept programOwn upOf
+  program-items {u} x a b c k l =
+      rw (usings-are asRead k (λ _. Item) 0)
+      (omega (
+        arith,
+        apart-items x (hd 1 a b c),
+        kept-items (anyUsing k) (tallyOf asRead (λ _. Item) 0 k) (itemLines k) (item-lines-are k 0 l),
+      ))
+
+  record-items : {u : Up} → Apart u → {t : ℕ} (a b c : ℕ) (k : Forest) → (eqb t 1 ≡ true → LacksBelow 1 k) → Seen (1 ∷ []) t
+      → (((j : ℕ) → Apart (upOf u t (isUsing (hd t a b c)) (bodyOf k) j)) → Same (itemsOf (below u (hd t a b c) k)) (total (programLines k)))
+      → Same (itemsOf (recordTally u (hd t a b c) k)) (total (programOwn t k) ⊕ total (programLines k))
+  unfolding total
+  record-items x a b c k l here i = rw (no-programs k (l refl)) (omega (arith, program-items x a b c k (l refl)))
+  record-items {u} x {t} a b c k l (there e other) i =
+      omega (
+        arith,
+        own-items u (hd t a b c) k e,
+        apart-items x (hd t a b c),
+        i (ends-below u t (isUsing (hd t a b c)) k (apart-ends x t e)),
+        no-program t k e,
+      )
+
+  pub items-are : (f : Forest) (ups : ℕ → Up) (i : ℕ) → Regular f → ((j : ℕ) → Apart (ups j))
+      → Same (itemsOf (tallyOf asRead ups i f)) (total (programLines f))
+  unfolding tallyOf programLines total
+  items-are none ups i s a = omega arith
+  items-are (more h k r) ups i s a =
+      omega (
+        arith,
+        record-items (a i) (h .a) (h .b) (h .c) k (s .1) (seen (1 ∷ []) (h .tag))
+            (items-are k (upOf (ups i) (h .tag) (isUsing h) (bodyOf k)) 0 (s .2)),
+        items-are r ups (suc i) (s .3) a,
+        total-three (programOwn (h .tag) k) (programLines k) (programLines r),
+      )

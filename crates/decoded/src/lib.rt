@@ -1,1 +1,0 @@
-// The tree that the bytes of a file say: no code.

@@ -1,4 +1,0 @@
--- Where the walk ends, and what is written there.
-pub mod Last
-pub mod ReadBack
-pub mod Length

@@ -1,1 +1,0 @@
-// Accepted files are fit, and their walk comes to the final figures: no code.

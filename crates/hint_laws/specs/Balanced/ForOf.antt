@@ -1,0 +1,159 @@
+-- A ForOf with a using: what it asked for, its body asks for.
+-- Assumes nothing.
+use mathlib.Core.Path.{_≡_, refl, ap, _∙_}
+use mathlib.Core.Bool.{Bool, true, false}
+use mathlib.Core.List.{List, [], _∷_}
+use Prim.Native.Nat.{ℕ, _+_}
+use native.Mathlib.Omega.{arith}
+use lib.Dec.{eqb}
+use borrow.Author.Tests.{eqb-true}
+use Rattle.meaning.specs.Tree.{if_then_else_, oneOf, Head, hd, Forest, none, more, one, _&_}
+use Rattle.meaning.specs.Scoping.{Store, symbolIn, createSymbol, insertScopeBelow}
+use Rattle.meaning.specs.Shapes.{declaration}
+use Rattle.meaning.specs.Hint.{hintOf, letterOf}
+use Rattle.meaning.specs.Statements.{isUsing, isAwaitUsing}
+use Rattle.meaning.specs.ForOf.{bindsIdentifier, boundSymbol, rebind, insertUsing, wrapBody, enterForOfStatement}
+use Rattle.spec_laws.specs.Tags.{Seen, other, here, there, seen, clash, and-left}
+use Rattle.charge_laws.specs.Growth.Trees.{using-tag}
+use Rattle.charge_laws.specs.Growth.ForOf.{Named}
+use Rattle.charge_laws.specs.Counts.Enter.{Begins}
+use Rattle.hint_laws.specs.Hints.{
+  sumOver,
+  namesOf,
+  ofInitializer,
+  overDeclarators,
+  letterFor,
+  usingsIn,
+  forOfUsing,
+  asksFor,
+  callsIn,
+  calls,
+}
+use Rattle.hint_laws.specs.Balanced.Balance.{waits, doneIn, gives, balanceOf}
+use Rattle.hint_laws.specs.Balanced.Sums.{ownLetter, worth, worth-list, balance-more, balance-none, plain-one}
+use Rattle.hint_laws.specs.Balanced.Alike.{heldBy, of-three}
+use Rattle.hint_laws.specs.Balanced.Lists.{worth-plain}
+use Rattle.hint_laws.specs.Balanced.Tries.{listed}
+use Rattle.hint_laws.specs.Balanced.Contexts.{Keeps, Counts}
+
+module _ (w : List ℕ → ℕ → ℕ) (read : ℕ) where
+  -- what the using of a ForOf asks for, by its symbol and kind
+  abbrev asks : ℕ → ℕ → ℕ
+  asks y kind = w (y ∷ []) (letterOf (hintOf kind))
+
+  held-asks : (kind : ℕ) (k : Forest) → bindsIdentifier k ≡ true → Named k → Begins k
+      → heldBy w read (letterOf (hintOf kind)) k ≡ asks (boundSymbol k) kind
+  unfolding heldBy bindsIdentifier boundSymbol namesOf
+  held-asks kind none b n s = absurd s
+  held-asks kind (more d none r) b n s = absurd s
+  held-asks kind (more d (more x k r₁) r) b n s = rw (b, n)
+
+  -- the using that goes into the body
+  made-using : {kind : ℕ} (y temp : ℕ) (g : Forest) → Seen (3 ∷ 4 ∷ []) kind → oneOf (3 ∷ 4 ∷ []) kind ≡ true
+      → listed w read (declaration kind y (Rattle.meaning.specs.Shapes.read temp) & g) ≡ asks y kind + listed w read g
+  unfolding balanceOf sumOver waits gives asksFor calls callsIn usingsIn doneIn overDeclarators ofInitializer namesOf isUsing isAwaitUsing ownLetter hintOf letterOf _&_
+  made-using y temp g here e = omega arith
+  made-using y temp g (there e₃ here) e = omega arith
+  made-using y temp g (there e₃ (there e₄ other)) e = absurd (clash (rw (e₃, e₄)) e)
+
+  -- ---- the left side
+
+  rebind-counts : (y : ℕ) (k : Forest) → bindsIdentifier k ≡ true → Named k → Counts w read k (rebind y k)
+  unfolding rebind bindsIdentifier callsIn
+  rebind-counts y none b n = (refl, refl)
+  rebind-counts y (more d none r) b n = (refl, refl)
+  rebind-counts y (more d (more x k r₁) r) b n =
+      let six = eqb-true (d .tag) 6 (and-left (eqb (d .tag) 6) (eqb (d .a) 0) b) in
+      let kids = more x k r₁ in
+      let kids′ = more (hd 26 y 0 0) k r₁ in
+      let same : callsIn w read kids′ ≡ callsIn w read kids = rw n in (
+        omega (
+          arith,
+          same,
+          balance-more w read d kids r,
+          balance-more w read d kids′ r,
+          ap (λ (t : ℕ). worth w read t kids) six,
+          ap (λ (t : ℕ). worth w read t kids′) six,
+          worth-plain w read 6 kids refl refl,
+          worth-plain w read 6 kids′ refl refl,
+          balance-more w read x k r₁,
+          balance-more w read (hd 26 y 0 0) k r₁,
+          ap (λ (t : ℕ). worth w read t k) n,
+        ),
+        rw six,
+      )
+
+  -- ---- the ForOf
+
+  module _ (a b c : ℕ) (h₁ : Head) (k₁ : Forest) (h₂ : Head) (k₂ : Forest) (h₃ : Head) (k₃ r : Forest) (st : Store)
+      (u : isUsing h₁ ≡ true) (i : bindsIdentifier k₁ ≡ true) (n : Named k₁) (s : Begins k₁) (kind : oneOf (3 ∷ 4 ∷ []) (h₁ .a) ≡ true) where
+    abbrev h : Head
+    h = hd 8 a b c
+
+    abbrev sides : Forest
+    sides = more h₁ k₁ (more h₂ k₂ (more h₃ k₃ r))
+
+    -- with a body that asks for the using, and a const on the left
+    sides-keep : (y : ℕ) (h₃′ : Head) (k₃′ : Forest)
+        → balanceOf w read (one h₃′ k₃′) ≡ asks (boundSymbol k₁) (h₁ .a) + balanceOf w read (one h₃ k₃)
+        → balanceOf w read (one h (more (hd 5 2 0 0) (rebind y k₁) (more h₂ k₂ (more h₃′ k₃′ r)))) ≡ balanceOf w read (one h sides)
+    unfolding worth waits gives asksFor calls isUsing
+    sides-keep y h₃′ k₃′ e =
+        let k₁′ = rebind y k₁ in
+        let left = hd 5 2 0 0 in
+        let five = using-tag h₁ u in
+        let was : forOfUsing w sides ≡ asks (boundSymbol k₁) (h₁ .a) =
+        of-three w read h₁ k₁ h₂ k₂ h₃ k₃ r
+        ∙ ap (λ (x : Bool). if x then heldBy w read (letterFor h₁) k₁ else 0) u
+        ∙ held-asks (h₁ .a) k₁ i n s in
+        omega (
+          arith,
+          was,
+          of-three w read left k₁′ h₂ k₂ h₃′ k₃′ r,
+          rebind-counts y k₁ i n,
+          balance-more w read h sides none,
+          balance-more w read h (more left k₁′ (more h₂ k₂ (more h₃′ k₃′ r))) none,
+          balance-more w read h₁ k₁ (more h₂ k₂ (more h₃ k₃ r)),
+          balance-more w read left k₁′ (more h₂ k₂ (more h₃′ k₃′ r)),
+          balance-more w read h₂ k₂ (more h₃ k₃ r),
+          balance-more w read h₂ k₂ (more h₃′ k₃′ r),
+          balance-more w read h₃ k₃ r,
+          balance-more w read h₃′ k₃′ r,
+          balance-more w read h₃ k₃ none,
+          balance-more w read h₃′ k₃′ none,
+          ap (λ (t : ℕ). worth w read t k₁) five,
+        )
+
+    pub insert-keeps : h₃ .tag ≡ 2 → Keeps w read h sides (enterForOfStatement false h sides st)
+    unfolding enterForOfStatement insertUsing _&_
+    insert-keeps e =
+        let t = (createSymbol (symbolIn st (boundSymbol k₁) .name) 6 (h .a) 1 st) .0 in
+        let list = declaration (h₁ .a) (boundSymbol k₁) (Rattle.meaning.specs.Shapes.read t) & k₃ in
+        sides-keep t h₃ list
+        (omega (
+          arith,
+          made-using (boundSymbol k₁) t k₃ (seen (3 ∷ 4 ∷ []) (h₁ .a)) kind,
+          balance-more w read h₃ k₃ none,
+          balance-more w read h₃ list none,
+          ap (λ (x : ℕ). worth w read x k₃) e,
+          ap (λ (x : ℕ). worth w read x list) e,
+          worth-list w read k₃,
+          worth-list w read list,
+        ))
+
+    pub wrap-keeps : eqb (h₃ .tag) 5 ≡ false → Keeps w read h sides (enterForOfStatement true h sides st)
+    unfolding enterForOfStatement wrapBody _&_
+    wrap-keeps e =
+        let m = createSymbol (symbolIn st (boundSymbol k₁) .name) 6 (h .a) 1 st in
+        let t = m .0 in
+        let new = (insertScopeBelow (h .a) (one h₃ k₃) (m .1)) .0 in
+        let list = declaration (h₁ .a) (boundSymbol k₁) (Rattle.meaning.specs.Shapes.read t) & one h₃ k₃ in
+        sides-keep t (hd 2 new 0 0) list
+        (omega (
+          arith,
+          made-using (boundSymbol k₁) t (one h₃ k₃) (seen (3 ∷ 4 ∷ []) (h₁ .a)) kind,
+          plain-one w read h₃ k₃ e,
+          balance-more w read (hd 2 new 0 0) list none,
+          balance-none w read,
+          worth-list w read list,
+        ))

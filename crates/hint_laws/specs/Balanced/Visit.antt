@@ -1,0 +1,130 @@
+-- Each visit keeps what a tree gives and still asks for.
+-- Assumes nothing.
+use mathlib.Core.Path.{_≡_, refl, sym, ap, _∙_}
+use mathlib.Core.Bool.{Bool, true, false}
+use mathlib.Core.List.{List, [], _∷_}
+use Prim.Native.Nat.{ℕ, zero, suc, _≤_, _<_}
+use native.Mathlib.Omega.{arith}
+use lib.ListN.{length}
+use borrow.Author.Tests.{lt-leb}
+use Rattle.meaning.specs.Tree.{if_then_else_, Head, Forest, none, more, one, Node, _&_}
+use Rattle.meaning.specs.File.{File}
+use Rattle.meaning.specs.Scoping.{Store}
+use Rattle.meaning.specs.Reading.{accepted, readFile}
+use Rattle.meaning.specs.Walk.{
+  isStaticBlock,
+  enter,
+  leave,
+  Crumb,
+  crumb,
+  Spot,
+  at,
+  leaving,
+  over,
+  currentScope,
+  hoistScope,
+  settle,
+  visit,
+  visits,
+  storeOf,
+  start,
+  plug,
+  treeAt,
+  storeAt,
+  fileAt,
+}
+use Rattle.meaning.specs.Charges.{Figures, figuresIn, figuresAt}
+use Rattle.charge_laws.specs.Counts.Visits.{&-none, &-assoc}
+use Rattle.charge_laws.specs.Counts.Pending.{Pending, spot-fits}
+use Rattle.charge_laws.specs.Fit.Accepted.{accepted-fit, accepted-after}
+use Rattle.hint_laws.specs.Hints.{allRead, ofRead}
+use Rattle.hint_laws.specs.Outline.{same-&}
+use Rattle.hint_laws.specs.Balanced.Balance.{balanceOf, balance}
+use Rattle.hint_laws.specs.Balanced.Sums.{balance-&, beside}
+use Rattle.hint_laws.specs.Balanced.Alike.{plug-same}
+use Rattle.hint_laws.specs.Balanced.Entered.{Opens, enter-keeps, leave-keeps}
+
+-- ---- the tree at a spot
+
+settled-if : (b : Bool) (h : Head) (d d₀ r₀ : Forest) (p : List Crumb) (st : Store)
+    → treeAt (settle (d₀ & one h d) r₀ p st) ≡ plug ((d₀ & one h d) & r₀) p
+    → treeAt (if b then leaving d h d₀ r₀ p st else settle (d₀ & one h d) r₀ p st) ≡ plug (d₀ & more h (d & none) r₀) p
+unfolding treeAt _&_
+settled-if true h d d₀ r₀ p st i = ap (λ (f : Forest). plug (d₀ & more h f r₀) p) (sym (&-none d))
+settled-if false h d d₀ r₀ p st i =
+    i ∙ ap (λ (f : Forest). plug f p) (&-assoc d₀ (one h d) r₀ ∙ ap (λ (f : Forest). d₀ & more h f r₀) (sym (&-none d)))
+
+-- going on leaves the tree as it is
+settled : (p : List Crumb) (d f : Forest) (st : Store) → treeAt (settle d f p st) ≡ plug (d & f) p
+unfolding settle treeAt plug
+settled [] d none st = sym (&-none d)
+settled [] d (more h k r) st = refl
+settled (crumb h d₀ r₀ ∷ p) d none st = settled-if (isStaticBlock h) h d d₀ r₀ p st (settled p (d₀ & one h d) r₀ st)
+settled (c ∷ p) d (more h k r) st = refl
+
+-- ---- one visit
+
+module _ (w : List ℕ → ℕ → ℕ) (read : ℕ) where
+  -- a record is replaced in the tree
+  replaced : (d : Forest) (h : Head) (k r : Forest) (p : List Crumb) (e : Node × Store) → Opens w read h k e
+      → balanceOf w read (plug (d & more (e .0 .head) (e .0 .children) r) p) ≡ balanceOf w read (plug (d & more h k r) p)
+  replaced d h k r p e o =
+      let h′ = e .0 .head in
+      let k′ = e .0 .children in
+      sym
+      (plug-same w read p (d & more h k r) (d & more h′ k′ r) (same-& d (more h k r) (more h′ k′ r) (o .1 r))
+      (omega (
+        arith,
+        balance-& w read d (more h k r),
+        balance-& w read d (more h′ k′ r),
+        beside w read h h′ k k′ r r (o .0) refl,
+      )))
+
+  kept-at : ((y letter : ℕ) → read < y → w (y ∷ []) letter ≡ 0) → (s : Spot) → Pending s → read ≤ length (storeAt s .symbols)
+      → balanceOf w read (treeAt (visit s)) ≡ balanceOf w read (treeAt s)
+  unfolding visit treeAt storeAt plug _&_
+  kept-at old (over tree st) q new = refl
+  kept-at old (at d h k r p st) q new =
+      let e = enter (currentScope p) (hoistScope p) h k st in
+      ap (balanceOf w read) (settled (crumb (e .0 .head) d r ∷ p) none (e .0 .children) (e .1))
+      ∙ replaced d h k r p e (enter-keeps w read old (currentScope p) (hoistScope p) h k st new (q .0 .0))
+  kept-at old (leaving k h d r p st) q new =
+      let e = leave h k st in
+      let single = one (e .0 .head) (e .0 .children) in
+      ap (balanceOf w read) (settled p (d & single) r (e .1) ∙ ap (λ (f : Forest). plug f p) (&-assoc d single r))
+      ∙ replaced d h k r p e (leave-keeps w read h k st new (q .0))
+
+  -- a new name has no weight
+  new-name : (y letter : ℕ) → read < y → ofRead read w (y ∷ []) letter ≡ 0
+  unfolding ofRead allRead
+  new-name y letter new = let e = lt-leb y read new in rw e
+
+-- A VISIT KEEPS WHAT THE TREE GIVES AND STILL ASKS FOR.
+pub visit-balance : (w : List ℕ → ℕ → ℕ) (read : ℕ) (s : Spot) → Pending s → read ≤ length (storeAt s .symbols)
+    → balance w read (treeAt (visit s)) ≡ balance w read (treeAt s)
+unfolding balance
+visit-balance w read s q new = kept-at (ofRead read w) read (new-name w read) s q new
+
+-- ---- all visits
+
+more-visits : (k : ℕ) (s : Spot) → visits (suc k) s ≡ visit (visits k s)
+unfolding visits
+more-visits zero s = refl
+more-visits (suc k) s = more-visits k (visit s)
+
+-- rows are only added
+symbols-grow : (b : List ℕ) (f : File) (k : ℕ) → readFile b ≡ accepted f → length (f .symbols) ≤ length (storeAt (visits k (start f)) .symbols)
+unfolding figuresAt figuresIn fileAt
+symbols-grow b f k e = omega (arith, ap (λ (x : Figures). x .symbols) (accepted-after b f k e))
+
+-- SO THE WALK OF AN ACCEPTED FILE KEEPS WHAT ITS TREE ASKS FOR AND GIVES, for names of rows read.
+pub visits-balance : (w : List ℕ → ℕ → ℕ) (b : List ℕ) (f : File) (k : ℕ) → readFile b ≡ accepted f
+    → balance w (length (f .symbols)) (treeAt (visits k (start f))) ≡ balance w (length (f .symbols)) (f .tree)
+unfolding visits start plug _&_
+visits-balance w b f zero e = ap (balance w (length (f .symbols))) (settled [] none (f .tree) (storeOf f))
+visits-balance w b f (suc k) e =
+    let read = length (f .symbols) in
+    let s = visits k (start f) in
+    ap (λ (x : Spot). balance w read (treeAt x)) (more-visits k (start f))
+    ∙ visit-balance w read s (spot-fits k f (accepted-fit b f e)) (symbols-grow b f k e)
+    ∙ visits-balance w b f k e

@@ -1,0 +1,155 @@
+-- What a StaticBlock becomes when it is left is quiet.
+-- Assumes nothing.
+use mathlib.Core.Path.{_≡_, refl, ap}
+use mathlib.Core.Bool.{Bool, true, false, _||_, _&&_}
+use mathlib.Core.List.{[], _∷_}
+use Prim.Native.Nat.{ℕ, zero, suc}
+use lib.Dec.{eqb}
+use borrow.Author.Tests.{eqb-true}
+use Rattle.meaning.specs.Tree.{if_then_else_, oneOf, Head, hd, Forest, none, more, one, node, _&_}
+use Rattle.meaning.specs.Scoping.{Store, return, insertScopeBetween, moveBinding, setScopeFlags}
+use Rattle.meaning.specs.Shapes.{declaration}
+use Rattle.meaning.specs.HelperLoader.{loadRuntime, loadExternal, helperLoad}
+use Rattle.meaning.specs.Statements.{
+  isUsing,
+  isAwaitUsing,
+  anyUsing,
+  anyAwaitUsing,
+  letterIf,
+  wrapInitializer,
+  wrapInitializers,
+  asConst,
+  takeUp,
+  makeContext,
+  transformStatements,
+  createCatchClause,
+  createFinallyBlock,
+  createTryStmt,
+}
+use Rattle.meaning.specs.Contexts.{exitStaticBlock}
+use Rattle.meaning.specs.Walk.{isStaticBlock, leave}
+use Rattle.spec_laws.specs.Tags.{Seen, other, here, there, seen}
+use Rattle.hint_laws.specs.Outline.{Same, same-refl, same-neutral}
+use Rattle.hint_laws.specs.Lowered.Quiet.{Quiet, AllQuiet, calm, quiet-list}
+
+-- ---- the list that is taken up
+
+initializer-quiet : (f : Forest) (letter ctx m : ℕ) → AllQuiet f → AllQuiet (wrapInitializer letter ctx m f)
+unfolding AllQuiet wrapInitializer _&_
+initializer-quiet none letter ctx m p = tt
+initializer-quiet (more h k r) letter ctx zero p = (calm _ _ refl refl, (p .0, p .1, tt), p .2)
+initializer-quiet (more h k r) letter ctx (suc m) p = (p .0, p .1, initializer-quiet r letter ctx m (p .2))
+
+declarator-quiet : {t : ℕ} (a b c : ℕ) (k r : Forest) (letter ctx : ℕ) → Seen (6 ∷ []) t → Quiet (hd t a b c) k → AllQuiet k → AllQuiet r
+    → AllQuiet (more (hd t a b c) (if eqb t 6 then wrapInitializer letter ctx b k else k) r)
+unfolding AllQuiet
+declarator-quiet a b c k r letter ctx here o p q = (calm _ _ refl refl, initializer-quiet k letter ctx b p, q)
+declarator-quiet a b c k r letter ctx (there e other) o p q = rw e (o, p, q)
+
+initializers-quiet : (f : Forest) (letter ctx : ℕ) → AllQuiet f → AllQuiet (wrapInitializers letter ctx f)
+unfolding AllQuiet wrapInitializers
+initializers-quiet none letter ctx p = tt
+initializers-quiet (more h k r) letter ctx p =
+    declarator-quiet (h .a) (h .b) (h .c) k (wrapInitializers letter ctx r) letter ctx (seen (6 ∷ []) (h .tag)) (p .0) (p .1)
+    (initializers-quiet r letter ctx (p .2))
+
+using-quiet : (u : Bool) (h : Head) (k r : Forest) (letter ctx : ℕ) → Quiet h k → AllQuiet k → AllQuiet r
+    → AllQuiet (if u then more (asConst h) (wrapInitializers letter ctx k) r else more h k r)
+unfolding AllQuiet asConst
+using-quiet true h k r letter ctx o p q = (calm _ _ refl refl, initializers-quiet k letter ctx p, q)
+using-quiet false h k r letter ctx o p q = (o, p, q)
+
+taken-quiet : (f : Forest) (running : Bool) (ctx : ℕ) (needsAwait : Bool) → AllQuiet f → AllQuiet (takeUp running ctx needsAwait f)
+unfolding AllQuiet takeUp
+taken-quiet none running ctx needsAwait p = tt
+taken-quiet (more h k r) running ctx needsAwait p =
+    let awaits = needsAwait || isAwaitUsing h in
+    using-quiet (isUsing h) h k (takeUp running ctx (running && awaits) r) (letterIf awaits) ctx (p .0) (p .1)
+    (taken-quiet r running ctx (running && awaits) (p .2))
+
+-- no using is left in it
+const-if : (b : Bool) → isUsing (hd 5 (if b then 2 else 0) 0 0) ≡ false
+unfolding isUsing
+const-if true = refl
+const-if false = refl
+
+taken-one : (u : Bool) (h : Head) (k k′ r : Forest) → isUsing h ≡ u → anyUsing r ≡ false
+    → anyUsing (if u then more (asConst h) k′ r else more h k r) ≡ false
+unfolding anyUsing asConst
+taken-one true h k k′ r e q = rw (const-if (eqb (h .b) 0), q)
+taken-one false h k k′ r e q = rw (e, q)
+
+taken-list : (f : Forest) (running : Bool) (ctx : ℕ) (needsAwait : Bool) → anyUsing (takeUp running ctx needsAwait f) ≡ false
+unfolding takeUp anyUsing
+taken-list none running ctx needsAwait = refl
+taken-list (more h k r) running ctx needsAwait =
+    let awaits = needsAwait || isAwaitUsing h in
+    taken-one (isUsing h) h k (wrapInitializers (letterIf awaits) ctx k) (takeUp running ctx (running && awaits) r) refl
+    (taken-list r running ctx (running && awaits))
+
+-- ---- the Try
+
+load-quiet : (b : Bool) (cur : ℕ) (st : Store) → AllQuiet (((if b then loadRuntime else loadExternal cur) st) .0)
+unfolding AllQuiet loadRuntime loadExternal
+load-quiet true cur st = (calm _ _ refl refl, tt, tt)
+load-quiet false cur st = (calm _ _ refl refl, tt, tt)
+
+-- around a quiet list without a using
+try-quiet : (scope : ℕ) (list : Forest) (ctx cur ctx′ parent : ℕ) (needsAwait : Bool) (st st′ : Store)
+    → anyUsing list ≡ false → AllQuiet list
+    → AllQuiet ((createTryStmt scope (declaration 0 ctx ((helperLoad cur st) .0) & list) ctx′ parent needsAwait st′) .0 .children)
+unfolding AllQuiet createTryStmt createCatchClause createFinallyBlock helperLoad _&_ anyUsing isUsing
+try-quiet scope list ctx cur ctx′ parent needsAwait st st′ u p = (
+  quiet-list _ _ refl u,
+  (
+    calm _ _ refl refl,
+    (calm _ _ refl refl, (calm _ _ refl refl, tt, load-quiet (eqb (st .mode) 0) cur st), tt),
+    p,
+  ),
+  (
+    calm _ _ refl refl,
+    (calm _ _ refl refl, tt, (quiet-list _ _ refl refl, (calm _ _ refl refl, tt, tt), tt)),
+    (quiet-list _ _ refl refl, (calm _ _ refl refl, tt, tt), tt),
+  ),
+)
+
+-- ---- the StaticBlock
+
+exit-quiet : (h : Head) (k : Forest) (st : Store) → AllQuiet k
+    → let e = exitStaticBlock h k st in
+    AllQuiet (one (e .0 .head) (e .0 .children))
+unfolding AllQuiet exitStaticBlock transformStatements createTryStmt anyUsing isUsing
+exit-quiet h k st p =
+    let c = makeContext (h .a) st in
+    let l = helperLoad (h .a) (c .1) in
+    let s = insertScopeBetween (h .a) 4 (l .1) in
+    let m = moveBinding (c .0) (s .0) (s .1) in
+    let f = setScopeFlags (h .a) 1 (m .1) in (
+      quiet-list _ _ refl refl,
+      (
+        calm _ _ refl refl,
+        try-quiet (h .a) (takeUp false (c .0) false k) (c .0) (h .a) (c .0) (s .0) (anyAwaitUsing k) (c .1) (f .1)
+            (taken-list k false (c .0) false)
+            (taken-quiet k false (c .0) false p),
+        tt,
+      ),
+      tt,
+    )
+
+-- what comes of it: quiet, and beside others as what it was
+left-if : (b : Bool) (h : Head) (k : Forest) (st : Store) → anyUsing k ≡ b → h .tag ≡ 16 → AllQuiet k
+    → let e = (if b then exitStaticBlock h k else return (node h k)) st in
+    AllQuiet (one (e .0 .head) (e .0 .children)) × ((r : Forest) → Same (more h k r) (more (e .0 .head) (e .0 .children) r))
+unfolding AllQuiet exitStaticBlock
+left-if true h k st u e p = (
+  exit-quiet h k st p,
+  (λ r. same-neutral h _ k _ r (ap (λ (t : ℕ). oneOf (5 ∷ 6 ∷ 26 ∷ 27 ∷ []) t) e) refl),
+)
+left-if false h k st u e p = ((quiet-list h k (ap (λ (t : ℕ). eqb t 8) e) u, p, tt), (λ r. same-refl (more h k r)))
+
+-- Leaving a StaticBlock whose children are quiet makes it quiet, and what stands around it sees the same usings.
+pub leave-quiet : (h : Head) (k : Forest) (st : Store) → isStaticBlock h ≡ true → AllQuiet k
+    → let e = leave h k st in
+    AllQuiet (one (e .0 .head) (e .0 .children)) × ((r : Forest) → Same (more h k r) (more (e .0 .head) (e .0 .children) r))
+unfolding leave
+leave-quiet h k st e p = left-if (anyUsing k) h k st refl (eqb-true (h .tag) 16 e) p

@@ -1,3 +1,0 @@
--- The hints of declarations, in a source and in a lowered tree.
-pub mod Hints
-pub mod Outline

@@ -1,1 +1,0 @@
-// What hints a source asks for and a lowered tree gives: no code.

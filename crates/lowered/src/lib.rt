@@ -1,1 +1,0 @@
-// No using is left when the walk is over: no code.

@@ -1,0 +1,230 @@
+-- The tree read off the written bytes of a file is the file's tree, with 0 for the numbers that are not written; it gives the same hints.
+-- Assumes nothing.
+use mathlib.Core.Path.{_≡_, refl, sym, ap, ap₂, _∙_}
+use mathlib.Core.Bool.{Bool, true, false}
+use mathlib.Core.List.{List, [], _∷_, _++_, append-assoc, append-nil}
+use Prim.Native.Nat.{ℕ, zero, suc, _+_, _≤_}
+use native.Mathlib.Omega.{arith}
+use lib.ListN.{length, take, getD, length-append}
+use lib.Dec.{eqb, leb, ltb}
+use borrow.Author.Tests.{eqb-true, leb-true}
+use Rattle.meaning.specs.Tree.{if_then_else_, Head, hd, Forest, none, more, count, size, Row, row, flatten}
+use Rattle.meaning.specs.File.{Scope, Symbol, File, numbersOf, hasChildren, ownNumbers, recordNumbers, written}
+use Rattle.spec_laws.specs.Tags.{and-left}
+use Rattle.hint_laws.specs.Hints.{sumOver, namesOf, ofInitializer, overDeclarators, called, callsIn, calls, given}
+use Rattle.readback_laws.specs.ReadBack.{
+  Read,
+  readAs,
+  fieldsOf,
+  scopeReads,
+  symbolReads,
+  recordReads,
+  fieldsFor,
+  read-back,
+  isRecord,
+  Tagged,
+}
+use Rattle.readback_laws.specs.Length.{complete, record-complete}
+use Rattle.readback_laws.specs.Decoded.{rowOf, recordsOf, treesFrom, treeIn}
+
+-- a record's head as it is written: numbers that are not its own are 0
+unfoldable pub plainHead : Head → Head
+plainHead h =
+    let own = ownNumbers (h .tag) in
+    hd (h .tag) (if ltb 0 own then h .a else 0) (if ltb 1 own then h .b else 0) (if ltb 2 own then h .c else 0)
+
+-- every head of the forest
+unfoldable pub plain : Forest → Forest
+plain none = none
+plain (more h k r) = more (plainHead h) (plain k) (plain r)
+
+-- a record whose n is not written has no children
+abbrev pub Childless : Forest → Type 0
+Childless none = Unit {0}
+Childless (more h k r) = (hasChildren (h .tag) ≡ false → k ≡ none) × Childless k × Childless r
+
+plain-count : (f : Forest) → count (plain f) ≡ count f
+unfolding plain count
+plain-count none = refl
+plain-count (more h k r) = ap suc (plain-count r)
+
+-- ---- a record read back
+
+-- its numbers, as many as are its own, and n
+numbers-back : (own : ℕ) (c : Bool) (t x y z n : ℕ) → own ≤ 3
+    → let ns = take own (x ∷ y ∷ z ∷ []) ++ (if c then n ∷ [] else []) in
+    row
+    (hd t (if ltb 0 own then getD ns 0 0 else 0) (if ltb 1 own then getD ns 1 0 else 0) (if ltb 2 own then getD ns 2 0 else 0))
+    (if c then getD ns own 0 else 0)
+    ≡ row (hd t (if ltb 0 own then x else 0) (if ltb 1 own then y else 0) (if ltb 2 own then z else 0)) (if c then n else 0)
+numbers-back zero true t x y z n l = refl
+numbers-back zero false t x y z n l = refl
+numbers-back (suc zero) true t x y z n l = refl
+numbers-back (suc zero) false t x y z n l = refl
+numbers-back (suc (suc zero)) true t x y z n l = refl
+numbers-back (suc (suc zero)) false t x y z n l = refl
+numbers-back (suc (suc (suc zero))) true t x y z n l = refl
+numbers-back (suc (suc (suc zero))) false t x y z n l = refl
+numbers-back (suc (suc (suc (suc m)))) c t x y z n l = absurd (omega arith)
+
+few-numbers : (t : ℕ) → isRecord t ≡ true → ownNumbers t ≤ 3
+unfolding complete
+few-numbers t e =
+    let few = leb (ownNumbers t) 3 in
+    let all = eqb (ownNumbers t + (if hasChildren t then 1 else 0)) (numbersOf t) in
+    leb-true (ownNumbers t) 3 (and-left few all (record-complete t e))
+
+row-back : (h : Head) (n : ℕ) → isRecord (h .tag) ≡ true
+    → rowOf (readAs (h .tag) (recordNumbers (row h n))) ≡ row (plainHead h) (if hasChildren (h .tag) then n else 0)
+unfolding rowOf recordNumbers plainHead
+row-back h n e =
+    let t = h .tag in
+    numbers-back (ownNumbers t) (hasChildren t) t (h .a) (h .b) (h .c) n (few-numbers t e)
+
+-- with no children n is 0, written or not
+children-back : (c : Bool) (k : Forest) → (c ≡ false → k ≡ none) → (if c then count k else 0) ≡ count (plain k)
+unfolding count plain
+children-back true k e = sym (plain-count k)
+children-back false k e = ap (λ (f : Forest). count (plain f)) (sym (e refl))
+
+-- ---- the records of the fields
+
+records-back : (f : Forest) (rest : List Row) → Tagged f → Childless f
+    → recordsOf (recordReads (flatten f ++ rest)) ≡ flatten (plain f) ++ recordsOf (recordReads rest)
+unfolding recordsOf recordReads flatten plain
+records-back none rest q c = refl
+records-back (more h k r) rest q c =
+    rw (q .0, row-back h (count k) (q .0), children-back (hasChildren (h .tag)) k (c .0), append-assoc (flatten k) (flatten r) rest, append-assoc)
+    (ap (_∷_ (row (plainHead h) (count (plain k))))
+    (records-back k (flatten r ++ rest) (q .1) (c .1)
+    ∙ ap (λ (rs : List Row). flatten (plain k) ++ rs) (records-back r rest (q .2) (c .2))))
+
+scopes-skipped : (ss : List Scope) (rest : List Read) → recordsOf (scopeReads ss ++ rest) ≡ recordsOf rest
+unfolding recordsOf scopeReads
+scopes-skipped [] rest = refl
+scopes-skipped (s ∷ ss) rest = scopes-skipped ss rest
+
+symbols-skipped : (ys : List Symbol) (rest : List Read) → recordsOf (symbolReads ys ++ rest) ≡ recordsOf rest
+unfolding recordsOf symbolReads
+symbols-skipped [] rest = refl
+symbols-skipped (y ∷ ys) rest = symbols-skipped ys rest
+
+rows-back : (g : File) → Tagged (g .tree) → Childless (g .tree) → recordsOf (fieldsOf (written g)) ≡ flatten (plain (g .tree))
+unfolding recordsOf fieldsFor recordReads
+rows-back g q c =
+    let tree = g .tree in
+    let rows = recordReads (flatten tree) in
+    ap recordsOf (read-back g)
+    ∙ scopes-skipped (g .scopes) (symbolReads (g .symbols) ++ rows)
+    ∙ symbols-skipped (g .symbols) rows
+    ∙ ap (λ (rs : List Row). recordsOf (recordReads rs)) (sym (append-nil (flatten tree)))
+    ∙ records-back tree [] q c
+    ∙ append-nil (flatten (plain tree))
+
+-- ---- the tree of the records
+
+-- a forest before other rows
+forest-back : (f : Forest) (fuel : ℕ) (rest : List Row) → size f ≤ fuel → treesFrom fuel (count f) (flatten f ++ rest) ≡ (f, rest)
+unfolding treesFrom count size flatten
+forest-back none zero rest l = refl
+forest-back none (suc fuel) rest l = refl
+forest-back (more h k r) zero rest l = absurd (omega arith)
+forest-back (more h k r) (suc fuel) rest l =
+    rw (append-assoc, forest-back k fuel (flatten r ++ rest) (omega arith), forest-back r fuel rest (omega arith))
+
+-- nothing is read behind the last row
+all-back : (f : Forest) (fuel n : ℕ) → size f ≤ fuel → count f ≤ n → treesFrom fuel n (flatten f) ≡ (f, [])
+unfolding treesFrom count size flatten
+all-back none zero n l m = refl
+all-back none (suc fuel) zero l m = refl
+all-back none (suc fuel) (suc n) l m = refl
+all-back (more h k r) zero n l m = absurd (omega arith)
+all-back (more h k r) (suc fuel) zero l m = absurd (omega arith)
+all-back (more h k r) (suc fuel) (suc n) l m =
+    rw (forest-back k fuel (flatten r) (omega arith), all-back r fuel n (omega arith) (omega arith))
+
+flatten-size : (f : Forest) → (length (flatten f) ≡ size f) × (count f ≤ size f)
+unfolding flatten count size
+flatten-size none = (refl, omega arith)
+flatten-size (more h k r) =
+    let i = flatten-size k in
+    let j = flatten-size r in
+    (omega (arith, length-append (flatten k) (flatten r)), omega arith)
+
+-- The tree read off the written bytes is the tree, with 0 for what is not written.
+pub tree-back : (g : File) → Tagged (g .tree) → Childless (g .tree) → treeIn (written g) ≡ plain (g .tree)
+unfolding treeIn
+tree-back g q c =
+    let f = plain (g .tree) in
+    let s = flatten-size f in
+    ap (λ (rs : List Row). treesFrom (length rs) (length rs) rs .0) (rows-back g q c)
+    ∙ ap (λ (e : Forest × List Row). e .0) (all-back f (length (flatten f)) (length (flatten f)) (omega arith) (omega arith))
+
+-- ---- the hints
+
+-- values that agree where the test passes
+if-same : (b : Bool) (x y : ℕ) → (b ≡ true → x ≡ y) → (if b then x else 0) ≡ (if b then y else 0)
+if-same true x y e = e refl
+if-same false x y e = refl
+
+-- numbers that a tag has are kept
+keeps-a : (h : Head) (t : ℕ) → ltb 0 (ownNumbers t) ≡ true → eqb (h .tag) t ≡ true → plainHead h .a ≡ h .a
+unfolding plainHead
+keeps-a h t o e = rw (eqb-true (h .tag) t e, o)
+
+keeps-b : (h : Head) (t : ℕ) → ltb 1 (ownNumbers t) ≡ true → eqb (h .tag) t ≡ true → plainHead h .b ≡ h .b
+unfolding plainHead
+keeps-b h t o e = rw (eqb-true (h .tag) t e, o)
+
+names-kept : (m : ℕ) (k : Forest) → namesOf m (plain k) ≡ namesOf m k
+unfolding namesOf plain plainHead ownNumbers hasChildren numbersOf
+names-kept zero k = refl
+names-kept (suc m) none = refl
+names-kept (suc m) (more h k r) =
+    ap₂ _∷_ (if-same (eqb (h .tag) 26) (plainHead h .a) (h .a) (keeps-a h 26 refl)) (names-kept m r)
+
+module _ (w : List ℕ → ℕ → ℕ) (read : ℕ) where
+  called-kept : (names : List ℕ) (h : Head) → called w read names (plainHead h) ≡ called w read names h
+  unfolding called plainHead ownNumbers hasChildren numbersOf
+  called-kept names h = go (eqb (h .tag) 27) refl
+    where
+      go : (b : Bool) → eqb (h .tag) 27 ≡ b → called w read names (plainHead h) ≡ called w read names h
+      go true e = rw (keeps-a h 27 refl e, keeps-b h 27 refl e)
+      go false e = rw e
+
+  initializer-kept : (names : List ℕ) (m : ℕ) (k : Forest)
+      → ofInitializer (called w read names) m (plain k) ≡ ofInitializer (called w read names) m k
+  unfolding ofInitializer plain
+  initializer-kept names m none = refl
+  initializer-kept names zero (more h k r) = called-kept names h
+  initializer-kept names (suc m) (more h k r) = initializer-kept names m r
+
+  declarators-kept : (f : Forest) → overDeclarators (called w read) (plain f) ≡ overDeclarators (called w read) f
+  unfolding overDeclarators plain plainHead ownNumbers hasChildren numbersOf
+  declarators-kept none = refl
+  declarators-kept (more h k r) =
+      ap₂ _+_
+      (if-same (eqb (h .tag) 6) _ _
+      (λ e. rw (keeps-b h 6 refl e, names-kept (h .b) k) (initializer-kept (namesOf (h .b) k) (h .b) k)))
+      (declarators-kept r)
+
+  calls-kept : (f : Forest) → callsIn w read (plain f) ≡ callsIn w read f
+  unfolding callsIn plain plainHead
+  calls-kept none = refl
+  calls-kept (more h k r) =
+      ap₂ _+_ (if-same (eqb (h .tag) 5) _ _ (λ e. declarators-kept k)) (calls-kept r)
+
+  record-kept : (h : Head) (k : Forest) → calls w read (plainHead h) (plain k) ≡ calls w read h k
+  unfolding calls plainHead
+  record-kept h k = rw (calls-kept k)
+
+  -- What is not written changes no hint.
+  pub plain-gives : (f : Forest) → given w read (plain f) ≡ given w read f
+  unfolding given sumOver plain
+  plain-gives none = refl
+  plain-gives (more h k r) = ap₂ _+_ (record-kept h k) (ap₂ _+_ (plain-gives k) (plain-gives r))
+
+  -- The tree read off the written bytes gives the hints of the tree.
+  pub hints-back : (g : File) → Tagged (g .tree) → Childless (g .tree)
+      → given w read (treeIn (written g)) ≡ given w read (g .tree)
+  hints-back g q c = ap (given w read) (tree-back g q c) ∙ plain-gives (g .tree)

@@ -1,0 +1,10 @@
+pub mod ReadBack
+pub mod Length
+-- The tree that the bytes of a file say, and that it is the tree written.
+pub mod Decoded
+pub mod Back
+pub mod Taken
+pub mod Contexts
+pub mod Items
+pub mod Entered
+pub mod Childless

@@ -1,1 +1,0 @@
-// The numbers of refusals: no code.

@@ -1,0 +1,4 @@
+pub mod Gap
+pub mod Store
+pub mod Spots
+pub mod Shown

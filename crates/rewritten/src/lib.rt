@@ -1,1 +1,0 @@
-// The rewrites on tables are those of 01. No code.

@@ -1,1 +1,0 @@
-// The walk never outgrows what the source allows: no code.

@@ -1,1 +1,0 @@
-// The tree, the scopes and the symbols that tables show: no code.

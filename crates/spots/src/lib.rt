@@ -1,1 +1,0 @@
-// Where 01's walk stands, held in tables: definitions and theorems, no code.

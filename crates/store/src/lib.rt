@@ -1,1 +1,0 @@
-// The scope and symbol rows of 01's store, held in tables. No code.

@@ -1,0 +1,3 @@
+pub mod Placed
+pub mod Lists
+pub mod Streamed

@@ -1,1 +1,0 @@
-// Telling tags apart in proofs: no code.

@@ -1,1 +1,0 @@
-// The rewrite of a Try's parts on tables is that of 01. No code.
