@@ -21,12 +21,12 @@ use Rattle.meaning.specs.Walk.{
   at,
   leaving,
   over,
+  isOver,
   currentScope,
   hoistScope,
   settle,
   visit,
   visits,
-  walk,
   start,
   plug,
   treeAt,
@@ -39,31 +39,14 @@ use Rattle.charge_laws.specs.Growth.Trees.{more-&}
 use Rattle.charge_laws.specs.Growth.Charged.{counts}
 use Rattle.charge_laws.specs.Growth.Enter.{left}
 use Rattle.charge_laws.specs.Counts.Pending.{Pending, pending-start, pending-visit}
+use Rattle.charge_laws.specs.Counts.Left.{over-stays}
 use Rattle.charge_laws.specs.Fit.Accepted.{accepted-fit}
-use Rattle.charge_laws.specs.Fit.Ends.{isOver}
 use Rattle.charge_laws.specs.Fit.Final.{accepted-final, never-above}
-
--- ---- the walk is its visits
-
--- after the last visit there is no change
-over-stays : (k : ℕ) (s : Spot) → isOver s ≡ true → visits k s ≡ s
-unfolding visits visit isOver
-over-stays zero s o = refl
-over-stays (suc k) (over tree st) o = over-stays k (over tree st) o
-over-stays (suc k) (at d h f r p st) o = absurd (clash refl o)
-over-stays (suc k) (leaving f h d r p st) o = absurd (clash refl o)
-
-pub walk-visits : (n : ℕ) (s : Spot) → walk n s ≡ visits n s
-unfolding walk visits isOver
-walk-visits zero s = refl
-walk-visits (suc n) (over tree st) = sym (over-stays (suc n) (over tree st) refl)
-walk-visits (suc n) (at d h k r p st) = walk-visits n (visit (at d h k r p st))
-walk-visits (suc n) (leaving k h d r p st) = walk-visits n (visit (leaving k h d r p st))
 
 -- The last spot is where twice as many visits lead as there are records in the end.
 pub last-spot : (f : File) → lastSpot f ≡ visits (2 * finalFigures f .records) (start f)
 unfolding lastSpot
-last-spot f = walk-visits (2 * finalFigures f .records) (start f)
+last-spot f = refl
 
 -- ---- each visit uses up one of two for each record
 

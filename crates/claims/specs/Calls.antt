@@ -5,16 +5,16 @@ use mathlib.Core.List.{List}
 use Prim.Native.Nat.{ℕ, _+_, _≤_}
 use native.Mathlib.Omega.{arith}
 use lib.Dec.{eqb}
-use lib.ListN.{length, take}
+use lib.ListN.{length}
 use Rattle.meaning.specs.Tree.{size, flatten}
 use Rattle.meaning.specs.File.{File, written}
 use Rattle.meaning.specs.Reading.{accepted}
 use Rattle.meaning.specs.Walk.{Spot, visits, start, treeAt, storeAt, fileAt}
 use Rattle.meaning.specs.Charges.{Figures, _⊕_, total, figuresIn, figuresAt, finalFigures}
-use Rattle.meaning.specs.VisitCharges.{visitCharges}
+use Rattle.meaning.specs.Due.{dues}
 use Rattle.meaning.specs.Lowering.{admit, lastSpot}
 use Rattle.charge_laws.specs.Counts.Figures.{joined}
-use Rattle.charge_laws.specs.Fit.Accepted.{accepted-after}
+use Rattle.charge_laws.specs.Fit.Accepted.{accepted-charged}
 use Rattle.charge_laws.specs.Fit.Final.{never-above}
 use Rattle.bound_laws.specs.NumbersFit.{Bytes}
 use Rattle.tables.specs.Loops.{turns}
@@ -40,7 +40,7 @@ afterCalls k f r s y = turns k visitF (firstTables f r s y)
 
 -- 01's charges for the visits that k calls make
 abbrev pub chargesOf : ℕ → File → Figures
-chargesOf k f = total (joined (take k (visitCharges f)))
+chargesOf k f = total (joined (dues k (start f)))
 
 module _ (bytes r s y : List ℕ) (f : File) (e : admit bytes (lentIn r s y) ≡ accepted f) where
   module _ (k : ℕ) where
@@ -76,7 +76,7 @@ module _ (bytes r s y : List ℕ) (f : File) (e : admit bytes (lentIn r s y) ≡
         )
 
     charged : figuresAt spot ≡ figuresIn f ⊕ chargesOf k f
-    charged = accepted-after bytes f k (admitted bytes r s y f e .0)
+    charged = accepted-charged bytes f k (admitted bytes r s y f e .0)
 
     pub calls-count : (length (recordsIn after) ≡ size (f .tree) + chargesOf k f .records)
         × (length (scopesIn after) ≡ length (f .scopes) + chargesOf k f .scopes)

@@ -7,8 +7,8 @@
 --   start    answers and leaves `startF file records scopes symbols`,
 --   visit    leaves `visitF` of the tables and the walk that it is handed,
 --   lower    answers and leaves `lowerF file records scopes symbols out`.
--- The claims below are about these same definitions. `readFile`, `figuresOf`, `admit`, `visits`, `visitCharges`, `finalFigures`, `lastSpot`,
--- `written` and `lower` are document 01 (crate meaning). A list of numbers stands for a lent slice; `lentIn r s y` are the rows of tables.
+-- The claims below are about these same definitions. `readFile`, `figuresOf`, `admit`, `visits`, `dues`, `finalFigures`, `lastSpot`, `written` and
+-- `lower` are document 01 (crate meaning); `visitCharges` tells the charges without the walk. A list of numbers stands for a lent slice; `lentIn r s y` are the rows of tables.
 -- Assumes nothing.
 use mathlib.Core.Path.{_≡_, sym, ap, _∙_}
 use mathlib.Core.Bool.{true}
@@ -16,17 +16,19 @@ use mathlib.Core.List.{List, map}
 use mathlib.Core.Logic.{_⊎_}
 use Prim.Native.Nat.{ℕ, _+_, _*_, _≤_, _<_}
 use lib.Dec.{eqb, leb}
-use lib.ListN.{length}
+use lib.ListN.{length, take}
 use Rattle.meaning.specs.Tree.{size, flatten}
 use Rattle.meaning.specs.File.{File, written}
 use Rattle.meaning.specs.Reading.{Outcome, accepted, refused, readFile}
-use Rattle.meaning.specs.Walk.{visits, start, treeAt, storeAt, fileAt}
+use Rattle.meaning.specs.Walk.{isOver, visits, start, treeAt, storeAt, fileAt}
 use Rattle.meaning.specs.Charges.{_⊕_, total, figuresIn, finalFigures}
-use Rattle.meaning.specs.VisitCharges.{visitCharges}
+use Rattle.meaning.specs.Due.{dues}
+use Rattle.charge_laws.specs.VisitCharges.{visitCharges}
 use Rattle.meaning.specs.Lowering.{Lent, Written, checkFile, figuresOf, admit, lastSpot, lower}
 use Rattle.meaning.specs.Table.{table, table-holds}
 use Rattle.charge_laws.specs.Counts.Figures.{joined}
-use Rattle.charge_laws.specs.Fit.Ends.{isOver, walk-ends}
+use Rattle.charge_laws.specs.Fit.Accepted.{accepted-dues}
+use Rattle.charge_laws.specs.Fit.Ends.{walk-ends}
 use Rattle.charge_laws.specs.Fit.Final.{charges-final}
 use Rattle.bound_laws.specs.NumbersFit.{Bytes}
 use Rattle.figures.specs.Figures.{shownFigures}
@@ -138,7 +140,7 @@ pub record Demand3 (bytes r s y : List ℕ) (f : File) (k : ℕ) : Type 0 where
   pub tree : recordsIn (afterCalls k f r s y) ≡ flatten (treeAt (visits k (start f)))
   pub scopes : scopesIn (afterCalls k f r s y) ≡ storeAt (visits k (start f)) .scopes
   pub symbols : symbolsIn (afterCalls k f r s y) ≡ storeAt (visits k (start f)) .symbols
-  -- they number those read and the charges of the visits made
+  -- they number those read and what the visits made are charged, each by what it does
   pub recordCount : length (recordsIn (afterCalls k f r s y)) ≡ size (f .tree) + chargesOf k f .records
   pub scopeCount : length (scopesIn (afterCalls k f r s y)) ≡ length (f .scopes) + chargesOf k f .scopes
   pub symbolCount : length (symbolsIn (afterCalls k f r s y)) ≡ length (f .symbols) + chargesOf k f .symbols
@@ -146,6 +148,8 @@ pub record Demand3 (bytes r s y : List ℕ) (f : File) (k : ℕ) : Type 0 where
   pub recordsMost : length (recordsIn (afterCalls k f r s y)) ≤ finalFigures f .records
   pub scopesMost : length (scopesIn (afterCalls k f r s y)) ≤ finalFigures f .scopes
   pub symbolsMost : length (symbolsIn (afterCalls k f r s y)) ≤ finalFigures f .symbols
+  -- these charges, in order, are an account from the source alone
+  pub charges : dues k (start f) ≡ take k (visitCharges f)
   -- the final figures follow from the source alone: those read and all charges
   pub final : finalFigures f ≡ figuresIn f ⊕ total (joined (visitCharges f))
   -- the walk has as many visits as charges, and where it is over is its last spot
@@ -181,6 +185,7 @@ demand-3 bytes r s y f b e k =
       recordsMost = most .0;
       scopesMost = most .1;
       symbolsMost = most .2;
+      charges = accepted-dues bytes f k read;
       final = sym (charges-final bytes f read);
       ends = walk-ends bytes f k read;
       last = last-is bytes f k read;

@@ -11,11 +11,10 @@ use Rattle.meaning.specs.Tree.{if_then_else_, Head, Forest, none, more}
 use Rattle.meaning.specs.File.{File}
 use Rattle.meaning.specs.Reading.{accepted, readFile}
 use Rattle.meaning.specs.Statements.{isUsing}
-use Rattle.meaning.specs.Walk.{Spot, at, leaving, over, visits, start, treeAt}
+use Rattle.meaning.specs.Walk.{Spot, at, leaving, over, isOver, visits, start, treeAt}
 use Rattle.meaning.specs.Charges.{finalFigures}
 use Rattle.meaning.specs.Lowering.{lastSpot}
 use Rattle.spec_laws.specs.Tags.{clash}
-use Rattle.charge_laws.specs.Fit.Ends.{isOver}
 use Rattle.hint_laws.specs.Hints.{sumOver, overDeclarators, takesUp, ofRead, asked, called, given}
 use Rattle.hint_laws.specs.Requested.Asked.{OldCalls, accepted-old, overs-none, calls-none, asked-by-kind, asked-of-read}
 use Rattle.hint_laws.specs.Balanced.Balance.{letterIn, waits, doneIn, gives, balanceOf, balance}

@@ -11,12 +11,11 @@ use borrow.Author.Tests.{not-true, leb-true, le-leb, le-ltb}
 use Rattle.meaning.specs.Tree.{if_then_else_, Forest, none, more}
 use Rattle.meaning.specs.File.{File, written}
 use Rattle.meaning.specs.Reading.{Outcome, accepted, refused, _>>=_, _>>_, ensure}
-use Rattle.meaning.specs.Walk.{Spot, at, leaving, over, visits, start, treeAt, fileAt}
+use Rattle.meaning.specs.Walk.{Spot, at, leaving, over, isOver, visits, start, treeAt, fileAt}
 use Rattle.meaning.specs.Charges.{Figures, figuresAt, finalFigures}
 use Rattle.meaning.specs.Lowering.{checkOutput, admit, lastSpot, lower}
 use Rattle.spec_laws.specs.Tags.{clash, and-left, and-right}
 use Rattle.charge_laws.specs.Totals.Fits.{accepted-fits}
-use Rattle.charge_laws.specs.Fit.Ends.{isOver}
 use Rattle.bound_laws.specs.Numbers.{TreeWithin}
 use Rattle.bound_laws.specs.NumbersFit.{Bytes, numbers-fit}
 use Rattle.figures.specs.declared.Figured.{Figured}

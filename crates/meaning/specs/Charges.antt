@@ -1,12 +1,15 @@
 -- The charges, found in the source (01, "Charges"), and the final figures.
 -- Assumes nothing.
+use mathlib.Core.Path.{_≡_, refl}
 use mathlib.Core.List.{List, [], _∷_, _++_}
 use mathlib.Core.Bool.{not, _&&_}
 use Prim.Native.Nat.{ℕ, _+_, _*_}
 use lib.ListN.{length}
 use lib.Dec.{eqb, ltb}
+use Rattle.meaning.specs.Numbers.Tag
+use Rattle.meaning.specs.Numbers.Mode
 use Rattle.meaning.specs.Tree.{if_then_else_, oneOf, Head, Forest, none, more, count, size}
-use Rattle.meaning.specs.File.{Symbol, File, fieldBytes}
+use Rattle.meaning.specs.File.{Symbol, File, numbersOf, fieldBytes, settingsBytes, scopeBytes, symbolBytes}
 use Rattle.meaning.specs.Statements.{isUsing, anyUsing}
 use Rattle.meaning.specs.Contexts.{anyCaseUsing}
 use Rattle.meaning.specs.Program.{boundNames, keepsDefault}
@@ -49,26 +52,88 @@ x ⊕ y =
 
 -- so many rows, and contexts; the last number is the bytes of the records alone
 abbrev pub charge : ℕ → ℕ → ℕ → ℕ → ℕ → Figures
-charge r s y c b = figures r s y c (b + (7 * s + 11 * y))
+charge r s y c b = figures r s y c (b + (scopeBytes * s + symbolBytes * y))
+
+-- The bytes of the records that are made. A context makes a Try, the context's declaration, a Catch and the last Block; in all but a Block
+-- statement also the Block around the list.
+abbrev pub contextBytes : ℕ
+contextBytes = 83
+
+abbrev pub innerContextBytes : ℕ
+innerContextBytes = 90
+
+abbrev pub blockBytes : ℕ
+blockBytes = 7
+
+abbrev pub callBytes : ℕ
+callBytes = 9
+
+-- a ForOf's using in its body, and with a Block around it; a class's var
+abbrev pub forOfBytes : ℕ
+forOfBytes = 26
+
+abbrev pub forOfBlockBytes : ℕ
+forOfBlockBytes = 33
+
+abbrev pub classBytes : ℕ
+classBytes = 21
+
+-- a Module line instead of 18 or 19: with one Specifier and a var, and as more Specifiers come
+abbrev pub exportBytes : ℕ
+exportBytes = 32
+
+abbrev pub lineBytes : ℕ
+lineBytes = 4
+
+abbrev pub specifierBytes : ℕ
+specifierBytes = 7
+
+-- the bytes of records with these tags
+unfoldable pub bytesOf : List ℕ → ℕ
+bytesOf [] = 0
+bytesOf (t ∷ ts) = fieldBytes t + bytesOf ts
+
+abbrev contextTags : List ℕ
+contextTags =
+    Tag.Try
+    ∷ Tag.Declaration ∷ Tag.Declarator ∷ Tag.Name ∷ Tag.Load
+    ∷ Tag.Catch ∷ Tag.Name ∷ Tag.Block ∷ Tag.Step
+    ∷ Tag.Block ∷ Tag.Step
+    ∷ []
+
+abbrev varTags : List ℕ
+varTags = Tag.Declaration ∷ Tag.Declarator ∷ Tag.Name ∷ []
+
+-- THEY ARE the bytes of those records.
+pub bytes-made
+    : (contextBytes ≡ bytesOf contextTags) × (innerContextBytes ≡ bytesOf (Tag.Block ∷ contextTags)) × (blockBytes ≡ bytesOf (Tag.Block ∷ []))
+    × (callBytes ≡ bytesOf (Tag.Call ∷ [])) × (forOfBytes ≡ bytesOf (varTags ++ Tag.Read ∷ []))
+    × (forOfBlockBytes ≡ bytesOf (Tag.Block ∷ (varTags ++ Tag.Read ∷ []))) × (classBytes ≡ bytesOf varTags)
+    × (bytesOf (Tag.DefaultExport ∷ []) + exportBytes ≡ bytesOf (Tag.ModuleLine ∷ Tag.Specifier ∷ varTags))
+    × (bytesOf (Tag.ExportedDeclaration ∷ []) + exportBytes ≡ bytesOf (Tag.ModuleLine ∷ Tag.Specifier ∷ varTags))
+    × (bytesOf (Tag.ExportedDeclaration ∷ []) + lineBytes ≡ bytesOf (Tag.ModuleLine ∷ []))
+    × (specifierBytes ≡ bytesOf (Tag.Specifier ∷ []))
+unfolding bytesOf fieldBytes numbersOf
+bytes-made = (refl, refl, refl, refl, refl, refl, refl, refl, refl, refl, refl)
 
 unfoldable pub contextCharge : Kind → Figures
-contextCharge ofBlock = charge 11 3 2 1 83
-contextCharge ofBody = charge 12 4 2 1 90
-contextCharge ofStaticBlock = charge 12 4 2 1 90
-contextCharge ofTryPart = charge 12 4 2 1 90
-contextCharge ofFor = charge 12 4 2 1 90
-contextCharge ofSwitch = charge 12 4 2 1 90
+contextCharge ofBlock = charge 11 3 2 1 contextBytes
+contextCharge ofBody = charge 12 4 2 1 innerContextBytes
+contextCharge ofStaticBlock = charge 12 4 2 1 innerContextBytes
+contextCharge ofTryPart = charge 12 4 2 1 innerContextBytes
+contextCharge ofFor = charge 12 4 2 1 innerContextBytes
+contextCharge ofSwitch = charge 12 4 2 1 innerContextBytes
 
 unfoldable pub lineCharge : Line → Figures
 lineCharge (context k) = contextCharge k
-lineCharge (wrapped n) = charge n 0 0 0 (9 * n)
-lineCharge forOf = charge 4 0 1 0 26
-lineCharge forOfBlock = charge 5 1 1 0 33
-lineCharge programBlock = charge 1 1 0 0 7
-lineCharge topLevelClass = charge 3 0 1 0 21
-lineCharge exportedClass = charge 4 0 1 0 32
-lineCharge defaultExport = charge 4 0 1 0 32
-lineCharge (exportedNames n) = charge n 0 0 0 (4 + 7 * n)
+lineCharge (wrapped n) = charge n 0 0 0 (callBytes * n)
+lineCharge forOf = charge 4 0 1 0 forOfBytes
+lineCharge forOfBlock = charge 5 1 1 0 forOfBlockBytes
+lineCharge programBlock = charge 1 1 0 0 blockBytes
+lineCharge topLevelClass = charge 3 0 1 0 classBytes
+lineCharge exportedClass = charge 4 0 1 0 exportBytes
+lineCharge defaultExport = charge 4 0 1 0 exportBytes
+lineCharge (exportedNames n) = charge n 0 0 0 (lineBytes + specifierBytes * n)
 lineCharge helper = charge 0 0 1 0 0
 
 unfoldable pub total : List Line → Figures
@@ -80,7 +145,7 @@ total (l ∷ ls) = lineCharge l ⊕ total ls
 -- the Declarators with an initializer
 unfoldable pub initializers : Forest → ℕ
 initializers none = 0
-initializers (more h k r) = (if eqb (h .tag) 6 && ltb (h .b) (count k) then 1 else 0) + initializers r
+initializers (more h k r) = (if eqb (h .tag) Tag.Declarator && ltb (h .b) (count k) then 1 else 0) + initializers r
 
 -- those of its usings
 unfoldable pub wraps : Forest → ℕ
@@ -89,7 +154,7 @@ wraps (more h k r) = (if isUsing h then initializers k else 0) + wraps r
 
 unfoldable pub caseWraps : Forest → ℕ
 caseWraps none = 0
-caseWraps (more h k r) = (if eqb (h .tag) 10 then wraps k else 0) + caseWraps r
+caseWraps (more h k r) = (if eqb (h .tag) Tag.Case then wraps k else 0) + caseWraps r
 
 -- a list that gets a context, if it has a using
 unfoldable pub contextLines : Kind → Forest → List Line
@@ -101,8 +166,8 @@ contextLines kind list = if anyUsing list then context kind ∷ wrapped (wraps l
 unfoldable pub exportLines : Forest → List Line
 exportLines none = []
 exportLines (more h k r) =
-    (if eqb (h .tag) 15 then exportedClass ∷ []
-    else if eqb (h .tag) 5 then exportedNames (length (boundNames k)) ∷ []
+    (if eqb (h .tag) Tag.Class then exportedClass ∷ []
+    else if eqb (h .tag) Tag.Declaration then exportedNames (length (boundNames k)) ∷ []
     else [])
     ++ exportLines r
 
@@ -113,9 +178,9 @@ defaultLines (more h k r) = (if keepsDefault h then [] else defaultExport ∷ []
 unfoldable pub itemLines : Forest → List Line
 itemLines none = []
 itemLines (more h k r) =
-    (if eqb (h .tag) 15 then topLevelClass ∷ []
-    else if eqb (h .tag) 18 then defaultLines k
-    else if eqb (h .tag) 19 then exportLines k
+    (if eqb (h .tag) Tag.Class then topLevelClass ∷ []
+    else if eqb (h .tag) Tag.DefaultExport then defaultLines k
+    else if eqb (h .tag) Tag.ExportedDeclaration then exportLines k
     else [])
     ++ itemLines r
 
@@ -143,13 +208,13 @@ forOfLines forOfWrap k = forOfBlock ∷ wrapped 1 ∷ context ofBlock ∷ []
 unfoldable pub ownLines : List Symbol → ℕ → Head → Forest → List Line
 ownLines asRead up h k =
     let t = h .tag in
-    if eqb t 1 then (if anyUsing k then programBlock ∷ (contextLines ofBlock k ++ itemLines k) else [])
-    else if eqb t 2 then contextLines (if oneOf (11 ∷ 12 ∷ []) up then ofTryPart else ofBlock) k
-    else if eqb t 7 then contextLines ofFor k
-    else if eqb t 8 then forOfLines (forOfAct asRead k) k
-    else if eqb t 9 then (if anyCaseUsing k then context ofSwitch ∷ wrapped (caseWraps k) ∷ [] else [])
-    else if eqb t 14 then contextLines ofBody k
-    else if eqb t 16 then contextLines ofStaticBlock k
+    if eqb t Tag.Program then (if anyUsing k then programBlock ∷ (contextLines ofBlock k ++ itemLines k) else [])
+    else if eqb t Tag.Block then contextLines (if oneOf (Tag.Try ∷ Tag.Catch ∷ []) up then ofTryPart else ofBlock) k
+    else if eqb t Tag.For then contextLines ofFor k
+    else if eqb t Tag.ForOf then forOfLines (forOfAct asRead k) k
+    else if eqb t Tag.Switch then (if anyCaseUsing k then context ofSwitch ∷ wrapped (caseWraps k) ∷ [] else [])
+    else if eqb t Tag.Body then contextLines ofBody k
+    else if eqb t Tag.StaticBlock then contextLines ofStaticBlock k
     else []
 
 unfoldable pub treeLines : List Symbol → ℕ → Forest → List Line
@@ -172,7 +237,7 @@ figuresIn f =
     (length (f .scopes))
     (length (f .symbols))
     0
-    (7 + (7 * length (f .scopes) + (11 * length (f .symbols) + recordBytes (f .tree))))
+    (settingsBytes + (scopeBytes * length (f .scopes) + (symbolBytes * length (f .symbols) + recordBytes (f .tree))))
 
 -- those of the walk as it stands
 unfoldable pub figuresAt : Spot → Figures
@@ -180,7 +245,7 @@ figuresAt s = figuresIn (fileAt s) ⊕ figures 0 0 0 (storeAt s .contexts) 0
 
 -- the runtime helper, once, if there is a context
 unfoldable pub helperLines : ℕ → Figures → List Line
-helperLines mode due = if eqb mode 0 && not (eqb (due .contexts) 0) then helper ∷ [] else []
+helperLines mode due = if eqb mode Mode.Runtime && not (eqb (due .contexts) 0) then helper ∷ [] else []
 
 -- the final figures: those read and all charges
 unfoldable pub finalFigures : File → Figures

@@ -4,6 +4,9 @@ use mathlib.Core.Bool.{Bool, true, false, _||_, _&&_}
 use mathlib.Core.List.{List, [], _∷_}
 use Prim.Native.Nat.{ℕ}
 use lib.Dec.{eqb}
+use Rattle.meaning.specs.Numbers.Tag
+use Rattle.meaning.specs.Numbers.Kind
+use Rattle.meaning.specs.Numbers.ScopeFlag
 use Rattle.meaning.specs.Tree.{if_then_else_, Head, hd, Forest, none, more, one, Node, node, single, _&_}
 use Rattle.meaning.specs.Shapes.{declaration}
 use Rattle.meaning.specs.Scoping.{
@@ -45,17 +48,17 @@ enterFunctionBody cur hoist list = do
   st ← get
   moveBindings (blockScopedIn (st .symbols) cur (st .symbols) 1) scope
   try ← createTryStmt scope (t .statements) (t .usingCtx) cur (t .needsAwait)
-  return (node (hd 14 0 0 0) (single try))
+  return (node (hd Tag.Body 0 0 0) (single try))
 
 -- `exit_static_block`: the block gets a new scope above its old one, which is strict and no static block any more
 unfoldable pub exitStaticBlock : Head → Forest → Change Node
 exitStaticBlock h list = do
   t ← transformStatements (h .a) (h .a) list
-  scope ← insertScopeBetween (h .a) 4
+  scope ← insertScopeBetween (h .a) ScopeFlag.StaticBlock
   moveBinding (t .usingCtx) scope
-  setScopeFlags (h .a) 1
+  setScopeFlags (h .a) ScopeFlag.Strict
   try ← createTryStmt (h .a) (t .statements) (t .usingCtx) scope (t .needsAwait)
-  return (node (hd 16 scope 0 0) (single try))
+  return (node (hd Tag.StaticBlock scope 0 0) (single try))
 
 -- ---- try parts
 
@@ -66,24 +69,24 @@ transformTryBlock cur hoist h list = do
   scope ← insertScopeBetween (h .a) 0
   try ← createTryStmt (h .a) (t .statements) (t .usingCtx) scope (t .needsAwait)
   moveBinding (t .usingCtx) hoist
-  return (node (hd 2 scope 0 0) (single try))
+  return (node (hd Tag.Block scope 0 0) (single try))
 
 -- the Names that stand directly in a list, as symbols
 unfoldable pub namesIn : Forest → List ℕ
 namesIn none = []
-namesIn (more h k r) = if eqb (h .tag) 26 then h .a ∷ namesIn r else namesIn r
+namesIn (more h k r) = if eqb (h .tag) Tag.Name then h .a ∷ namesIn r else namesIn r
 
 -- the scope of the last Block of a list, or 0
 unfoldable pub lastBlockScope : Forest → ℕ
 lastBlockScope none = 0
-lastBlockScope (more h k none) = if eqb (h .tag) 2 then h .a else 0
+lastBlockScope (more h k none) = if eqb (h .tag) Tag.Block then h .a else 0
 lastBlockScope (more h k (more h′ k′ r)) = lastBlockScope (more h′ k′ r)
 
 -- a part of a Try or a Catch has a using
 unfoldable pub anyPartUsing : Forest → Bool
 anyPartUsing none = false
 anyPartUsing (more h k r) =
-    (eqb (h .tag) 2 && anyUsing k) || (eqb (h .tag) 12 && anyPartUsing k) || anyPartUsing r
+    (eqb (h .tag) Tag.Block && anyUsing k) || (eqb (h .tag) Tag.Catch && anyPartUsing k) || anyPartUsing r
 
 -- a Catch, its parts being transformed by `inside`: its names move with a lowered body
 unfoldable pub transformHandler : Head → Forest → Change Forest → Change Node
@@ -97,8 +100,8 @@ unfoldable pub transformTryParts : ℕ → ℕ → Forest → Change Forest
 transformTryParts cur hoist none = return none
 transformTryParts cur hoist (more h k r) = do
   part ←
-      if eqb (h .tag) 12 then transformHandler h k (transformTryParts cur hoist k)
-      else if eqb (h .tag) 2 && anyUsing k then transformTryBlock cur hoist h k
+      if eqb (h .tag) Tag.Catch then transformHandler h k (transformTryParts cur hoist k)
+      else if eqb (h .tag) Tag.Block && anyUsing k then transformTryBlock cur hoist h k
       else return (node h k)
   rest ← transformTryParts cur hoist r
   return (single part & rest)
@@ -113,11 +116,11 @@ enterTryStatement cur hoist h parts = do
 -- the children of the For below some Labels; of these only the first can be a Declaration
 unfoldable pub forList : Forest → Forest
 forList none = none
-forList (more h k r) = if eqb (h .tag) 4 then forList k else if eqb (h .tag) 7 then k else none
+forList (more h k r) = if eqb (h .tag) Tag.Label then forList k else if eqb (h .tag) Tag.For then k else none
 
 unfoldable pub takeUpFor : ℕ → Forest → Forest
 takeUpFor ctx none = none
-takeUpFor ctx (more h k r) = more h (if eqb (h .tag) 4 then takeUpFor ctx k else takeUp false ctx false k) r
+takeUpFor ctx (more h k r) = more h (if eqb (h .tag) Tag.Label then takeUpFor ctx k else takeUp false ctx false k) r
 
 -- `transform_for_statement`: the For with its Labels goes into the Try
 unfoldable pub transformForStatement : ℕ → ℕ → Head → Forest → Change Node
@@ -125,24 +128,24 @@ transformForStatement cur hoist h k = do
   ctx ← makeContext hoist
   scope ← insertScopeBelow cur (one h k)
   helper ← helperLoad cur
-  createTryStmt scope (declaration 0 ctx helper & takeUpFor ctx (one h k)) ctx cur (anyAwaitUsing (forList (one h k)))
+  createTryStmt scope (declaration Kind.Var ctx helper & takeUpFor ctx (one h k)) ctx cur (anyAwaitUsing (forList (one h k)))
 
 -- ---- switch
 
 -- a using stands directly in a Case; one of them is an `await using`
 unfoldable pub anyCaseUsing : Forest → Bool
 anyCaseUsing none = false
-anyCaseUsing (more h k r) = (eqb (h .tag) 10 && anyUsing k) || anyCaseUsing r
+anyCaseUsing (more h k r) = (eqb (h .tag) Tag.Case && anyUsing k) || anyCaseUsing r
 
 unfoldable pub anyCaseAwaitUsing : Forest → Bool
 anyCaseAwaitUsing none = false
-anyCaseAwaitUsing (more h k r) = (eqb (h .tag) 10 && anyAwaitUsing k) || anyCaseAwaitUsing r
+anyCaseAwaitUsing (more h k r) = (eqb (h .tag) Tag.Case && anyAwaitUsing k) || anyCaseAwaitUsing r
 
 -- the usings of the Cases: the letter comes from the running needs_await
 unfoldable pub takeUpCases : ℕ → Bool → Forest → Forest
 takeUpCases ctx needsAwait none = none
 takeUpCases ctx needsAwait (more h k r) =
-    if eqb (h .tag) 10 then more h (takeUp true ctx needsAwait k) (takeUpCases ctx (needsAwait || anyAwaitUsing k) r)
+    if eqb (h .tag) Tag.Case then more h (takeUp true ctx needsAwait k) (takeUpCases ctx (needsAwait || anyAwaitUsing k) r)
     else more h k (takeUpCases ctx needsAwait r)
 
 -- `transform_switch_statement`: the context is bound in the current scope
@@ -152,4 +155,4 @@ transformSwitchStatement cur h k = do
   scope ← createChildScope cur 0
   changeScopeParent (h .a) scope
   helper ← helperLoad cur
-  createTryStmt scope (declaration 0 ctx helper & one h (takeUpCases ctx false k)) ctx cur (anyCaseAwaitUsing k)
+  createTryStmt scope (declaration Kind.Var ctx helper & one h (takeUpCases ctx false k)) ctx cur (anyCaseAwaitUsing k)

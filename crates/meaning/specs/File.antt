@@ -1,10 +1,12 @@
 -- The bytes of a file (01, "The tree file").
 -- Assumes nothing.
+use mathlib.Core.Path.{_≡_, refl}
 use mathlib.Core.List.{List, [], _∷_, _++_}
 use mathlib.Core.Bool.{Bool, _||_, _&&_}
 use Prim.Native.Nat.{ℕ, _+_, _*_, _-_, _/_, _%_}
 use lib.Dec.{leb}
 use lib.ListN.{length, take}
+use Rattle.meaning.specs.Numbers.Tag
 use Rattle.meaning.specs.Tree.{if_then_else_, oneOf, Forest, Row, flatten}
 
 -- 41: a scope row
@@ -36,22 +38,45 @@ pub record File : Type 0 where
 -- how many numbers a tag has; 0 for a tag that does not exist
 unfoldable pub numbersOf : ℕ → ℕ
 numbersOf t =
-    if oneOf (14 ∷ 18 ∷ 19 ∷ 25 ∷ 26 ∷ []) t then 1
-    else if oneOf (1 ∷ 2 ∷ 4 ∷ 5 ∷ 7 ∷ 9 ∷ 10 ∷ 11 ∷ 16 ∷ 20 ∷ 24 ∷ 28 ∷ 40 ∷ 41 ∷ []) t then 2
-    else if oneOf (3 ∷ 6 ∷ 8 ∷ 17 ∷ 27 ∷ 29 ∷ []) t then 3
-    else if oneOf (12 ∷ 13 ∷ 15 ∷ 42 ∷ []) t then 4
+    if oneOf (Tag.Body ∷ Tag.DefaultExport ∷ Tag.ExportedDeclaration ∷ Tag.Read ∷ Tag.Name ∷ []) t then 1
+    else if
+      oneOf
+      (Tag.Program ∷ Tag.Block ∷ Tag.Label ∷ Tag.Declaration ∷ Tag.For ∷ Tag.Switch ∷ Tag.Case ∷ Tag.Try ∷ Tag.StaticBlock ∷ Tag.Specifier
+      ∷ Tag.Expression ∷ Tag.Load ∷ Tag.Settings ∷ Tag.Scope ∷ [])
+      t
+    then 2
+    else if oneOf (Tag.Plain ∷ Tag.Declarator ∷ Tag.ForOf ∷ Tag.ModuleLine ∷ Tag.Call ∷ Tag.Step ∷ []) t then 3
+    else if oneOf (Tag.Catch ∷ Tag.Function ∷ Tag.Class ∷ Tag.Symbol ∷ []) t then 4
     else 0
 
 -- the records whose last number is n, and how many numbers stand before it
 unfoldable pub hasChildren : ℕ → Bool
-hasChildren t = leb 1 t && leb t 19 || oneOf (24 ∷ 27 ∷ []) t
+hasChildren t = leb Tag.Program t && leb t Tag.ExportedDeclaration || oneOf (Tag.Expression ∷ Tag.Call ∷ []) t
 
 unfoldable pub ownNumbers : ℕ → ℕ
 ownNumbers t = if hasChildren t then numbersOf t - 1 else numbersOf t
 
--- the bytes of a field
+-- the bytes of a field: its head, and two for each number
+abbrev pub headBytes : ℕ
+headBytes = 3
+
 unfoldable pub fieldBytes : ℕ → ℕ
-fieldBytes t = 3 + 2 * numbersOf t
+fieldBytes t = headBytes + 2 * numbersOf t
+
+-- those of the settings, of a scope row and of a symbol row
+abbrev pub settingsBytes : ℕ
+settingsBytes = 7
+
+abbrev pub scopeBytes : ℕ
+scopeBytes = 7
+
+abbrev pub symbolBytes : ℕ
+symbolBytes = 11
+
+pub row-bytes
+    : (fieldBytes Tag.Settings ≡ settingsBytes) × (fieldBytes Tag.Scope ≡ scopeBytes) × (fieldBytes Tag.Symbol ≡ symbolBytes)
+unfolding fieldBytes numbersOf
+row-bytes = (refl, refl, refl)
 
 unfoldable pub twoBytes : List ℕ → List ℕ
 twoBytes [] = []
@@ -67,11 +92,11 @@ recordNumbers r =
 
 unfoldable pub scopeFields : List Scope → List ℕ
 scopeFields [] = []
-scopeFields (s ∷ ss) = field 41 (s .parent ∷ s .flags ∷ []) ++ scopeFields ss
+scopeFields (s ∷ ss) = field Tag.Scope (s .parent ∷ s .flags ∷ []) ++ scopeFields ss
 
 unfoldable pub symbolFields : List Symbol → List ℕ
 symbolFields [] = []
-symbolFields (y ∷ ys) = field 42 (y .name ∷ y .flags ∷ y .scope ∷ y .made ∷ []) ++ symbolFields ys
+symbolFields (y ∷ ys) = field Tag.Symbol (y .name ∷ y .flags ∷ y .scope ∷ y .made ∷ []) ++ symbolFields ys
 
 unfoldable pub recordFields : List Row → List ℕ
 recordFields [] = []
@@ -80,5 +105,5 @@ recordFields (r ∷ rs) = field (r .head .tag) (recordNumbers r) ++ recordFields
 -- the file as written
 unfoldable pub written : File → List ℕ
 written f =
-    field 40 (f .mode ∷ f .isModule ∷ [])
+    field Tag.Settings (f .mode ∷ f .isModule ∷ [])
     ++ (scopeFields (f .scopes) ++ (symbolFields (f .symbols) ++ recordFields (flatten (f .tree))))

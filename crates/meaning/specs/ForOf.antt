@@ -2,8 +2,11 @@
 -- Assumes nothing.
 use mathlib.Core.Bool.{Bool, false, not, _&&_}
 use mathlib.Core.List.{List}
-use Prim.Native.Nat.{ℕ}
+use Prim.Native.Nat.{ℕ, _+_}
 use lib.Dec.{eqb}
+use Rattle.meaning.specs.Numbers.Tag
+use Rattle.meaning.specs.Numbers.Kind
+use Rattle.meaning.specs.Numbers.SymbolFlag
 use Rattle.meaning.specs.Tree.{if_then_else_, Head, hd, Forest, none, more, one, Node, node, _&_}
 use Rattle.meaning.specs.File.{Symbol}
 use Rattle.meaning.specs.Shapes.{block, declaration, read}
@@ -25,7 +28,7 @@ use Rattle.meaning.specs.Scoping.{
 -- the one Declarator has pattern 0: it binds an identifier
 unfoldable pub bindsIdentifier : Forest → Bool
 bindsIdentifier none = false
-bindsIdentifier (more h k r) = eqb (h .tag) 6 && eqb (h .a) 0
+bindsIdentifier (more h k r) = eqb (h .tag) Tag.Declarator && eqb (h .a) 0
 
 -- its symbol
 unfoldable pub boundSymbol : Forest → ℕ
@@ -36,7 +39,7 @@ boundSymbol (more h (more h₁ k₁ r₁) r) = h₁ .a
 unfoldable pub rebind : ℕ → Forest → Forest
 rebind y none = none
 rebind y (more h none r) = more h none r
-rebind y (more h (more h₁ k₁ r₁) r) = more h (more (hd 26 y 0 0) k₁ r₁) r
+rebind y (more h (more h₁ k₁ r₁) r) = more h (more (hd Tag.Name y 0 0) k₁ r₁) r
 
 -- The scope binds the symbol's name, by the symbol rows as read.
 unfoldable pub bindsName : List Symbol → ℕ → ℕ → Bool
@@ -64,8 +67,8 @@ enterForOfStatement wraps h (more h₁ k₁ none) = return (node h (one h₁ k�
 enterForOfStatement wraps h (more h₁ k₁ (more h₂ k₂ none)) = return (node h (more h₁ k₁ (one h₂ k₂)))
 enterForOfStatement wraps h (more h₁ k₁ (more h₂ k₂ (more h₃ k₃ r))) = do
   st ← get
-  temp ← generateUid (symbolIn st (boundSymbol k₁) .name) (h .a) 6
+  temp ← generateUid (symbolIn st (boundSymbol k₁) .name) (h .a) (SymbolFlag.BlockScoped + SymbolFlag.Const)
   body ←
       if wraps then wrapBody (boundSymbol k₁) (declaration (h₁ .a) (boundSymbol k₁) (read temp)) (h .a) (one h₃ k₃)
       else insertUsing (boundSymbol k₁) (declaration (h₁ .a) (boundSymbol k₁) (read temp)) h₃ k₃
-  return (node h (more (hd 5 2 0 0) (rebind temp k₁) (more h₂ k₂ (body & r))))
+  return (node h (more (hd Tag.Declaration Kind.Const 0 0) (rebind temp k₁) (more h₂ k₂ (body & r))))

@@ -5,8 +5,17 @@ use mathlib.Core.Bool.{Bool, true, false, not, _||_, _&&_}
 use Prim.Native.Nat.{ℕ, _+_, _*_, _-_}
 use lib.ListN.{length, getD, set}
 use lib.Dec.{eqb, leb, ltb}
+use Rattle.meaning.specs.Numbers.Tag
+use Rattle.meaning.specs.Numbers.Kind
+use Rattle.meaning.specs.Numbers.Form
+use Rattle.meaning.specs.Numbers.LineForm
+use Rattle.meaning.specs.Numbers.Parts
+use Rattle.meaning.specs.Numbers.Mode
+use Rattle.meaning.specs.Numbers.Letter
+use Rattle.meaning.specs.Numbers.StepForm
+use Rattle.meaning.specs.Numbers.Refusal
 use Rattle.meaning.specs.Tree.{if_then_else_, oneOf, Head, hd}
-use Rattle.meaning.specs.File.{numbersOf, hasChildren, ownNumbers, fieldBytes}
+use Rattle.meaning.specs.File.{numbersOf, hasChildren, ownNumbers, headBytes, fieldBytes, scopeBytes}
 use Rattle.meaning.specs.declared.Place.{Place}
 use Rattle.meaning.specs.declared.Place.the-variants.{
   Settings,
@@ -40,61 +49,62 @@ use Rattle.meaning.specs.declared.Reading.the-variants.{Whole, Refused}
 -- ---- tags and places
 
 abbrev pub statements : List ℕ
-statements = 2 ∷ 3 ∷ 4 ∷ 7 ∷ 8 ∷ 9 ∷ 11 ∷ 13 ∷ 15 ∷ 29 ∷ []
+statements =
+    Tag.Block ∷ Tag.Plain ∷ Tag.Label ∷ Tag.For ∷ Tag.ForOf ∷ Tag.Switch ∷ Tag.Try ∷ Tag.Function ∷ Tag.Class ∷ Tag.Step ∷ []
 
 abbrev pub expressions : List ℕ
-expressions = 13 ∷ 15 ∷ 24 ∷ 25 ∷ 27 ∷ 28 ∷ []
+expressions = Tag.Function ∷ Tag.Class ∷ Tag.Expression ∷ Tag.Read ∷ Tag.Call ∷ Tag.Load ∷ []
 
 -- the tags that a place takes
 unfoldable pub tagsOf : Place → List ℕ
-tagsOf Settings = 40 ∷ []
-tagsOf ScopeRow = 41 ∷ []
-tagsOf SymbolRow = 42 ∷ []
-tagsOf Program = 1 ∷ []
-tagsOf ProgramItem = 5 ∷ 17 ∷ 18 ∷ 19 ∷ statements
-tagsOf ListItem = 5 ∷ statements
+tagsOf Settings = Tag.Settings ∷ []
+tagsOf ScopeRow = Tag.Scope ∷ []
+tagsOf SymbolRow = Tag.Symbol ∷ []
+tagsOf Program = Tag.Program ∷ []
+tagsOf ProgramItem = Tag.Declaration ∷ Tag.ModuleLine ∷ Tag.DefaultExport ∷ Tag.ExportedDeclaration ∷ statements
+tagsOf ListItem = Tag.Declaration ∷ statements
 tagsOf Statement = statements
 tagsOf PlainItem = statements ++ expressions
-tagsOf Declarator = 6 ∷ []
-tagsOf ForOfDeclarator = 6 ∷ []
-tagsOf Name = 26 ∷ []
-tagsOf ForLeft = 5 ∷ expressions
-tagsOf ForOfLeft = 5 ∷ expressions
+tagsOf Declarator = Tag.Declarator ∷ []
+tagsOf ForOfDeclarator = Tag.Declarator ∷ []
+tagsOf Name = Tag.Name ∷ []
+tagsOf ForLeft = Tag.Declaration ∷ expressions
+tagsOf ForOfLeft = Tag.Declaration ∷ expressions
 tagsOf Expression = expressions
 tagsOf SwitchExpression = expressions
-tagsOf Case = 10 ∷ []
-tagsOf TryPart = 2 ∷ []
-tagsOf Catch = 12 ∷ []
-tagsOf Body = 14 ∷ []
-tagsOf ClassItem = 16 ∷ expressions
+tagsOf Case = Tag.Case ∷ []
+tagsOf TryPart = Tag.Block ∷ []
+tagsOf Catch = Tag.Catch ∷ []
+tagsOf Body = Tag.Body ∷ []
+tagsOf ClassItem = Tag.StaticBlock ∷ expressions
 tagsOf DefaultExport = expressions
-tagsOf ExportedDeclaration = 5 ∷ 13 ∷ 15 ∷ []
-tagsOf Specifier = 20 ∷ []
+tagsOf ExportedDeclaration = Tag.Declaration ∷ Tag.Function ∷ Tag.Class ∷ []
+tagsOf Specifier = Tag.Specifier ∷ []
 
--- The forms of Function and Class that a place takes: 0 declaration, 1 expression. Both name a scope, so a Switch's expression takes none.
+-- The forms of Function and Class that a place takes. Both name a scope, so a Switch's expression takes none.
 unfoldable pub formsOf : Place → List ℕ
 formsOf Settings = []
 formsOf ScopeRow = []
 formsOf SymbolRow = []
 formsOf Program = []
-formsOf ProgramItem = 0 ∷ []
-formsOf ListItem = 0 ∷ []
-formsOf Statement = 0 ∷ []
-formsOf PlainItem = 0 ∷ 1 ∷ []
+formsOf ProgramItem = Form.Declaration ∷ []
+formsOf ListItem = Form.Declaration ∷ []
+formsOf Statement = Form.Declaration ∷ []
+formsOf PlainItem = Form.Declaration ∷ Form.Expression ∷ []
 formsOf Declarator = []
 formsOf ForOfDeclarator = []
 formsOf Name = []
-formsOf ForLeft = 1 ∷ []
-formsOf ForOfLeft = 1 ∷ []
-formsOf Expression = 1 ∷ []
+formsOf ForLeft = Form.Expression ∷ []
+formsOf ForOfLeft = Form.Expression ∷ []
+formsOf Expression = Form.Expression ∷ []
 formsOf SwitchExpression = []
 formsOf Case = []
 formsOf TryPart = []
 formsOf Catch = []
 formsOf Body = []
-formsOf ClassItem = 1 ∷ []
-formsOf DefaultExport = 0 ∷ 1 ∷ []
-formsOf ExportedDeclaration = 0 ∷ []
+formsOf ClassItem = Form.Expression ∷ []
+formsOf DefaultExport = Form.Declaration ∷ Form.Expression ∷ []
+formsOf ExportedDeclaration = Form.Declaration ∷ []
 formsOf Specifier = []
 
 -- places are told apart by their order
@@ -140,7 +150,7 @@ two f at = getD f at 0 * 256 + getD f (at + 1) 0
 
 -- number i of the field at an offset, which has `len` of them
 unfoldable pub number : List ℕ → ℕ → ℕ → ℕ → ℕ
-number f at len i = if ltb i len then two f (at + 3 + 2 * i) else 0
+number f at len i = if ltb i len then two f (at + headBytes + 2 * i) else 0
 
 unfoldable pub fieldOf : List ℕ → ℕ → Field
 fieldOf f at =
@@ -159,10 +169,10 @@ fieldOf f at =
 unfoldable pub fieldAt : List ℕ → Place → ℕ → Reading
 fieldAt f p at =
     let t = getD f at 0 in
-    if ltb (length f) (at + 3) then Refused 2 at
-    else if not (allowed p t) then Refused 3 at
-    else if not (eqb (two f (at + 1)) (2 * numbersOf t)) then Refused 4 at
-    else if ltb (length f) (at + fieldBytes t) then Refused 2 at
+    if ltb (length f) (at + headBytes) then Refused Refusal.Cut at
+    else if not (allowed p t) then Refused Refusal.WrongTag at
+    else if not (eqb (two f (at + 1)) (2 * numbersOf t)) then Refused Refusal.WrongLength at
+    else if ltb (length f) (at + fieldBytes t) then Refused Refusal.Cut at
     else Whole (fieldOf f at)
 
 -- ---- the numbers
@@ -180,7 +190,7 @@ symbolRight scopes x = leb 1 (x .a) && leb (x .b) 127 && isRow scopes (x .c) && 
 
 -- 5: a kind, and at least one Declarator; below a ForOf exactly one
 unfoldable pub declarationRight : Place → Field → Bool
-declarationRight p x = leb (x .a) 4 && (if is p ForOfLeft then eqb (x .b) 1 else leb 1 (x .b))
+declarationRight p x = leb (x .a) Kind.AwaitUsing && (if is p ForOfLeft then eqb (x .b) 1 else leb 1 (x .b))
 
 -- 6: pattern 0 has one Name; an initializer may follow the Names, except below a ForOf
 unfoldable pub declaratorRight : Place → Field → Bool
@@ -190,7 +200,7 @@ declaratorRight p x =
 
 -- 11: two parts or three
 unfoldable pub tryRight : Field → Bool
-tryRight x = if eqb (x .a) 3 then eqb (x .b) 3 else isRow 2 (x .a) && eqb (x .b) 2
+tryRight x = if eqb (x .a) Parts.Both then eqb (x .b) 3 else isRow Parts.Finalizer (x .a) && eqb (x .b) 2
 
 -- 13 and 15: a form that fits the place, a scope, a symbol or 0
 unfoldable pub functionRight : Place → ℕ → Field → Bool
@@ -200,38 +210,38 @@ functionRight p syms x = formFits p (x .a) && leb 1 (x .b) && leb (x .c) syms &&
 unfoldable pub classRight : Place → ℕ → Field → Bool
 classRight p syms x =
     formFits p (x .a) && leb 1 (x .b) && leb (x .c) syms
-    && (eqb (x .a) 1 || leb 1 (x .c) || is p DefaultExport)
+    && (eqb (x .a) Form.Expression || leb 1 (x .c) || is p DefaultExport)
 
 -- The numbers of a record are right at its place, with so many symbol rows; whether it may name its scope row is `mayName`'s.
 unfoldable pub right : Place → ℕ → Field → Bool
 right p syms x =
     let t = x .tag in
-    if eqb t 1 then eqb (x .a) 1
-    else if eqb t 2 then leb 1 (x .a)
-    else if eqb t 3 then true
-    else if eqb t 4 then eqb (x .b) 1
-    else if eqb t 5 then declarationRight p x
-    else if eqb t 6 then declaratorRight p x
-    else if eqb t 7 then leb 1 (x .a) && eqb (x .b) 3
-    else if eqb t 8 then leb 1 (x .a) && leb (x .b) 1 && eqb (x .c) 3
-    else if eqb t 9 then leb 1 (x .a) && leb 1 (x .b)
-    else if eqb t 10 then leb (x .a) 1 && leb (x .a) (x .b)
-    else if eqb t 11 then tryRight x
-    else if eqb t 12 then leb 1 (x .a) && eqb (x .d) (x .b + 1)
-    else if eqb t 13 then functionRight p syms x
-    else if eqb t 14 then true
-    else if eqb t 15 then classRight p syms x
-    else if eqb t 16 then leb 1 (x .a)
-    else if eqb t 17 then leb (x .a) 3
-    else if eqb t 18 then eqb (x .a) 1
-    else if eqb t 19 then eqb (x .a) 1
-    else if eqb t 20 then isRow syms (x .a) && leb 1 (x .b)
-    else if eqb t 24 then true
-    else if eqb t 25 then isRow syms (x .a)
-    else if eqb t 26 then isRow syms (x .a)
-    else if eqb t 27 then leb (x .a) 1 && isRow syms (x .b) && eqb (x .c) 1
-    else if eqb t 28 then leb (x .a) 1 && leb (x .b) syms
-    else if eqb t 29 then leb (x .a) 2 && isRow syms (x .b) && leb (x .c) syms
+    if eqb t Tag.Program then eqb (x .a) 1
+    else if eqb t Tag.Block then leb 1 (x .a)
+    else if eqb t Tag.Plain then true
+    else if eqb t Tag.Label then eqb (x .b) 1
+    else if eqb t Tag.Declaration then declarationRight p x
+    else if eqb t Tag.Declarator then declaratorRight p x
+    else if eqb t Tag.For then leb 1 (x .a) && eqb (x .b) 3
+    else if eqb t Tag.ForOf then leb 1 (x .a) && leb (x .b) 1 && eqb (x .c) 3
+    else if eqb t Tag.Switch then leb 1 (x .a) && leb 1 (x .b)
+    else if eqb t Tag.Case then leb (x .a) 1 && leb (x .a) (x .b)
+    else if eqb t Tag.Try then tryRight x
+    else if eqb t Tag.Catch then leb 1 (x .a) && eqb (x .d) (x .b + 1)
+    else if eqb t Tag.Function then functionRight p syms x
+    else if eqb t Tag.Body then true
+    else if eqb t Tag.Class then classRight p syms x
+    else if eqb t Tag.StaticBlock then leb 1 (x .a)
+    else if eqb t Tag.ModuleLine then leb (x .a) LineForm.ExportFrom
+    else if eqb t Tag.DefaultExport then eqb (x .a) 1
+    else if eqb t Tag.ExportedDeclaration then eqb (x .a) 1
+    else if eqb t Tag.Specifier then isRow syms (x .a) && leb 1 (x .b)
+    else if eqb t Tag.Expression then true
+    else if eqb t Tag.Read then isRow syms (x .a)
+    else if eqb t Tag.Name then isRow syms (x .a)
+    else if eqb t Tag.Call then leb (x .a) Letter.A && isRow syms (x .b) && eqb (x .c) 1
+    else if eqb t Tag.Load then leb (x .a) Mode.External && leb (x .b) syms
+    else if eqb t Tag.Step then leb (x .a) StepForm.AwaitDispose && isRow syms (x .b) && leb (x .c) syms
     else false
 
 -- ---- children
@@ -250,23 +260,23 @@ childrenOf x =
 unfoldable pub placeOf : Place → Field → ℕ → Place
 placeOf p x k =
     let t = x .tag in
-    if eqb t 1 then ProgramItem
-    else if oneOf (2 ∷ 14 ∷ 16 ∷ []) t then ListItem
-    else if eqb t 3 then PlainItem
-    else if eqb t 4 then Statement
-    else if eqb t 5 then (if is p ForOfLeft then ForOfDeclarator else Declarator)
-    else if eqb t 6 then (if ltb k (x .b) then Name else Expression)
-    else if eqb t 7 then (if eqb k 0 then ForLeft else if eqb k 1 then Expression else Statement)
-    else if eqb t 8 then (if eqb k 0 then ForOfLeft else if eqb k 1 then Expression else Statement)
-    else if eqb t 9 then (if eqb k 0 then SwitchExpression else Case)
-    else if eqb t 10 then (if ltb k (x .a) then Expression else ListItem)
-    else if eqb t 11 then (if eqb k 1 && not (eqb (x .a) 2) then Catch else TryPart)
-    else if eqb t 12 then (if ltb k (x .b) then Name else TryPart)
-    else if eqb t 13 then (if eqb k 0 then Expression else Body)
-    else if eqb t 15 then ClassItem
-    else if eqb t 17 then Specifier
-    else if eqb t 18 then DefaultExport
-    else if eqb t 19 then ExportedDeclaration
+    if eqb t Tag.Program then ProgramItem
+    else if oneOf (Tag.Block ∷ Tag.Body ∷ Tag.StaticBlock ∷ []) t then ListItem
+    else if eqb t Tag.Plain then PlainItem
+    else if eqb t Tag.Label then Statement
+    else if eqb t Tag.Declaration then (if is p ForOfLeft then ForOfDeclarator else Declarator)
+    else if eqb t Tag.Declarator then (if ltb k (x .b) then Name else Expression)
+    else if eqb t Tag.For then (if eqb k 0 then ForLeft else if eqb k 1 then Expression else Statement)
+    else if eqb t Tag.ForOf then (if eqb k 0 then ForOfLeft else if eqb k 1 then Expression else Statement)
+    else if eqb t Tag.Switch then (if eqb k 0 then SwitchExpression else Case)
+    else if eqb t Tag.Case then (if ltb k (x .a) then Expression else ListItem)
+    else if eqb t Tag.Try then (if eqb k 1 && not (eqb (x .a) Parts.Finalizer) then Catch else TryPart)
+    else if eqb t Tag.Catch then (if ltb k (x .b) then Name else TryPart)
+    else if eqb t Tag.Function then (if eqb k 0 then Expression else Body)
+    else if eqb t Tag.Class then ClassItem
+    else if eqb t Tag.ModuleLine then Specifier
+    else if eqb t Tag.DefaultExport then DefaultExport
+    else if eqb t Tag.ExportedDeclaration then ExportedDeclaration
     else if is p SwitchExpression then SwitchExpression
     else Expression
 
@@ -281,17 +291,20 @@ headOf x =
 -- the scope row that a record has, or 0
 unfoldable pub scopeOf : Head → ℕ
 scopeOf h =
-    if oneOf (1 ∷ 2 ∷ 3 ∷ 7 ∷ 8 ∷ 9 ∷ 12 ∷ 16 ∷ []) (h .tag) then h .a
-    else if oneOf (13 ∷ 15 ∷ []) (h .tag) then h .b
+    if oneOf (Tag.Program ∷ Tag.Block ∷ Tag.Plain ∷ Tag.For ∷ Tag.ForOf ∷ Tag.Switch ∷ Tag.Catch ∷ Tag.StaticBlock ∷ []) (h .tag) then h .a
+    else if oneOf (Tag.Function ∷ Tag.Class ∷ []) (h .tag) then h .b
     else 0
 
 -- the current scope below a record with scope s
 abbrev pub below : ℕ → ℕ → ℕ
 below cur s = if eqb s 0 then cur else s
 
--- scope row s stands at byte 7 * s
+-- The offset of scope row s: the settings before row 1 have as many bytes as a row.
+abbrev pub scopeOffset : ℕ → ℕ
+scopeOffset s = scopeBytes * s
+
 unfoldable pub parentIn : List ℕ → ℕ → ℕ
-parentIn f s = two f (7 * s + 3)
+parentIn f s = two f (scopeOffset s + headBytes)
 
 -- Marks: a number for each scope row, 1 once a record has named it. A record below the scope `cur` may name row s
 -- if there is such a row, its parent is `cur`, and no record has named it; s is 0 for a record without a scope.

@@ -3,6 +3,9 @@
 use Prim.Native.Nat.{ℕ}
 use lib.ListN.{length}
 use lib.Dec.{eqb}
+use Rattle.meaning.specs.Numbers.Mode
+use Rattle.meaning.specs.Numbers.SymbolFlag
+use Rattle.meaning.specs.Numbers.KnownName
 use Rattle.meaning.specs.Tree.{if_then_else_, Forest}
 use Rattle.meaning.specs.Shapes.{load}
 use Rattle.meaning.specs.Scoping.{Change, _>>=_, _>>_, return, get, put, withHelper, generateUid, findBinding}
@@ -11,7 +14,7 @@ use Rattle.meaning.specs.Scoping.{Change, _>>=_, _>>_, return, get, put,
 unfoldable pub makeHelper : Change ℕ
 makeHelper = do
   st ← get
-  y ← generateUid 5 1 (if eqb (st .isModule) 1 then 32 else 1)
+  y ← generateUid KnownName.UsingCtx 1 (if eqb (st .isModule) 1 then SymbolFlag.Import else SymbolFlag.FunctionScoped)
   st′ ← get
   put (withHelper st′ y)
   return y
@@ -20,15 +23,15 @@ unfoldable pub loadRuntime : Change Forest
 loadRuntime = do
   st ← get
   y ← (if eqb (st .helper) 0 then makeHelper else return (st .helper))
-  return (load 0 y)
+  return (load Mode.Runtime y)
 
 -- External: the symbol of `babelHelpers` seen from the current scope, or 0.
 unfoldable pub loadExternal : ℕ → Change Forest
 loadExternal cur = do
   st ← get
-  return (load 1 (findBinding (length (st .scopes)) st cur 1))
+  return (load Mode.External (findBinding (length (st .scopes)) st cur KnownName.BabelHelpers))
 
 unfoldable pub helperLoad : ℕ → Change Forest
 helperLoad cur = do
   st ← get
-  if eqb (st .mode) 0 then loadRuntime else loadExternal cur
+  if eqb (st .mode) Mode.Runtime then loadRuntime else loadExternal cur

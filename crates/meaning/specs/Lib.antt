@@ -1,4 +1,5 @@
 -- What document 01 means, in its order.
+pub mod Numbers
 pub mod Tree
 pub mod File
 pub mod Grammar
@@ -12,7 +13,7 @@ pub mod ForOf
 pub mod Program
 pub mod Walk
 pub mod Charges
-pub mod VisitCharges
+pub mod Due
 pub mod Lowering
 pub mod Hint
 -- 01's cases, computed.

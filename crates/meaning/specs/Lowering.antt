@@ -4,9 +4,11 @@ use mathlib.Core.List.{List}
 use mathlib.Core.Bool.{not, _&&_}
 use Prim.Native.Nat.{ℕ, _*_}
 use lib.Dec.{eqb, leb}
+use Rattle.meaning.specs.Numbers.Mode
+use Rattle.meaning.specs.Numbers.Refusal
 use Rattle.meaning.specs.File.{File, written}
 use Rattle.meaning.specs.Reading.{Outcome, accepted, _>>=_, _>>_, ensure, readFile}
-use Rattle.meaning.specs.Walk.{Spot, start, walk, fileAt}
+use Rattle.meaning.specs.Walk.{Spot, start, visits, fileAt}
 use Rattle.meaning.specs.Charges.{Figures, finalFigures}
 
 -- the rows that are lent
@@ -17,18 +19,18 @@ pub record Lent : Type 0 where
 
 -- 8: inline with a context to make
 unfoldable pub checkMode : File → Outcome (Unit {0})
-checkMode f = ensure (not (eqb (f .mode) 2 && leb 1 (finalFigures f .contexts))) 8 0
+checkMode f = ensure (not (eqb (f .mode) Mode.Inline && leb 1 (finalFigures f .contexts))) Refusal.InlineContext 0
 
 -- 9: too few rows, the first short
 unfoldable pub checkRows : Lent → Figures → Outcome (Unit {0})
 checkRows lent g = do
-  ensure (leb (g .records) (lent .records)) 9 0
-  ensure (leb (g .scopes) (lent .scopes)) 9 1
-  ensure (leb (g .symbols) (lent .symbols)) 9 2
+  ensure (leb (g .records) (lent .records)) Refusal.FewRows 0
+  ensure (leb (g .scopes) (lent .scopes)) Refusal.FewRows 1
+  ensure (leb (g .symbols) (lent .symbols)) Refusal.FewRows 2
 
 -- 10: output shorter than the file to write
 unfoldable pub checkOutput : ℕ → Figures → Outcome (Unit {0})
-checkOutput out g = ensure (leb (g .bytes) out) 10 out
+checkOutput out g = ensure (leb (g .bytes) out) Refusal.ShortOutput out
 
 -- a file that passes the checks up to 8
 unfoldable pub checkFile : List ℕ → Outcome File
@@ -52,7 +54,7 @@ admit bytes lent = do
 
 -- where the last visit leaves the walk: a record is entered once, and a StaticBlock left once
 unfoldable pub lastSpot : File → Spot
-lastSpot f = walk (2 * finalFigures f .records) (start f)
+lastSpot f = visits (2 * finalFigures f .records) (start f)
 
 -- what an accepted lowering writes and answers; `bytes` is the length
 pub record Written : Type 0 where

@@ -5,8 +5,11 @@ use mathlib.Core.Bool.{Bool, true, false, _||_, _&&_}
 use Prim.Native.Nat.{ℕ, zero, suc, _+_, _*_}
 use lib.ListN.{length, getD, replicate}
 use lib.Dec.{eqb, leb}
+use Rattle.meaning.specs.Numbers.Tag
+use Rattle.meaning.specs.Numbers.Mode
+use Rattle.meaning.specs.Numbers.Refusal
 use Rattle.meaning.specs.Tree.{if_then_else_, Forest, none, more}
-use Rattle.meaning.specs.File.{Scope, scopeRow, Symbol, symbolRow, File}
+use Rattle.meaning.specs.File.{Scope, scopeRow, Symbol, symbolRow, File, settingsBytes, scopeBytes, symbolBytes}
 use Rattle.meaning.specs.Grammar.{
   fieldAt,
   two,
@@ -20,6 +23,7 @@ use Rattle.meaning.specs.Grammar.{
   headOf,
   mayName,
   naming,
+  scopeOffset,
   parentIn,
   unnamed,
 }
@@ -74,15 +78,15 @@ unfoldable pub readList
 readList inside f syms place cur k zero at m = accepted (records none at m)
 readList inside f syms place cur k (suc n) at m = do
   x ← field (fieldAt f (place k) at)
-  ensure (right (place k) syms x) 5 at
-  ensure (mayName f cur m (scopeOf (headOf x))) 5 at
+  ensure (right (place k) syms x) Refusal.WrongNumber at
+  ensure (mayName f cur m (scopeOf (headOf x))) Refusal.WrongNumber at
   kids ← inside (place k) x at (below cur (scopeOf (headOf x))) (naming m (scopeOf (headOf x)))
   beside ← readList inside f syms place cur (suc k) n (kids .next) (kids .marks)
   accepted (records (more (headOf x) (kids .forest) (beside .forest)) (beside .next) (beside .marks))
 
 -- with so many levels left: a record below the last is refused
 unfoldable pub readForest : ℕ → List ℕ → ℕ → (ℕ → Place) → ℕ → ℕ → ℕ → ℕ → List ℕ → Outcome Records
-readForest zero f syms = readList (λ p x at cur m. refused 6 at) f syms
+readForest zero f syms = readList (λ p x at cur m. refused Refusal.TooDeep at) f syms
 readForest (suc l) f syms =
     readList (λ p x at cur m. readForest l f syms (placeOf p x) cur 0 (childrenOf x) (x .next) m) f syms
 
@@ -90,7 +94,7 @@ readForest (suc l) f syms =
 
 -- a field that passes its test
 abbrev pub judged : (Field → Bool) → ℕ → Reading → Reading
-judged test at (Whole x) = if test x then Whole x else Refused 5 at
+judged test at (Whole x) = if test x then Whole x else Refused Refusal.WrongNumber at
 judged test at (Refused c p) = Refused c p
 
 -- the field of scope row k counted from 0, and that of a symbol row
@@ -116,22 +120,29 @@ mostRows = 9362
 
 -- one scope row, then more while the next tag is 41; symbol rows while it is 42
 unfoldable pub readScopes : List ℕ → ℕ → Rows
-readScopes f from = readRows (λ k at. eqb k 0 || eqb (getD f at 0) 41) (scopeAt f) mostRows 0 from
+readScopes f from = readRows (λ k at. eqb k 0 || eqb (getD f at 0) Tag.Scope) (scopeAt f) mostRows 0 from
 
 unfoldable pub readSymbols : List ℕ → ℕ → ℕ → Rows
-readSymbols f scopes from = readRows (λ k at. eqb (getD f at 0) 42) (λ k at. symbolAt f scopes at) mostRows 0 from
+readSymbols f scopes from = readRows (λ k at. eqb (getD f at 0) Tag.Symbol) (λ k at. symbolAt f scopes at) mostRows 0 from
 
--- n scope rows from row s on, each at byte 7 * s; n symbol rows from an offset on
+-- n scope rows from row s on; n symbol rows from an offset on
 unfoldable pub scopesIn : List ℕ → ℕ → ℕ → List Scope
 scopesIn f zero s = []
-scopesIn f (suc n) s = scopeRow (parentIn f s) (two f (7 * s + 5)) ∷ scopesIn f n (suc s)
+scopesIn f (suc n) s = scopeRow (parentIn f s) (two f (scopeOffset s + 5)) ∷ scopesIn f n (suc s)
 
 unfoldable pub symbolsIn : List ℕ → ℕ → ℕ → List Symbol
 symbolsIn f zero at = []
 symbolsIn f (suc n) at =
-    symbolRow (two f (at + 3)) (two f (at + 5)) (two f (at + 7)) (two f (at + 9)) ∷ symbolsIn f n (at + 11)
+    symbolRow (two f (at + 3)) (two f (at + 5)) (two f (at + 7)) (two f (at + 9)) ∷ symbolsIn f n (at + symbolBytes)
 
 -- ---- the file
+
+-- a file holds so many bytes at most, and its records so many levels
+abbrev pub mostBytes : ℕ
+mostBytes = 65535
+
+abbrev pub mostLevels : ℕ
+mostLevels = 64
 
 -- how many rows, and the offset behind them
 pub record Counted : Type 0 where
@@ -145,14 +156,14 @@ rows (RefusedRows c p) = refused c p
 -- The checks in their order: 1; field by field; 7; 5 for the lowest unnamed row.
 unfoldable pub readFile : List ℕ → Outcome File
 readFile f = do
-  ensure (leb (length f) 65535) 1 65535
+  ensure (leb (length f) mostBytes) Refusal.TooLong mostBytes
   settings ← field (fieldAt f Settings 0)
-  ensure (leb (settings .a) 2 && leb (settings .b) 1) 5 0
+  ensure (leb (settings .a) Mode.Inline && leb (settings .b) 1) Refusal.WrongNumber 0
   scopes ← rows (readScopes f (settings .next))
   symbols ← rows (readSymbols f (scopes .number) (scopes .next))
-  program ← readForest 64 f (symbols .number) (λ _. Program) 0 0 1 (symbols .next) (replicate (scopes .number) 0)
-  ensure (leb (length f) (program .next)) 7 (program .next)
-  ensure (leb (scopes .number) (unnamed (program .marks))) 5 (7 + 7 * unnamed (program .marks))
+  program ← readForest mostLevels f (symbols .number) (λ _. Program) 0 0 1 (symbols .next) (replicate (scopes .number) 0)
+  ensure (leb (length f) (program .next)) Refusal.BytesBehind (program .next)
+  ensure (leb (scopes .number) (unnamed (program .marks))) Refusal.WrongNumber (settingsBytes + scopeBytes * unnamed (program .marks))
   accepted
       (record {
         mode = settings .a;

@@ -1,8 +1,14 @@
 -- `transform_statements` and the statements made around a list.
 -- Assumes nothing.
 use mathlib.Core.Bool.{Bool, false, _||_, _&&_}
-use Prim.Native.Nat.{ℕ, zero, suc}
+use Prim.Native.Nat.{ℕ, zero, suc, _+_}
 use lib.Dec.{eqb}
+use Rattle.meaning.specs.Numbers.Tag
+use Rattle.meaning.specs.Numbers.Kind
+use Rattle.meaning.specs.Numbers.Letter
+use Rattle.meaning.specs.Numbers.ScopeFlag
+use Rattle.meaning.specs.Numbers.SymbolFlag
+use Rattle.meaning.specs.Numbers.KnownName
 use Rattle.meaning.specs.Tree.{if_then_else_, oneOf, Head, hd, Forest, none, more, one, Node, _&_}
 use Rattle.meaning.specs.Shapes.{
   block,
@@ -32,10 +38,10 @@ use Rattle.meaning.specs.HelperLoader.{helperLoad}
 
 -- A using is a Declaration of kind 3 or 4, or one that `enterProgram` has recorded.
 unfoldable pub isUsing : Head → Bool
-isUsing h = eqb (h .tag) 5 && (oneOf (3 ∷ 4 ∷ []) (h .a) || oneOf (3 ∷ 4 ∷ []) (h .b))
+isUsing h = eqb (h .tag) Tag.Declaration && (oneOf (Kind.Using ∷ Kind.AwaitUsing ∷ []) (h .a) || oneOf (Kind.Using ∷ Kind.AwaitUsing ∷ []) (h .b))
 
 unfoldable pub isAwaitUsing : Head → Bool
-isAwaitUsing h = eqb (h .tag) 5 && (eqb (h .a) 4 || eqb (h .b) 4)
+isAwaitUsing h = eqb (h .tag) Tag.Declaration && (eqb (h .a) Kind.AwaitUsing || eqb (h .b) Kind.AwaitUsing)
 
 -- a using stands directly in the list
 unfoldable pub anyUsing : Forest → Bool
@@ -50,7 +56,7 @@ anyAwaitUsing (more h k r) = isAwaitUsing h || anyAwaitUsing r
 -- ---- initializers
 
 abbrev pub letterIf : Bool → ℕ
-letterIf awaited = if awaited then 1 else 0
+letterIf awaited = if awaited then Letter.A else Letter.U
 
 -- what follows m Names is called through the context
 unfoldable pub wrapInitializer : ℕ → ℕ → ℕ → Forest → Forest
@@ -61,11 +67,11 @@ wrapInitializer letter ctx (suc m) (more h k r) = more h k (wrapInitializer lett
 unfoldable pub wrapInitializers : ℕ → ℕ → Forest → Forest
 wrapInitializers letter ctx none = none
 wrapInitializers letter ctx (more h k r) =
-    more h (if eqb (h .tag) 6 then wrapInitializer letter ctx (h .b) k else k) (wrapInitializers letter ctx r)
+    more h (if eqb (h .tag) Tag.Declarator then wrapInitializer letter ctx (h .b) k else k) (wrapInitializers letter ctx r)
 
 -- a using becomes const; a recorded one is var already, and loses its mark
 unfoldable pub asConst : Head → Head
-asConst h = hd 5 (if eqb (h .b) 0 then 2 else 0) 0 0
+asConst h = hd Tag.Declaration (if eqb (h .b) 0 then Kind.Const else Kind.Var) 0 0
 
 -- The usings of a list, taken up by a context: each has the letter of its own kind, or in a Switch (`running`) that of needs_await so far.
 unfoldable pub takeUp : Bool → ℕ → Bool → Forest → Forest
@@ -78,7 +84,7 @@ takeUp running ctx needsAwait (more h k r) =
 -- the context's symbol, on `usingCtx`
 unfoldable pub makeContext : ℕ → Change ℕ
 makeContext scope = do
-  ctx ← generateUid 5 scope 1
+  ctx ← generateUid KnownName.UsingCtx scope SymbolFlag.FunctionScoped
   st ← get
   put (withContext st)
   return ctx
@@ -95,7 +101,7 @@ transformStatements cur hoist list = do
   helper ← helperLoad cur
   return
       (record {
-        statements = declaration 0 ctx helper & takeUp false ctx false list;
+        statements = declaration Kind.Var ctx helper & takeUp false ctx false list;
         needsAwait = anyAwaitUsing list;
         usingCtx = ctx;
       })
@@ -105,9 +111,9 @@ transformStatements cur hoist list = do
 -- `create_catch_clause`: `catch (_) { _usingCtx.e = _; }`
 unfoldable pub createCatchClause : ℕ → ℕ → Change Forest
 createCatchClause ctx parent = do
-  scope ← createChildScope parent 2
+  scope ← createChildScope parent ScopeFlag.Catch
   body ← createChildScope scope 0
-  y ← generateBinding 2 body 17
+  y ← generateBinding KnownName.Underscore body (SymbolFlag.FunctionScoped + SymbolFlag.Catch)
   return (catchClause scope y (block body (keepError ctx y)))
 
 -- `create_finally_block`: `{ _usingCtx.d(); }`

@@ -2,13 +2,13 @@
 -- Assumes nothing.
 use mathlib.Core.Path.{_≡_, refl}
 use mathlib.Core.List.{List, [], _∷_, map}
-use Prim.Native.Nat.{ℕ, zero, suc}
+use Prim.Native.Nat.{ℕ, zero, suc, _*_}
 use lib.ListN.{length}
 use Rattle.meaning.specs.File.{File}
 use Rattle.meaning.specs.Reading.{Outcome, accepted, refused, readFile}
 use Rattle.meaning.specs.Walk.{Spot, visit, start}
 use Rattle.meaning.specs.Charges.{Line, Figures, _⊕_, total, figuresIn, figuresAt, finalFigures}
-use Rattle.meaning.specs.VisitCharges.{visitCharges}
+use Rattle.meaning.specs.Due.{dues}
 use Rattle.meaning.specs.Lowering.{lastSpot}
 use Rattle.meaning.specs.Computing.{computing}
 use Rattle.meaning.specs.Table.{table}
@@ -23,14 +23,18 @@ unfoldable pub charged : Figures → List (List Line) → List Figures
 charged g [] = []
 charged g (x ∷ xs) = (g ⊕ total x) ∷ charged (g ⊕ total x) xs
 
+-- the charges of a whole walk
+abbrev pub allDues : File → List (List Line)
+allDues f = dues (2 * finalFigures f .records) (start f)
+
 -- the same for a whole walk, and at its end
 abbrev pub walkCounted : Outcome File → List Figures
 walkCounted (refused c p) = []
-walkCounted (accepted f) = figuresAt (lastSpot f) ∷ counted (length (visitCharges f)) (start f)
+walkCounted (accepted f) = figuresAt (lastSpot f) ∷ counted (length (allDues f)) (start f)
 
 abbrev pub walkCharged : Outcome File → List Figures
 walkCharged (refused c p) = []
-walkCharged (accepted f) = finalFigures f ∷ charged (figuresIn f) (visitCharges f)
+walkCharged (accepted f) = finalFigures f ∷ charged (figuresIn f) (allDues f)
 
 -- each visit adds its charge, and the last leaves the final figures
 pub visits-hold

@@ -4,6 +4,7 @@ use mathlib.Core.List.{List, [], _∷_}
 use mathlib.Core.Bool.{Bool, true, false, not, _&&_}
 use Prim.Native.Nat.{ℕ, zero, suc}
 use lib.Dec.{eqb}
+use Rattle.meaning.specs.Numbers.Tag
 use Rattle.meaning.specs.Tree.{if_then_else_, oneOf, Head, Forest, none, more, one, Node, node, _&_}
 use Rattle.meaning.specs.File.{Symbol, File}
 use Rattle.meaning.specs.Grammar.{scopeOf, below}
@@ -39,19 +40,19 @@ forOfAct asRead (more h₁ k₁ (more h₂ k₂ none)) = keep
 forOfAct asRead (more h₁ k₁ (more h₂ k₂ (more h₃ k₃ r))) =
     actIf
     (isUsing h₁ && bindsIdentifier k₁)
-    (if eqb (h₃ .tag) 2 && not (bindsName asRead (h₃ .a) (boundSymbol k₁)) then forOfInsert else forOfWrap)
+    (if eqb (h₃ .tag) Tag.Block && not (bindsName asRead (h₃ .a) (boundSymbol k₁)) then forOfInsert else forOfWrap)
 
 -- A Block below a Try or a Catch is never met here with a using: the visit to its Try took it up.
 unfoldable pub actOf : List Symbol → Head → Forest → Act
 actOf asRead h k =
     let t = h .tag in
-    if eqb t 1 then actIf (anyUsing k) program
-    else if eqb t 2 then actIf (anyUsing k) block
-    else if oneOf (4 ∷ 7 ∷ []) t then actIf (anyUsing (forList (one h k))) forLoop
-    else if eqb t 8 then forOfAct asRead k
-    else if eqb t 9 then actIf (anyCaseUsing k) switch
-    else if eqb t 11 then actIf (anyPartUsing k) tryParts
-    else if eqb t 14 then actIf (anyUsing k) functionBody
+    if eqb t Tag.Program then actIf (anyUsing k) program
+    else if eqb t Tag.Block then actIf (anyUsing k) block
+    else if oneOf (Tag.Label ∷ Tag.For ∷ []) t then actIf (anyUsing (forList (one h k))) forLoop
+    else if eqb t Tag.ForOf then forOfAct asRead k
+    else if eqb t Tag.Switch then actIf (anyCaseUsing k) switch
+    else if eqb t Tag.Try then actIf (anyPartUsing k) tryParts
+    else if eqb t Tag.Body then actIf (anyUsing k) functionBody
     else keep
 
 unfoldable pub enterAs : Act → ℕ → ℕ → Head → Forest → Change Node
@@ -70,7 +71,7 @@ enter cur hoist h k = λ st. enterAs (actOf (st .asRead) h k) cur hoist h k st
 
 -- leaving a StaticBlock
 abbrev pub isStaticBlock : Head → Bool
-isStaticBlock h = eqb (h .tag) 16
+isStaticBlock h = eqb (h .tag) Tag.StaticBlock
 
 unfoldable pub leave : Head → Forest → Change Node
 leave h k = if anyUsing k then exitStaticBlock h k else return (node h k)
@@ -88,6 +89,11 @@ pub data Spot : Type 0 where
   leaving : Forest → Head → Forest → Forest → List Crumb → Store → Spot
   over : Forest → Store → Spot
 
+unfoldable pub isOver : Spot → Bool
+isOver (over tree st) = true
+isOver (at done h k r path st) = false
+isOver (leaving kids h before after path st) = false
+
 -- the scope of the nearest open record with one
 unfoldable pub currentScope : List Crumb → ℕ
 currentScope [] = 0
@@ -96,7 +102,7 @@ currentScope (crumb h before after ∷ path) = below (currentScope path) (scopeO
 -- that of the nearest Program, Function or StaticBlock
 unfoldable pub hoistScope : List Crumb → ℕ
 hoistScope [] = 0
-hoistScope (crumb h before after ∷ path) = if oneOf (1 ∷ 13 ∷ 16 ∷ []) (h .tag) then scopeOf h else hoistScope path
+hoistScope (crumb h before after ∷ path) = if oneOf (Tag.Program ∷ Tag.Function ∷ Tag.StaticBlock ∷ []) (h .tag) then scopeOf h else hoistScope path
 
 -- records whose children are all done are left behind; leaving a StaticBlock is a visit
 unfoldable pub settle : Forest → Forest → List Crumb → Store → Spot
@@ -125,13 +131,6 @@ visit (leaving kids h before after path st) = closed before after path (leave h 
 unfoldable pub visits : ℕ → Spot → Spot
 visits zero s = s
 visits (suc k) s = visits k (visit s)
-
--- to the end, with so many visits at most
-unfoldable pub walk : ℕ → Spot → Spot
-walk zero s = s
-walk (suc n) (over tree st) = over tree st
-walk (suc n) (at done h k r path st) = walk n (visit (at done h k r path st))
-walk (suc n) (leaving kids h before after path st) = walk n (visit (leaving kids h before after path st))
 
 -- the tree just read
 unfoldable pub storeOf : File → Store

@@ -24,9 +24,9 @@ use Rattle.meaning.specs.Charges.{
   wraps,
   caseWraps,
 }
-use Rattle.meaning.specs.VisitCharges.{isContext, anyContext}
+use Rattle.meaning.specs.Due.{isContext, anyContext, missing}
 use Rattle.meaning.specs.Walk.{Crumb, Spot, at, block, functionBody, forLoop, switch, actIf, enterAs, currentScope, hoistScope}
-use Rattle.charge_laws.specs.Growth.Rows.{missing, oneIf}
+use Rattle.charge_laws.specs.Growth.Rows.{oneIf}
 use Rattle.charge_laws.specs.Growth.Contexts.{block-pays, body-pays, for-pays, switch-pays}
 use Rattle.charge_laws.specs.Counts.TakenUp.{Labelled}
 use Rattle.path.specs.Path.{Tables}

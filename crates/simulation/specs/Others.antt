@@ -14,7 +14,7 @@ use Rattle.meaning.specs.Statements.{isUsing, anyUsing}
 use Rattle.meaning.specs.Contexts.{anyPartUsing, transformTryParts, enterTryStatement}
 use Rattle.meaning.specs.Program.{programItems, enterProgram}
 use Rattle.meaning.specs.Charges.{forOf, forOfBlock, lineCharge, total}
-use Rattle.meaning.specs.VisitCharges.{isContext}
+use Rattle.meaning.specs.Due.{isContext, missing}
 use Rattle.meaning.specs.ForOf.{bindsIdentifier, boundSymbol, bindsName}
 use Rattle.meaning.specs.Walk.{
   Crumb,
@@ -36,7 +36,7 @@ use Rattle.meaning.specs.Walk.{
   hoistScope,
 }
 use Rattle.spec_laws.specs.Tags.{and-left}
-use Rattle.charge_laws.specs.Growth.Rows.{missing, scope-below}
+use Rattle.charge_laws.specs.Growth.Rows.{scope-below}
 use Rattle.charge_laws.specs.Growth.Program.{Exports, program-pays}
 use Rattle.charge_laws.specs.Growth.ForOf.{insert-pays, wrap-pays}
 use Rattle.charge_laws.specs.Counts.Enter.{Left}

@@ -12,9 +12,9 @@ use Rattle.meaning.specs.Tree.{Head, Forest, Node, node, one, single, size}
 use Rattle.meaning.specs.Scoping.{Store}
 use Rattle.meaning.specs.Statements.{anyUsing}
 use Rattle.meaning.specs.Charges.{Kind, Line, contextCharge, lineCharge, total, wraps, contextLines}
-use Rattle.meaning.specs.VisitCharges.{isContext, anyContext}
+use Rattle.meaning.specs.Due.{isContext, anyContext, missing}
 use Rattle.meaning.specs.Walk.{Crumb, Spot, at, Act, enterAs, currentScope, hoistScope}
-use Rattle.charge_laws.specs.Growth.Rows.{missing, oneIf}
+use Rattle.charge_laws.specs.Growth.Rows.{oneIf}
 use Rattle.charge_laws.specs.Growth.Charged.{PaysFor}
 use Rattle.representation.specs.Store.Agreed.{Agreed}
 use Rattle.path.specs.Path.{Tables}

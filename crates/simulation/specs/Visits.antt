@@ -36,7 +36,7 @@ use Rattle.meaning.specs.Charges.{
   figuresAt,
   finalFigures,
 }
-use Rattle.meaning.specs.VisitCharges.{visitCharges}
+use Rattle.charge_laws.specs.VisitCharges.{visitCharges}
 use Rattle.charge_laws.specs.Totals.Fits.{accepted-fits}
 use Rattle.charge_laws.specs.Counts.Figures.{joined}
 use Rattle.charge_laws.specs.Counts.Pending.{Pending, spot-fits}

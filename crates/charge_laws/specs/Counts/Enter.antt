@@ -22,7 +22,8 @@ use Rattle.meaning.specs.ForOf.{bindsIdentifier, enterForOfStatement}
 use Rattle.meaning.specs.Program.{enterProgram}
 use Rattle.meaning.specs.Walk.{isStaticBlock, Act, switch, actOf, enterAs, leave}
 use Rattle.meaning.specs.Charges.{Line, ofStaticBlock, initializers, wraps, contextLines}
-use Rattle.meaning.specs.VisitCharges.{standing, enterLines, visitsAs, visitsIn}
+use Rattle.meaning.specs.Due.{enterLines}
+use Rattle.charge_laws.specs.VisitCharges.{standing, visitsAs, visitsIn}
 use Rattle.charge_laws.specs.Totals.Roles.{Lacks}
 use Rattle.charge_laws.specs.Growth.ForOf.{Named}
 use Rattle.charge_laws.specs.Growth.Program.{Exports}

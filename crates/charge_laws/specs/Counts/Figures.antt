@@ -3,11 +3,9 @@
 use mathlib.Core.Path.{_≡_, refl, sym, ap, ap₂, subst, _∙_}
 use mathlib.Core.Bool.{Bool, true, false, not, _&&_}
 use mathlib.Core.List.{List, [], _∷_, _++_}
-use mathlib.Core.Logic.{_⊎_, inl, inr}
 use Prim.Native.Nat.{ℕ, zero, suc, _+_, _*_}
 use native.Mathlib.Omega.{arith}
 use lib.ListN.{length, take}
-use lib.Seq.{take-nil}
 use lib.Dec.{eqb}
 use Rattle.meaning.specs.Tree.{if_then_else_, Head, Forest, none, more, one, Node, single, size, _&_}
 use Rattle.meaning.specs.File.{File}
@@ -22,6 +20,7 @@ use Rattle.meaning.specs.Walk.{
   at,
   leaving,
   over,
+  isOver,
   currentScope,
   hoistScope,
   settle,
@@ -37,8 +36,8 @@ use Rattle.meaning.specs.Walk.{
   fileAt,
 }
 use Rattle.meaning.specs.Charges.{Line, helper, Figures, figures, _⊕_, total, recordBytes, figuresIn, figuresAt}
-use Rattle.meaning.specs.VisitCharges.{standing, anyContext, addHelper, visitsIn, visitCharges}
-use Rattle.charge_laws.specs.Growth.Rows.{missing}
+use Rattle.meaning.specs.Due.{anyContext, missing, rewriteLines, due, dues}
+use Rattle.charge_laws.specs.VisitCharges.{standing, addHelper, visitsIn, visitCharges}
 use Rattle.charge_laws.specs.Growth.Trees.{more-&}
 use Rattle.charge_laws.specs.Growth.Charged.{counts, helperLine, Same, figures-same, Visited}
 use Rattle.charge_laws.specs.Growth.Enter.{entered}
@@ -46,7 +45,7 @@ use Rattle.charge_laws.specs.Counts.Visits.{++-nil, &-none, &-assoc}
 use Rattle.charge_laws.specs.Counts.Enter.{Fit, proper}
 use Rattle.charge_laws.specs.Counts.Fits.{Fits}
 use Rattle.charge_laws.specs.Counts.Pending.{Pending, ready, pending-start, pending-visit}
-use Rattle.charge_laws.specs.Counts.Left.{rest, left, due, left-settle, Ready, visit-step}
+use Rattle.charge_laws.specs.Counts.Left.{rest, left, left-settle, Ready, visit-left, over-left, over-stays}
 
 -- ---- the tree and the store at a spot
 
@@ -116,8 +115,8 @@ replaced d r p h h′ k k′ st st′ x e =
 -- it adds what it is charged, and the helper with it
 abbrev Charged : Spot → Spot → Type 0
 Charged s s′ =
-    Same (figuresAt s′) (figuresAt s ⊕ (total (due s) ⊕ total (helperLine (storeAt s) (due s))))
-    × (missing (storeAt s′) ≡ (missing (storeAt s) && not (anyContext (due s))))
+    Same (figuresAt s′) (figuresAt s ⊕ (total (rewriteLines s) ⊕ total (helperLine (storeAt s) (rewriteLines s))))
+    × (missing (storeAt s′) ≡ (missing (storeAt s) && not (anyContext (rewriteLines s))))
 
 still-missing : (m h u : Bool) → (m && (h && not (m && u))) ≡ ((m && h) && not u)
 still-missing true true u = refl
@@ -131,7 +130,7 @@ missing-then {ls} {st = st} {e = e} v =
 
 enter-charged : (cur hoist : ℕ) (d : Forest) (h : Head) (k r : Forest) (p : List Crumb) (st : Store) → Fit h k
     → Charged (at d h k r p st) (opened d r p (enter cur hoist h k st))
-unfolding due treeAt storeAt plug _&_
+unfolding rewriteLines treeAt storeAt plug _&_
 enter-charged cur hoist d h k r p st fit =
     let e = enter cur hoist h k st in
     let v = entered cur hoist h k st (proper h k fit) in
@@ -147,7 +146,7 @@ enter-charged cur hoist d h k r p st fit =
 
 leave-charged : (d : Forest) (h : Head) (k r : Forest) (p : List Crumb) (st : Store) → isStaticBlock h ≡ true
     → Charged (leaving k h d r p st) (closed d r p (leave h k st))
-unfolding due treeAt storeAt _&_
+unfolding rewriteLines treeAt storeAt _&_
 leave-charged d h k r p st static =
     let e = leave h k st in
     let v = Rattle.charge_laws.specs.Growth.Enter.left h k st static in
@@ -162,7 +161,7 @@ leave-charged d h k r p st static =
     )
 
 over-charged : (tree : Forest) (st : Store) → Charged (over tree st) (over tree st)
-unfolding due total helperLine anyContext storeAt
+unfolding rewriteLines total helperLine anyContext storeAt
 over-charged tree st = free-of (missing st)
   where
     free-of : (m : Bool)
@@ -194,43 +193,58 @@ unfolding total
 with-helper true ls = omega arith
 with-helper false ls = omega arith
 
--- the charges of the first k visits from a spot, the helper's among them
-abbrev dues : ℕ → Spot → List Line
-dues k s = joined (take k (addHelper (missing (storeAt s)) (left s)))
+none-due : (k : ℕ) (s : Spot) → isOver s ≡ true → [] ≡ take (suc k) (addHelper (missing (storeAt s)) (left s))
+unfolding addHelper
+none-due k s o = rw (over-left s o)
+
+one-due : (k : ℕ) (s : Spot) → left s ≡ rewriteLines s ∷ left (visit s)
+    → missing (storeAt (visit s)) ≡ (missing (storeAt s) && not (anyContext (rewriteLines s)))
+    → dues k (visit s) ≡ take k (addHelper (missing (storeAt (visit s))) (left (visit s)))
+    → due s ∷ dues k (visit s) ≡ take (suc k) (addHelper (missing (storeAt s)) (left s))
+unfolding addHelper due
+one-due k s e m i = rw e (ap (_∷_ (due s)) (rw m at i))
+
+sum-over : (k : ℕ) (s : Spot) → isOver s ≡ true → Same (figuresAt (visits k (visit s))) (figuresAt s ⊕ total (joined []))
+unfolding visits joined total
+sum-over k s o = rw (over-stays (suc k) s o) (omega arith)
+
+-- The charges of the next k visits are the first k of those that are left.
+dues-left : (k : ℕ) (s : Spot) → Pending s → dues k s ≡ take k (addHelper (missing (storeAt s)) (left s))
+unfolding dues
+dues-left zero s q = refl
+dues-left (suc k) s q = go (isOver s) refl (dues-left k (visit s) (pending-visit s q))
+  where
+    go : (b : Bool) → isOver s ≡ b → dues k (visit s) ≡ take k (addHelper (missing (storeAt (visit s))) (left (visit s)))
+        → (if b then [] else due s ∷ dues k (visit s)) ≡ take (suc k) (addHelper (missing (storeAt s)) (left s))
+    go true e i = none-due k s e
+    go false e i = one-due k s (visit-left s (ready s q) e) (visit-charged s (ready s q) .1) i
 
 -- the figures after so many visits
-abbrev Sum : ℕ → Spot → Spot → List Line → Type 0
-Sum k s s₀ ls = Same (figuresAt (visits k s)) (figuresAt s₀ ⊕ total ls)
+abbrev Sum : ℕ → Spot → Spot → List (List Line) → Type 0
+Sum k s s₀ ls = Same (figuresAt (visits k s)) (figuresAt s₀ ⊕ total (joined ls))
 
-sum-over : (k : ℕ) (s : Spot) → left s ≡ [] → visit s ≡ s → Sum k (visit s) (visit s) (dues k (visit s)) → Sum k (visit s) s (dues (suc k) s)
-unfolding addHelper joined
-sum-over k s e v i = rw (v, e) (rw (v, e, take-nil {A = List Line} k) at i)
-
-sum-step : (k : ℕ) (s : Spot) → left s ≡ due s ∷ left (visit s) → Charged s (visit s) → Sum k (visit s) (visit s) (dues k (visit s))
-    → Sum k (visit s) s (dues (suc k) s)
-unfolding addHelper joined helperLine
-sum-step k s e c i =
-    let m = missing (storeAt s) in
-    let b = m && anyContext (due s) in
-    let j = rw (c .1) at i in
-    rw e
-    (omega (
+sum-step : (k : ℕ) (s : Spot) → Charged s (visit s) → Sum k (visit s) (visit s) (dues k (visit s))
+    → Sum k (visit s) s (due s ∷ dues k (visit s))
+unfolding joined helperLine due
+sum-step k s c i =
+    let b = missing (storeAt s) && anyContext (rewriteLines s) in
+    omega (
       arith,
-      j,
+      i,
       c .0,
-      with-helper b (due s),
-      total-++ (if b then helper ∷ due s else due s) (joined (take k (addHelper (m && not (anyContext (due s))) (left (visit s))))),
-    ))
+      with-helper b (rewriteLines s),
+      total-++ (if b then helper ∷ rewriteLines s else rewriteLines s) (joined (dues k (visit s))),
+    )
 
 sums : (k : ℕ) (s : Spot) → Pending s → Sum k s s (dues k s)
-unfolding visits total joined
+unfolding visits dues total joined
 sums zero s q = omega arith
-sums (suc k) s q = go (visit-step s (ready s q)) (sums k (visit s) (pending-visit s q))
+sums (suc k) s q = go (isOver s) refl (sums k (visit s) (pending-visit s q))
   where
-    go : ((left s ≡ []) × (visit s ≡ s)) ⊎ (left s ≡ due s ∷ left (visit s)) → Sum k (visit s) (visit s) (dues k (visit s))
-        → Sum k (visit s) s (dues (suc k) s)
-    go (inl e) i = sum-over k s (e .0) (e .1) i
-    go (inr e) i = sum-step k s e (visit-charged s (ready s q)) i
+    go : (b : Bool) → isOver s ≡ b → Sum k (visit s) (visit s) (dues k (visit s))
+        → Sum k (visit s) s (if b then [] else due s ∷ dues k (visit s))
+    go true e i = sum-over k s e
+    go false e i = sum-step k s (visit-charged s (ready s q)) i
 
 -- ---- a file
 
@@ -238,11 +252,13 @@ and-true : (b : Bool) → (b && true) ≡ b
 and-true true = refl
 and-true false = refl
 
-start-dues : (k : ℕ) (f : File) → dues k (start f) ≡ joined (take k (visitCharges f))
+-- WHAT THE VISITS ARE CHARGED, in order, is the account from the source.
+pub dues-are : (k : ℕ) (f : File) → Fits (f .tree) → dues k (start f) ≡ take k (visitCharges f)
 unfolding start storeOf visitCharges rest
-start-dues k f =
+dues-are k f p =
     let st = storeOf f in
-    ap₂ (λ (m : Bool) (xs : List (List Line)). joined (take k (addHelper m xs)))
+    dues-left k (start f) (pending-start f p)
+    ∙ ap₂ (λ (m : Bool) (xs : List (List Line)). take k (addHelper m xs))
     (ap missing (settled [] none (f .tree) st .1) ∙ and-true (eqb (f .mode) 0))
     (left-settle [] none (f .tree) st ∙ ++-nil (visitsIn (f .symbols) (f .tree) standing))
 
@@ -250,13 +266,6 @@ start-figures : (f : File) → Same (figuresAt (start f)) (figuresIn f)
 unfolding start storeOf figuresIn plug _&_
 start-figures f = omega (arith, whole-settled [] none (f .tree) (storeOf f))
 
--- After k visits the figures are those read and the first k charges, the helper's among them.
-pub after : (k : ℕ) (f : File) → Fits (f .tree)
-    → figuresAt (visits k (start f)) ≡ figuresIn f ⊕ total (joined (take k (visitCharges f)))
-after k f p =
-    figures-same _ _
-    (omega (
-      arith,
-      start-figures f,
-      rw (start-dues k f) at (sums k (start f) (pending-start f p)),
-    ))
+-- After k visits the figures are those read and what the visits are charged.
+pub after : (k : ℕ) (f : File) → Fits (f .tree) → figuresAt (visits k (start f)) ≡ figuresIn f ⊕ total (joined (dues k (start f)))
+after k f p = figures-same _ _ (omega (arith, start-figures f, sums k (start f) (pending-start f p)))

@@ -14,20 +14,8 @@ use Rattle.meaning.specs.Statements.{isUsing, anyUsing}
 use Rattle.meaning.specs.ForOf.{bindsIdentifier, boundSymbol, rebind, insertUsing, wrapBody, enterForOfStatement}
 use Rattle.meaning.specs.Walk.{forOfInsert, forOfWrap, actOf}
 use Rattle.meaning.specs.Charges.{Line, ofBlock, context, wrapped, initializers, wraps, contextLines}
-use Rattle.meaning.specs.VisitCharges.{
-  standing,
-  takenUp,
-  next,
-  Visits,
-  free,
-  enterLines,
-  visitsAs,
-  visitsStanding,
-  visitsTakenUp,
-  visitsBody,
-  visitsOf,
-  visitsIn,
-}
+use Rattle.meaning.specs.Due.{enterLines}
+use Rattle.charge_laws.specs.VisitCharges.{standing, takenUp, next, Visits, free, visitsAs, visitsStanding, visitsTakenUp, visitsBody, visitsOf, visitsIn}
 use Rattle.spec_laws.specs.Tags.{Seen, other, here, there, seen, clash, and-left}
 use Rattle.charge_laws.specs.Growth.Trees.{using-tag}
 use Rattle.charge_laws.specs.Growth.ForOf.{Named}

@@ -3,8 +3,7 @@
 use mathlib.Core.Path.{_≡_, refl, sym, ap, _∙_}
 use mathlib.Core.Bool.{Bool, true, false}
 use mathlib.Core.List.{List, [], _∷_, _++_}
-use mathlib.Core.Logic.{_⊎_, inl, inr}
-use Prim.Native.Nat.{ℕ}
+use Prim.Native.Nat.{ℕ, zero, suc}
 use Rattle.meaning.specs.Tree.{if_then_else_, Head, Forest, none, more, one, Node, _&_}
 use Rattle.meaning.specs.File.{Symbol}
 use Rattle.meaning.specs.Scoping.{Store}
@@ -19,15 +18,19 @@ use Rattle.meaning.specs.Walk.{
   at,
   leaving,
   over,
+  isOver,
   currentScope,
   hoistScope,
   settle,
   opened,
   closed,
   visit,
+  visits,
 }
 use Rattle.meaning.specs.Charges.{Line, ofStaticBlock, contextLines}
-use Rattle.meaning.specs.VisitCharges.{standing, enterLines, visitsStanding, visitsOf, visitsIn, next}
+use Rattle.meaning.specs.Due.{enterLines, rewriteLines}
+use Rattle.charge_laws.specs.VisitCharges.{standing, visitsStanding, visitsOf, visitsIn, next}
+use Rattle.spec_laws.specs.Tags.{clash}
 use Rattle.charge_laws.specs.Growth.Enter.{entered}
 use Rattle.charge_laws.specs.Counts.Visits.{&-none, &-assoc, spread, spread-++}
 use Rattle.charge_laws.specs.Counts.Enter.{Fit, proper, Alike, alike-&, alike-below, leaveThen, left-alike, enters}
@@ -44,12 +47,6 @@ unfoldable pub left : Spot → List (List Line)
 left (over tree st) = []
 left (at d h k r p st) = visitsIn (st .asRead) (more h k r) standing ++ rest (st .asRead) (d & more h k r) p
 left (leaving k h d r p st) = contextLines ofStaticBlock k ∷ (visitsIn (st .asRead) r standing ++ rest (st .asRead) (d & more h k r) p)
-
--- what the next visit is charged
-unfoldable pub due : Spot → List Line
-due (over tree st) = []
-due (at d h k r p st) = enterLines (actOf (st .asRead) h k) h k
-due (leaving k h d r p st) = contextLines ofStaticBlock k
 
 -- ---- lists that count alike leave the same
 
@@ -134,9 +131,23 @@ leave-step d h k r p st s =
     ∙ ap (λ (zs : List Symbol). visitsIn zs r standing ++ rest zs ((d & one-left) & r) p) (sym a)
     ∙ sym (left-settle p (d & one-left) r (e .1))
 
--- A visit takes the first of the charges that are left; after the last there is no visit.
-pub visit-step : (s : Spot) → Ready s → ((left s ≡ []) × (visit s ≡ s)) ⊎ (left s ≡ due s ∷ left (visit s))
-unfolding visit due left
-visit-step (over tree st) ready = inl (refl, refl)
-visit-step (at d h k r p st) ready = inr (enter-step (currentScope p) (hoistScope p) d h k r p st ready)
-visit-step (leaving k h d r p st) ready = inr (ap (_∷_ (contextLines ofStaticBlock k)) (leave-step d h k r p st ready))
+-- A visit takes the first of the charges that are left;
+pub visit-left : (s : Spot) → Ready s → isOver s ≡ false → left s ≡ rewriteLines s ∷ left (visit s)
+unfolding visit rewriteLines left isOver
+visit-left (over tree st) ready o = absurd (clash o refl)
+visit-left (at d h k r p st) ready o = enter-step (currentScope p) (hoistScope p) d h k r p st ready
+visit-left (leaving k h d r p st) ready o = ap (_∷_ (contextLines ofStaticBlock k)) (leave-step d h k r p st ready)
+
+-- where the walk is over none are left, and no visit changes anything.
+pub over-left : (s : Spot) → isOver s ≡ true → left s ≡ []
+unfolding left isOver
+over-left (over tree st) o = refl
+over-left (at d h k r p st) o = absurd (clash refl o)
+over-left (leaving k h d r p st) o = absurd (clash refl o)
+
+pub over-stays : (k : ℕ) (s : Spot) → isOver s ≡ true → visits k s ≡ s
+unfolding visits visit isOver
+over-stays zero s o = refl
+over-stays (suc k) (over tree st) o = over-stays k (over tree st) o
+over-stays (suc k) (at d h f r p st) o = absurd (clash refl o)
+over-stays (suc k) (leaving f h d r p st) o = absurd (clash refl o)

@@ -35,30 +35,8 @@ use Rattle.meaning.specs.Program.{
 }
 use Rattle.meaning.specs.Walk.{program, block, actIf, actOf}
 use Rattle.meaning.specs.Charges.{Line, ofBlock, initializers, wraps, contextLines, context, wrapped}
-use Rattle.meaning.specs.VisitCharges.{
-  standing,
-  takenUp,
-  declarators,
-  kept,
-  moved,
-  skipped,
-  next,
-  Visits,
-  around,
-  free,
-  enterLines,
-  visitsAs,
-  visitsStanding,
-  visitsTakenUp,
-  visitsExport,
-  visitsDefault,
-  visitsKept,
-  visitsMovedExport,
-  visitsMovedDefault,
-  visitsMoved,
-  visitsOf,
-  visitsIn,
-}
+use Rattle.meaning.specs.Due.{enterLines}
+use Rattle.charge_laws.specs.VisitCharges.{standing, takenUp, declarators, kept, moved, skipped, next, Visits, around, free, visitsAs, visitsStanding, visitsTakenUp, visitsExport, visitsDefault, visitsKept, visitsMovedExport, visitsMovedDefault, visitsMoved, visitsOf, visitsIn}
 use Rattle.spec_laws.specs.Tags.{Seen, other, here, there, seen, clash, and-left}
 use Rattle.charge_laws.specs.Growth.Program.{Exports}
 use Rattle.charge_laws.specs.Counts.Visits.{++-nil, spread, visits-&, none-skipped}

@@ -21,22 +21,7 @@ use Rattle.meaning.specs.Statements.{
 use Rattle.meaning.specs.Contexts.{forList, takeUpFor, anyCaseUsing, takeUpCases}
 use Rattle.meaning.specs.Walk.{forLoop, actOf}
 use Rattle.meaning.specs.Charges.{Line}
-use Rattle.meaning.specs.VisitCharges.{
-  standing,
-  takenUp,
-  declarators,
-  initializer,
-  loop,
-  cases,
-  next,
-  around,
-  free,
-  visitsAs,
-  visitsStanding,
-  visitsTakenUp,
-  visitsOf,
-  visitsIn,
-}
+use Rattle.charge_laws.specs.VisitCharges.{standing, takenUp, declarators, initializer, loop, cases, next, around, free, visitsAs, visitsStanding, visitsTakenUp, visitsOf, visitsIn}
 use Rattle.spec_laws.specs.Tags.{Seen, other, here, there, seen, clash}
 use Rattle.charge_laws.specs.Counts.Visits.{spread, spread-++, kept-if}
 

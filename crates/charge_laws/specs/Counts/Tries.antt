@@ -49,23 +49,8 @@ use Rattle.meaning.specs.Contexts.{
 }
 use Rattle.meaning.specs.Walk.{Act, block, functionBody, tryParts, forLoop, switch, actOf}
 use Rattle.meaning.specs.Charges.{Line}
-use Rattle.meaning.specs.VisitCharges.{
-  standing,
-  takenUp,
-  parts,
-  loop,
-  cases,
-  next,
-  Visits,
-  around,
-  free,
-  inTry,
-  enterLines,
-  visitsAs,
-  visitsStanding,
-  visitsOf,
-  visitsIn,
-}
+use Rattle.meaning.specs.Due.{enterLines}
+use Rattle.charge_laws.specs.VisitCharges.{standing, takenUp, parts, loop, cases, next, Visits, around, free, inTry, visitsAs, visitsStanding, visitsOf, visitsIn}
 use Rattle.spec_laws.specs.Tags.{Seen, other, here, there, seen, clash}
 use Rattle.charge_laws.specs.Counts.Visits.{++-nil, spread, kept-if}
 use Rattle.charge_laws.specs.Counts.TakenUp.{none-left, no-case-left, Labelled, list-visits, cases-visits, loop-visits}

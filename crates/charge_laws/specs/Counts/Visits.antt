@@ -7,18 +7,7 @@ use Rattle.meaning.specs.Tree.{Head, Forest, none, more, _&_}
 use Rattle.meaning.specs.File.{Symbol}
 use Rattle.meaning.specs.Walk.{Act, keep, actIf}
 use Rattle.meaning.specs.Charges.{Line}
-use Rattle.meaning.specs.VisitCharges.{
-  standing,
-  moved,
-  skipped,
-  next,
-  Visits,
-  visitsAs,
-  visitsStanding,
-  visitsOf,
-  programVisits,
-  visitsIn,
-}
+use Rattle.charge_laws.specs.VisitCharges.{standing, moved, skipped, next, Visits, visitsAs, visitsStanding, visitsOf, programVisits, visitsIn}
 
 -- a list with none behind it
 pub ++-nil : (xs : List (List Line)) → xs ++ [] ≡ xs

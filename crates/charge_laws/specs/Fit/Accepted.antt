@@ -18,8 +18,9 @@ use Rattle.meaning.specs.declared.Field.{Field}
 use Rattle.meaning.specs.Statements.{isUsing}
 use Rattle.meaning.specs.ForOf.{bindsIdentifier}
 use Rattle.meaning.specs.Walk.{start, visits}
-use Rattle.meaning.specs.Charges.{_⊕_, total, figuresIn, figuresAt}
-use Rattle.meaning.specs.VisitCharges.{visitCharges}
+use Rattle.meaning.specs.Charges.{Line, _⊕_, total, figuresIn, figuresAt}
+use Rattle.meaning.specs.Due.{dues}
+use Rattle.charge_laws.specs.VisitCharges.{visitCharges}
 use Rattle.spec_laws.specs.Tags.{Seen, other, here, there, seen, clash, and-left, and-right}
 use Rattle.charge_laws.specs.Growth.ForOf.{Named}
 use Rattle.charge_laws.specs.Growth.Program.{Exports}
@@ -27,7 +28,7 @@ use Rattle.charge_laws.specs.Counts.TakenUp.{Labelled}
 use Rattle.charge_laws.specs.Counts.Program.{Kinds}
 use Rattle.charge_laws.specs.Counts.Enter.{Begins, Body, Left}
 use Rattle.charge_laws.specs.Counts.Fits.{Fits}
-use Rattle.charge_laws.specs.Counts.Figures.{joined, after}
+use Rattle.charge_laws.specs.Counts.Figures.{joined, dues-are, after}
 use Rattle.charge_laws.specs.Fit.Placed.{ReadAs, same-tag, Placed, accepted-placed}
 use Rattle.charge_laws.specs.Fit.Barred.{Bars, barred, no-catch}
 
@@ -166,7 +167,16 @@ module _ (syms : ℕ) where
 pub accepted-fit : (b : List ℕ) (f : File) → readFile b ≡ accepted f → Fits (f .tree)
 accepted-fit b f e = let q = accepted-placed b f e in fits (q .0) (f .tree) (λ _. Program) 0 (q .1)
 
--- After k visits the figures of an accepted file are those read and the first k charges.
+-- What the visits of an accepted file are charged is its account from the source; after k visits the figures are those read and the first k
+-- charges.
+pub accepted-dues : (b : List ℕ) (f : File) (k : ℕ) → readFile b ≡ accepted f → dues k (start f) ≡ take k (visitCharges f)
+accepted-dues b f k e = dues-are k f (accepted-fit b f e)
+
+pub accepted-charged : (b : List ℕ) (f : File) (k : ℕ) → readFile b ≡ accepted f
+    → figuresAt (visits k (start f)) ≡ figuresIn f ⊕ total (joined (dues k (start f)))
+accepted-charged b f k e = after k f (accepted-fit b f e)
+
 pub accepted-after : (b : List ℕ) (f : File) (k : ℕ) → readFile b ≡ accepted f
     → figuresAt (visits k (start f)) ≡ figuresIn f ⊕ total (joined (take k (visitCharges f)))
-accepted-after b f k e = after k f (accepted-fit b f e)
+accepted-after b f k e =
+    accepted-charged b f k e ∙ ap (λ (ls : List (List Line)). figuresIn f ⊕ total (joined ls)) (accepted-dues b f k e)

@@ -28,23 +28,19 @@ use Rattle.meaning.specs.Walk.{
   at,
   leaving,
   over,
+  isOver,
   visit,
   visits,
   storeOf,
   start,
 }
 use Rattle.meaning.specs.Charges.{Line}
-use Rattle.meaning.specs.VisitCharges.{standing, visitsAs, visitsStanding, visitsOf, visitsIn, anyContext, addHelper, visitCharges}
+use Rattle.meaning.specs.Due.{anyContext, rewriteLines}
+use Rattle.charge_laws.specs.VisitCharges.{standing, visitsAs, visitsStanding, visitsOf, visitsIn, addHelper, visitCharges}
 use Rattle.charge_laws.specs.Counts.Visits.{++-nil, spread}
 use Rattle.charge_laws.specs.Counts.Pending.{Pending, ready, pending-start, pending-visit}
-use Rattle.charge_laws.specs.Counts.Left.{rest, left, due, left-settle, visit-step}
+use Rattle.charge_laws.specs.Counts.Left.{rest, left, left-settle, visit-left, over-left, over-stays}
 use Rattle.charge_laws.specs.Fit.Accepted.{accepted-fit}
-
--- nothing is left to visit
-unfoldable pub isOver : Spot → Bool
-isOver (over tree st) = true
-isOver (at d h k r p st) = false
-isOver (leaving k h d r p st) = false
 
 -- the second spot is over just if at most k charges are left at the first
 abbrev Ended : ℕ → Spot → Spot → Type 0
@@ -72,12 +68,11 @@ begun (leaving k h d r p st) = sym (lt-leb (length (left (leaving k h d r p st))
 ended : (k : ℕ) (s : Spot) → Pending s → Ended k s (visits k s)
 unfolding visits
 ended zero s q = begun s
-ended (suc k) s q = go (visit-step s (ready s q)) (ended k (visit s) (pending-visit s q))
+ended (suc k) s q = go (isOver s) refl (ended k (visit s) (pending-visit s q))
   where
-    go : ((left s ≡ []) × (visit s ≡ s)) ⊎ (left s ≡ due s ∷ left (visit s)) → Ended k (visit s) (visits k (visit s))
-        → Ended (suc k) s (visits k (visit s))
-    go (inl e) i = i ∙ rw (e .1, e .0) (leb·zero k ∙ sym (leb·zero (suc k)))
-    go (inr e) i = i ∙ sym (rw e (leb·suc-suc (length (left (visit s))) k))
+    go : (b : Bool) → isOver s ≡ b → Ended k (visit s) (visits k (visit s)) → Ended (suc k) s (visits k (visit s))
+    go true o i = rw (over-left s o) (ap isOver (over-stays (suc k) s o) ∙ o ∙ sym (leb·zero (suc k)))
+    go false o i = i ∙ sym (rw (visit-left s (ready s q) o) (leb·suc-suc (length (left (visit s))) k))
 
 -- ---- a file
 

@@ -12,7 +12,7 @@ use borrow.Author.Tests.{ne-eqb, leb-true}
 use Rattle.meaning.specs.Tree.{if_then_else_}
 use Rattle.meaning.specs.File.{File}
 use Rattle.meaning.specs.Reading.{accepted, readFile}
-use Rattle.meaning.specs.Walk.{start, visits}
+use Rattle.meaning.specs.Walk.{isOver, start, visits}
 use Rattle.meaning.specs.Charges.{
   Kind,
   ofBlock,
@@ -44,11 +44,12 @@ use Rattle.meaning.specs.Charges.{
   helperLines,
   finalFigures,
 }
-use Rattle.meaning.specs.VisitCharges.{standing, visitsIn, isContext, anyContext, addHelper, visitCharges}
+use Rattle.meaning.specs.Due.{isContext, anyContext}
+use Rattle.charge_laws.specs.VisitCharges.{standing, visitsIn, addHelper, visitCharges}
 use Rattle.charge_laws.specs.Growth.Charged.{Same, figures-same}
 use Rattle.charge_laws.specs.Counts.Figures.{joined}
 use Rattle.charge_laws.specs.Fit.Accepted.{accepted-after}
-use Rattle.charge_laws.specs.Fit.Ends.{isOver, walk-ends}
+use Rattle.charge_laws.specs.Fit.Ends.{walk-ends}
 use Rattle.charge_laws.specs.Fit.Modes.{Linear, cost, costs, cost-++}
 use Rattle.charge_laws.specs.Fit.Sums.{sums}
 use Rattle.charge_laws.specs.Fit.Orderly.{accepted-orderly}

@@ -10,20 +10,8 @@ use Rattle.meaning.specs.File.{Symbol}
 use Rattle.meaning.specs.Statements.{isUsing, anyUsing}
 use Rattle.meaning.specs.Walk.{block, actIf, actOf, forOfInsert, forOfWrap}
 use Rattle.meaning.specs.Charges.{Line, context, wrapped, ofBlock, wraps, contextLines, bodyLines}
-use Rattle.meaning.specs.VisitCharges.{
-  standing,
-  left,
-  right,
-  body,
-  next,
-  free,
-  enterLines,
-  visitsAs,
-  visitsStanding,
-  visitsTakenUp,
-  visitsBody,
-  visitsOf,
-}
+use Rattle.meaning.specs.Due.{enterLines}
+use Rattle.charge_laws.specs.VisitCharges.{standing, left, right, body, next, free, visitsAs, visitsStanding, visitsTakenUp, visitsBody, visitsOf}
 use Rattle.charge_laws.specs.Counts.ForOf.{standing-at}
 use Rattle.spec_laws.specs.Tags.{or-none}
 use Rattle.charge_laws.specs.Fit.Modes.{Linear, cost, costs, costs-++, visited, costOf, one-visited, taken-up-same}

@@ -14,35 +14,8 @@ use Rattle.meaning.specs.Contexts.{forList}
 use Rattle.meaning.specs.Program.{boundNames, keepsDefault}
 use Rattle.meaning.specs.Walk.{actOf}
 use Rattle.meaning.specs.Charges.{Line, wrapped, ofFor, contextLines}
-use Rattle.meaning.specs.VisitCharges.{
-  Mode,
-  standing,
-  takenUp,
-  declarators,
-  initializer,
-  loop,
-  cases,
-  kept,
-  moved,
-  skipped,
-  next,
-  Visits,
-  around,
-  free,
-  enterLines,
-  visitsAs,
-  visitsStanding,
-  visitsTakenUp,
-  visitsExport,
-  visitsDefault,
-  visitsKept,
-  visitsMovedExport,
-  visitsMovedDefault,
-  visitsMoved,
-  visitsOf,
-  programVisits,
-  visitsIn,
-}
+use Rattle.meaning.specs.Due.{enterLines}
+use Rattle.charge_laws.specs.VisitCharges.{Mode, standing, takenUp, declarators, initializer, loop, cases, kept, moved, skipped, next, Visits, around, free, visitsAs, visitsStanding, visitsTakenUp, visitsExport, visitsDefault, visitsKept, visitsMovedExport, visitsMovedDefault, visitsMoved, visitsOf, programVisits, visitsIn}
 use Rattle.spec_laws.specs.Tags.{Seen, other, here, there, seen, clash}
 use Rattle.charge_laws.specs.Growth.Trees.{using-tag}
 use Rattle.charge_laws.specs.Counts.Visits.{none-skipped}

@@ -29,20 +29,8 @@ use Rattle.meaning.specs.Walk.{
   actOf,
 }
 use Rattle.meaning.specs.Charges.{Line, ofTryPart, contextLines, forOfLines, ownLines, treeLines}
-use Rattle.meaning.specs.VisitCharges.{
-  standing,
-  parts,
-  inTry,
-  takenUp,
-  free,
-  next,
-  partLines,
-  enterLines,
-  visitsAs,
-  visitsStanding,
-  visitsOf,
-  visitsIn,
-}
+use Rattle.meaning.specs.Due.{partLines, enterLines}
+use Rattle.charge_laws.specs.VisitCharges.{standing, parts, inTry, takenUp, free, next, visitsAs, visitsStanding, visitsOf, visitsIn}
 use Rattle.spec_laws.specs.Tags.{Seen, other, here, there, seen, and-left, or-none}
 use Rattle.charge_laws.specs.Totals.Roles.{Lacks}
 use Rattle.charge_laws.specs.Fit.Orderly.{isTry, PlainBody, Orderly}

@@ -10,8 +10,8 @@ use lib.Dec.{eqb}
 use Rattle.meaning.specs.Tree.{if_then_else_, Head, Forest, one, Node, single, size, _&_}
 use Rattle.meaning.specs.Scoping.{Store}
 use Rattle.meaning.specs.Charges.{Line, helper, Figures, figures, charge, _⊕_, lineCharge, total, recordBytes}
-use Rattle.meaning.specs.VisitCharges.{isContext, anyContext}
-use Rattle.charge_laws.specs.Growth.Rows.{Grown, missing, oneIf, both, counted, unchanged}
+use Rattle.meaning.specs.Due.{isContext, anyContext, missing}
+use Rattle.charge_laws.specs.Growth.Rows.{Grown, oneIf, both, counted, unchanged}
 use Rattle.charge_laws.specs.Growth.Trees.{More, more-&}
 
 -- the figures of a store and the records given

@@ -47,7 +47,7 @@ use Rattle.meaning.specs.Charges.{
   contextLines,
   recordBytes,
 }
-use Rattle.meaning.specs.VisitCharges.{isContext, anyContext}
+use Rattle.meaning.specs.Due.{isContext, anyContext}
 use Rattle.charge_laws.specs.Growth.Rows.{
   Grown,
   both,

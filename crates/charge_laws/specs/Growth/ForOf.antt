@@ -12,7 +12,7 @@ use Rattle.meaning.specs.Shapes.{declaration, read}
 use Rattle.meaning.specs.Statements.{isUsing}
 use Rattle.meaning.specs.ForOf.{boundSymbol, rebind, insertUsing, wrapBody, enterForOfStatement}
 use Rattle.meaning.specs.Charges.{forOf, forOfBlock, lineCharge, total, recordBytes}
-use Rattle.meaning.specs.VisitCharges.{isContext, anyContext}
+use Rattle.meaning.specs.Due.{isContext, anyContext}
 use Rattle.charge_laws.specs.Growth.Rows.{Grown, both, scope-below, symbol-made, binding-moved}
 use Rattle.charge_laws.specs.Growth.Trees.{More, block-bytes, using-tag}
 use Rattle.charge_laws.specs.Growth.Charged.{PaysFor, pays}

@@ -32,7 +32,7 @@ use Rattle.meaning.specs.Charges.{
   contextLines,
   recordBytes,
 }
-use Rattle.meaning.specs.VisitCharges.{isContext, anyContext}
+use Rattle.meaning.specs.Due.{isContext, anyContext}
 use Rattle.charge_laws.specs.Growth.Rows.{Grown, grown, both, child-scope, symbol-made}
 use Rattle.charge_laws.specs.Growth.Loading.{load-grows, load-sized}
 use Rattle.charge_laws.specs.Growth.Trees.{More, list-taken}

@@ -20,7 +20,7 @@ use Rattle.meaning.specs.Contexts.{
   enterTryStatement,
 }
 use Rattle.meaning.specs.Charges.{ofTryPart, contextCharge, wraps, contextLines, recordBytes}
-use Rattle.meaning.specs.VisitCharges.{partLines}
+use Rattle.meaning.specs.Due.{partLines}
 use Rattle.charge_laws.specs.Growth.Rows.{Grown, both, either, unchanged, scope-between, binding-moved, bindings-moved}
 use Rattle.charge_laws.specs.Growth.Trees.{More, block-bytes}
 use Rattle.charge_laws.specs.Growth.Made.{context-pays, statements-grow, statements-more, try-grows, try-more}

@@ -45,7 +45,7 @@ use Rattle.meaning.specs.Charges.{
   itemLines,
   recordBytes,
 }
-use Rattle.meaning.specs.VisitCharges.{isContext, anyContext}
+use Rattle.meaning.specs.Due.{isContext, anyContext}
 use Rattle.spec_laws.specs.Tags.{Seen, other, here, there, seen, and-left}
 use Rattle.charge_laws.specs.Growth.Rows.{Grown, both, scope-below, symbol-made, symbol-flags, flags-of}
 use Rattle.charge_laws.specs.Growth.Trees.{More, block-bytes, more-&}

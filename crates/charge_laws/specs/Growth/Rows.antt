@@ -1,5 +1,6 @@
 -- What a change of the store adds to its rows.
 -- Assumes nothing.
+use Rattle.meaning.specs.Due.{missing}
 use mathlib.Core.Path.{_≡_, refl, sym, ap, _∙_}
 use mathlib.Core.Bool.{Bool, true, false, not, _||_, _&&_}
 use mathlib.Core.List.{List, [], _∷_}
@@ -25,10 +26,6 @@ use Rattle.meaning.specs.Scoping.{
   moveBindings,
   setFlagsOf,
 }
-
--- the runtime helper is still to be made
-abbrev pub missing : Store → Bool
-missing st = eqb (st .mode) 0 && eqb (st .helper) 0
 
 abbrev pub oneIf : Bool → ℕ
 oneIf b = if b then 1 else 0

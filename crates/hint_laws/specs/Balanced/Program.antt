@@ -31,7 +31,8 @@ use Rattle.meaning.specs.Program.{
   enterProgram,
 }
 use Rattle.spec_laws.specs.Tags.{Seen, other, here, there, seen, and-left}
-use Rattle.charge_laws.specs.Growth.Rows.{missing, oneIf, scope-below}
+use Rattle.meaning.specs.Due.{missing}
+use Rattle.charge_laws.specs.Growth.Rows.{oneIf, scope-below}
 use Rattle.charge_laws.specs.Growth.Program.{Exports, program-pays}
 use Rattle.charge_laws.specs.Counts.Program.{Kinds}
 use Rattle.hint_laws.specs.Hints.{letterFor, asksFor, callsIn}

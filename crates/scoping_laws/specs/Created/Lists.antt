@@ -12,7 +12,8 @@ use Rattle.meaning.specs.Scoping.{Store, createSymbol, insertScopeBelow, moveBi
 use Rattle.meaning.specs.Shapes.{block, tryStatement}
 use Rattle.meaning.specs.Statements.{takeUp, makeContext, transformStatements, createTryStmt}
 use Rattle.meaning.specs.Contexts.{transformBlockStatement, enterFunctionBody}
-use Rattle.charge_laws.specs.Growth.Rows.{missing, oneIf, scope-below, bindings-moved}
+use Rattle.meaning.specs.Due.{missing}
+use Rattle.charge_laws.specs.Growth.Rows.{oneIf, scope-below, bindings-moved}
 use Rattle.charge_laws.specs.Growth.Made.{try-grows}
 use Rattle.tables.specs.declared.Row.{Row}
 use Rattle.representation.specs.Gap.Cells.{table, rowsOf}

@@ -13,7 +13,8 @@ use Rattle.meaning.specs.Scoping.{Store, createSymbol, findBinding}
 use Rattle.meaning.specs.Shapes.{load}
 use Rattle.meaning.specs.HelperLoader.{makeHelper, loadRuntime, loadExternal, helperLoad}
 use Rattle.meaning.specs.Statements.{makeContext, transformStatements}
-use Rattle.charge_laws.specs.Growth.Rows.{missing, oneIf}
+use Rattle.meaning.specs.Due.{missing}
+use Rattle.charge_laws.specs.Growth.Rows.{oneIf}
 use Rattle.charge_laws.specs.Growth.Loading.{load-grows}
 use Rattle.tables.specs.Table.{capped}
 use Rattle.scoping.specs.Rows.{withContext, withHelper}

@@ -20,7 +20,8 @@ use Rattle.meaning.specs.Contexts.{
   takeUpCases,
   transformSwitchStatement,
 }
-use Rattle.charge_laws.specs.Growth.Rows.{Grown, missing, oneIf, both, child-scope, scope-parent, scope-below}
+use Rattle.meaning.specs.Due.{missing}
+use Rattle.charge_laws.specs.Growth.Rows.{Grown, oneIf, both, child-scope, scope-parent, scope-below}
 use Rattle.charge_laws.specs.Growth.Loading.{load-grows}
 use Rattle.charge_laws.specs.Growth.Made.{try-grows}
 use Rattle.tables.specs.declared.Row.{Row}

@@ -19,7 +19,8 @@ use Rattle.meaning.specs.Scoping.{
 use Rattle.meaning.specs.Shapes.{block, tryStatement}
 use Rattle.meaning.specs.Statements.{takeUp, makeContext, transformStatements, createTryStmt}
 use Rattle.meaning.specs.Contexts.{exitStaticBlock, transformTryBlock}
-use Rattle.charge_laws.specs.Growth.Rows.{missing, oneIf, scope-between, scope-flags, binding-moved as binding-grows}
+use Rattle.meaning.specs.Due.{missing}
+use Rattle.charge_laws.specs.Growth.Rows.{oneIf, scope-between, scope-flags, binding-moved as binding-grows}
 use Rattle.charge_laws.specs.Growth.Made.{try-grows}
 use Rattle.scoping.specs.Changes.{moveBindingF, setScopeFlagsF}
 use Rattle.representation.specs.Store.Held.{scopeCells, symbolCells, ctxOf, scopesHeld, symbolsHeld}

@@ -13,7 +13,7 @@ use Rattle.meaning.specs.Tree.{if_then_else_, Head, Forest, none, more, count, 
 use Rattle.meaning.specs.File.{Symbol}
 use Rattle.meaning.specs.Grammar.{scopeOf}
 use Rattle.meaning.specs.Scoping.{Store, Change, createChildScope, changeScopeParent, moveScopes, insertScopeBelow}
-use Rattle.charge_laws.specs.Growth.Rows.{missing}
+use Rattle.meaning.specs.Due.{missing}
 use Rattle.tables.specs.Loops.{until, stopped}
 use Rattle.tables.specs.Table.{capped, rowF}
 use Rattle.tables.specs.declared.Row.{Row}

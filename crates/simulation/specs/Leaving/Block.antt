@@ -14,7 +14,8 @@ use Rattle.meaning.specs.Statements.{anyUsing, takeUp}
 use Rattle.meaning.specs.Contexts.{exitStaticBlock}
 use Rattle.meaning.specs.Charges.{wraps}
 use Rattle.meaning.specs.Walk.{Crumb}
-use Rattle.charge_laws.specs.Growth.Rows.{missing, oneIf}
+use Rattle.meaning.specs.Due.{missing}
+use Rattle.charge_laws.specs.Growth.Rows.{oneIf}
 use Rattle.tables.specs.Table.{capped, columnF, rowF, madeF}
 use Rattle.tables.specs.Stream.{Buf, takeBackF}
 use Rattle.tables.specs.declared.Row.{Row}

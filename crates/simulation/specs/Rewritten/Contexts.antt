@@ -9,7 +9,8 @@ use Rattle.meaning.specs.Tree.{Head, Forest, Node, one, single, size, _&_}
 use Rattle.meaning.specs.Shapes.{block, tryStatement}
 use Rattle.meaning.specs.Scoping.{Store}
 use Rattle.meaning.specs.Walk.{Crumb, at, currentScope, hoistScope}
-use Rattle.charge_laws.specs.Growth.Rows.{missing, oneIf}
+use Rattle.meaning.specs.Due.{missing}
+use Rattle.charge_laws.specs.Growth.Rows.{oneIf}
 use Rattle.tables.specs.Stream.{Buf}
 use Rattle.path.specs.Path.{Tables, tables, chargedF, withCtxF}
 use Rattle.representation.specs.Gap.Cells.{rowsOf, gapped}

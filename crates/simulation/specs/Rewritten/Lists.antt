@@ -12,7 +12,8 @@ use Rattle.meaning.specs.Statements.{takeUp}
 use Rattle.meaning.specs.Contexts.{transformBlockStatement, enterFunctionBody}
 use Rattle.meaning.specs.Charges.{wraps}
 use Rattle.meaning.specs.Walk.{Crumb, at, currentScope, hoistScope}
-use Rattle.charge_laws.specs.Growth.Rows.{missing, oneIf}
+use Rattle.meaning.specs.Due.{missing}
+use Rattle.charge_laws.specs.Growth.Rows.{oneIf}
 use Rattle.tables.specs.Table.{capped, columnF, madeF}
 use Rattle.representation.specs.Store.Agreed.{Agreed}
 use Rattle.representation.specs.Spots.Spots.{visitedAt, restAt, Rest, held}

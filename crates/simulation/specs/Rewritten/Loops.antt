@@ -12,7 +12,8 @@ use Rattle.meaning.specs.Statements.{anyUsing}
 use Rattle.meaning.specs.Contexts.{forList, takeUpFor, transformForStatement, takeUpCases, transformSwitchStatement}
 use Rattle.meaning.specs.Charges.{wraps, caseWraps}
 use Rattle.meaning.specs.Walk.{Crumb, at, currentScope, hoistScope}
-use Rattle.charge_laws.specs.Growth.Rows.{missing, oneIf}
+use Rattle.meaning.specs.Due.{missing}
+use Rattle.charge_laws.specs.Growth.Rows.{oneIf}
 use Rattle.charge_laws.specs.Growth.Trees.{for-taken, cases-taken}
 use Rattle.charge_laws.specs.Counts.TakenUp.{Labelled}
 use Rattle.tables.specs.Table.{columnF}

@@ -13,7 +13,8 @@ use Rattle.meaning.specs.Scoping.{Store, Change, return, insertScopeBetween}
 use Rattle.meaning.specs.Statements.{anyUsing, transformStatements}
 use Rattle.meaning.specs.Contexts.{transformTryBlock}
 use Rattle.meaning.specs.Charges.{wraps}
-use Rattle.charge_laws.specs.Growth.Rows.{Grown, missing, oneIf, both, scope-between, binding-moved}
+use Rattle.meaning.specs.Due.{missing}
+use Rattle.charge_laws.specs.Growth.Rows.{Grown, oneIf, both, scope-between, binding-moved}
 use Rattle.charge_laws.specs.Growth.Made.{statements-grow, statements-more, try-grows, try-more}
 use Rattle.tables.specs.Table.{columnF, rowF, madeF}
 use Rattle.tables.specs.Stream.{copyF}

@@ -1,16 +1,18 @@
 -- The charge of each visit, found in the source: one list of lines a visit, in the walk's order.
 -- Assumes nothing.
 use mathlib.Core.List.{List, [], _∷_, _++_}
-use mathlib.Core.Bool.{Bool, true, false, not, _||_, _&&_}
+use mathlib.Core.Bool.{Bool, true, false, not, _&&_}
 use Prim.Native.Nat.{ℕ, zero, suc, _+_}
 use lib.ListN.{length, replicate}
 use lib.Dec.{eqb}
+use Rattle.meaning.specs.Numbers.Tag
+use Rattle.meaning.specs.Numbers.Mode as LoadMode
 use Rattle.meaning.specs.Tree.{if_then_else_, oneOf, Head, Forest, none, more, one}
 use Rattle.meaning.specs.File.{Symbol, File}
 use Rattle.meaning.specs.Statements.{isUsing, anyUsing}
 use Rattle.meaning.specs.Contexts.{forList}
 use Rattle.meaning.specs.Program.{boundNames, keepsDefault}
 use Rattle.meaning.specs.Walk.{
   isStaticBlock,
   Act,
   keep,
@@ -24,30 +26,8 @@ use Rattle.meaning.specs.Walk.{
   forOfWrap,
   actOf,
 }
-use Rattle.meaning.specs.Charges.{ofBlock, ofBody, ofStaticBlock, ofTryPart, ofFor, ofSwitch, Line, context, wrapped, forOf, forOfBlock, programBlock, topLevelClass, exportedClass, defaultExport, exportedNames, helper, wraps, caseWraps, contextLines, itemLines}
-
--- ---- the charge of one visit
-
--- the parts of a Try that have a using, in turn
-unfoldable pub partLines : Forest → List Line
-partLines none = []
-partLines (more h k r) =
-    (if eqb (h .tag) 12 then partLines k
-    else if eqb (h .tag) 2 then contextLines ofTryPart k
-    else [])
-    ++ partLines r
-
--- entering a record, by what it does
-unfoldable pub enterLines : Act → Head → Forest → List Line
-enterLines keep h k = []
-enterLines program h k = programBlock ∷ itemLines k
-enterLines block h k = contextLines ofBlock k
-enterLines functionBody h k = contextLines ofBody k
-enterLines tryParts h k = partLines k
-enterLines forLoop h k = contextLines ofFor (forList (one h k))
-enterLines switch h k = context ofSwitch ∷ wrapped (caseWraps k) ∷ []
-enterLines forOfInsert h k = forOf ∷ []
-enterLines forOfWrap h k = forOfBlock ∷ []
+use Rattle.meaning.specs.Charges.{ofBlock, ofStaticBlock, Line, context, wrapped, helper, wraps, contextLines}
+use Rattle.meaning.specs.Due.{enterLines, anyContext}
 
 -- ---- the visits to records beside each other
 
@@ -111,7 +91,7 @@ visitsAs program h k = record { before = enterLines program h k ∷ []; inside =
 visitsAs block h k = inTry (enterLines block h k ∷ []) takenUp
 visitsAs functionBody h k = inTry (enterLines functionBody h k ∷ free 1) takenUp
 visitsAs tryParts h k = around (enterLines tryParts h k ∷ []) parts []
-visitsAs forLoop h k = around (enterLines forLoop h k ∷ free 6) (if eqb (h .tag) 4 then loop else takenUp) (free 6)
+visitsAs forLoop h k = around (enterLines forLoop h k ∷ free 6) (if eqb (h .tag) Tag.Label then loop else takenUp) (free 6)
 visitsAs switch h k = around (enterLines switch h k ∷ free 6) cases (free 6)
 visitsAs forOfInsert h k = around (enterLines forOfInsert h k ∷ []) (left forOfInsert) []
 visitsAs forOfWrap h k = around (enterLines forOfWrap h k ∷ []) (left forOfWrap) []
@@ -146,8 +126,8 @@ module _ (asRead : List Symbol) where
   unfoldable pub visitsExport : Head → Forest → Forest → Visits
   visitsExport h k none = visitsStanding h k
   visitsExport h k (more h₁ k₁ r₁) =
-      if eqb (h₁ .tag) 15 then around (free 2) skipped []
-      else if eqb (h₁ .tag) 5 then around (free (1 + length (boundNames k₁))) skipped []
+      if eqb (h₁ .tag) Tag.Class then around (free 2) skipped []
+      else if eqb (h₁ .tag) Tag.Declaration then around (free (1 + length (boundNames k₁))) skipped []
       else visitsStanding h k
 
   unfoldable pub visitsDefault : Head → Forest → Forest → Visits
@@ -157,17 +137,17 @@ module _ (asRead : List Symbol) where
 
   unfoldable pub visitsKept : Head → Forest → Visits
   visitsKept h k =
-      if oneOf (13 ∷ 17 ∷ []) (h .tag) then visitsStanding h k
-      else if eqb (h .tag) 18 then visitsDefault h k k
-      else if eqb (h .tag) 19 then visitsExport h k k
+      if oneOf (Tag.Function ∷ Tag.ModuleLine ∷ []) (h .tag) then visitsStanding h k
+      else if eqb (h .tag) Tag.DefaultExport then visitsDefault h k k
+      else if eqb (h .tag) Tag.ExportedDeclaration then visitsExport h k k
       else around [] skipped []
 
   -- what it leaves in the Block: for a class or a default export, a Declaration, a Declarator and a Name before it
   unfoldable pub visitsMovedExport : Forest → Visits
   visitsMovedExport none = around [] skipped []
   visitsMovedExport (more h₁ k₁ r₁) =
-      if eqb (h₁ .tag) 15 then around (free 3) standing []
-      else if eqb (h₁ .tag) 5 then around [] standing []
+      if eqb (h₁ .tag) Tag.Class then around (free 3) standing []
+      else if eqb (h₁ .tag) Tag.Declaration then around [] standing []
       else around [] skipped []
 
   unfoldable pub visitsMovedDefault : Forest → Visits
@@ -176,23 +156,23 @@ module _ (asRead : List Symbol) where
 
   unfoldable pub visitsMoved : Head → Forest → Visits
   visitsMoved h k =
-      if oneOf (13 ∷ 17 ∷ []) (h .tag) then around [] skipped []
-      else if eqb (h .tag) 18 then visitsMovedDefault k
-      else if eqb (h .tag) 19 then visitsMovedExport k
-      else if eqb (h .tag) 15 then behindFree 3 (visitsStanding h k)
+      if oneOf (Tag.Function ∷ Tag.ModuleLine ∷ []) (h .tag) then around [] skipped []
+      else if eqb (h .tag) Tag.DefaultExport then visitsMovedDefault k
+      else if eqb (h .tag) Tag.ExportedDeclaration then visitsMovedExport k
+      else if eqb (h .tag) Tag.Class then behindFree 3 (visitsStanding h k)
       else visitsTakenUp h k
 
   unfoldable pub visitsOf : Mode → Head → Forest → Visits
   visitsOf standing h k = visitsStanding h k
   visitsOf takenUp h k = visitsTakenUp h k
-  visitsOf declarators h k = if eqb (h .tag) 6 then around (free 1) (initializer (h .b)) [] else visitsStanding h k
+  visitsOf declarators h k = if eqb (h .tag) Tag.Declarator then around (free 1) (initializer (h .b)) [] else visitsStanding h k
   visitsOf (initializer zero) h k = behindFree 1 (visitsStanding h k)
   visitsOf (initializer (suc m)) h k = visitsStanding h k
-  visitsOf loop h k = around (free 1) (if eqb (h .tag) 4 then loop else takenUp) []
-  visitsOf cases h k = if eqb (h .tag) 10 then around (free 1) takenUp [] else visitsStanding h k
+  visitsOf loop h k = around (free 1) (if eqb (h .tag) Tag.Label then loop else takenUp) []
+  visitsOf cases h k = if eqb (h .tag) Tag.Case then around (free 1) takenUp [] else visitsStanding h k
   visitsOf parts h k =
-      if eqb (h .tag) 12 then around (free 1) parts []
-      else if eqb (h .tag) 2 && anyUsing k then inTry (free 2) takenUp
+      if eqb (h .tag) Tag.Catch then around (free 1) parts []
+      else if eqb (h .tag) Tag.Block && anyUsing k then inTry (free 2) takenUp
       else visitsStanding h k
   visitsOf kept h k = visitsKept h k
   visitsOf moved h k = visitsMoved h k
@@ -218,22 +198,6 @@ module _ (asRead : List Symbol) where
 
 -- ---- the runtime helper
 
-unfoldable pub isContext : Line → Bool
-isContext (context k) = true
-isContext (wrapped n) = false
-isContext forOf = false
-isContext forOfBlock = false
-isContext programBlock = false
-isContext topLevelClass = false
-isContext exportedClass = false
-isContext defaultExport = false
-isContext (exportedNames n) = false
-isContext helper = false
-
-unfoldable pub anyContext : List Line → Bool
-anyContext [] = false
-anyContext (l ∷ ls) = isContext l || anyContext ls
-
 -- it comes with the first context, if it is still missing
 unfoldable pub addHelper : Bool → List (List Line) → List (List Line)
 addHelper missing [] = []
@@ -242,4 +206,4 @@ addHelper missing (x ∷ xs) =
 
 -- the charges of the visits, in order
 unfoldable pub visitCharges : File → List (List Line)
-visitCharges f = addHelper (eqb (f .mode) 0) (visitsIn (f .symbols) (f .tree) standing)
+visitCharges f = addHelper (eqb (f .mode) LoadMode.Runtime) (visitsIn (f .symbols) (f .tree) standing)

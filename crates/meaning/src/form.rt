@@ -1,0 +1,3 @@
+// The forms of a Function or a Class.
+pub const DECLARATION: u16 = 0;
+pub const EXPRESSION: u16 = 1;
