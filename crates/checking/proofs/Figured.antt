@@ -1,6 +1,6 @@
 -- What the public calls answer, from what the whole file comes to.
 -- Assumes nothing.
-use mathlib.Core.Path.{_≡_, refl, sym, ap, _∙_}
+use mathlib.Core.Path.{_≡_, refl, sym, ap, ap₂, _∙_}
 use mathlib.Core.Bool.{Bool, true, false, not, _&&_}
 use mathlib.Core.List.{List}
 use Prim.Native.Nat.{ℕ, _+_, _*_}
@@ -19,18 +19,22 @@ use Rattle.figures.specs.declared.FinalFigures.{FinalFigures}
 use Rattle.figures.specs.declared.Figured.{Figured}
 use Rattle.figures.specs.declared.Figured.the-variants.{Fine as FineFigures, Refused as RefusedFigures}
 use Rattle.charge_laws.specs.Totals.Total.{figuresFrom}
-use Rattle.charge_laws.specs.Totals.Accepted.{accepted-figures}
+use Rattle.charge_laws.specs.Totals.Accepted.{accepted-records, accepted-figures}
 use Rattle.checking.specs.declared.Checked.{Checked}
 use Rattle.checking.specs.declared.Checked.the-variants.{Fine, Refused as RefusedCheck}
 use Rattle.checking.specs.declared.Whole.{Whole}
 use Rattle.checking.specs.declared.Whole.the-variants.{Accepted, Refused as RefusedFile}
-use Rattle.checking.specs.Flat.{fileF, checkedOf}
+use Rattle.checking.specs.declared.Layout.{Layout}
+use Rattle.checking.specs.declared.Surveyed.{Surveyed}
+use Rattle.checking.specs.declared.Surveyed.the-variants.{Fine as FineSurvey, Refused as RefusedSurvey}
+use Rattle.checking.specs.Flat.{withRecords, fileF, checkedOf}
+use Rattle.checking.specs.Survey.{layoutOf, surveyedOf, withFigures}
 use Rattle.checking.proofs.Files.{tallyIn, wholeOf, whole-is}
 
 -- ---- a check
 
 abbrev pub checkedBy : Whole → Checked
-checkedBy (Accepted mode n t) = Fine
+checkedBy (Accepted l t) = Fine
 checkedBy (RefusedFile c p) = RefusedCheck c p
 
 checked-whole : (o : Outcome File) → checkedBy (wholeOf o) ≡ checkedOf o
@@ -42,9 +46,9 @@ checked-is f w e = ap checkedBy (e ∙ sym (whole-is f)) ∙ checked-whole (read
 
 -- ---- the figures
 
-abbrev pub figuredBy : Whole → Figured
-figuredBy (Accepted mode n t) = figuredF mode (n .scopes) (n .symbols) t
-figuredBy (RefusedFile c p) = RefusedFigures c p
+abbrev pub surveyedBy : Whole → Surveyed
+surveyedBy (Accepted l t) = withFigures l (figuredF (l .mode) (l .scopes) (l .symbols) t)
+surveyedBy (RefusedFile c p) = RefusedSurvey c p
 
 figures-eq : (x y : FinalFigures)
     → (x .records ≡ y .records) × (x .scopes ≡ y .scopes) × (x .symbols ≡ y .symbols) × (x .contexts ≡ y .contexts) × (x .bytes ≡ y .bytes)
@@ -79,35 +83,55 @@ contexts-are : (f : File) (t : Tally) → finalFigures f ≡ figuresFrom f (tall
 unfolding finalF
 contexts-are f t e = ap (λ (g : FinalFigures). g .contexts) (final-is f t e)
 
--- 8, or the figures
-by-mode : (b : Bool) (x : FinalFigures) (g : Figures) → x ≡ shownFigures g
-    → (if b then RefusedFigures 8 0 else FineFigures x) ≡ figuredOf (ensure (not b) 8 0 >> accepted g)
-by-mode true x g e = refl
-by-mode false x g e = ap FineFigures e
+-- 8, or the layout and the figures
+by-mode : (b : Bool) (f : File) (x : FinalFigures) (l : Layout) → x ≡ shownFigures (finalFigures f) → l ≡ layoutOf f
+    → withFigures l (if b then RefusedFigures 8 0 else FineFigures x) ≡ surveyedOf (ensure (not b) 8 0 >> accepted f)
+by-mode true f x l e d = refl
+by-mode false f x l e d = ap₂ FineSurvey d e
 
-mode-bind : (b : Bool) (f : File) (g : File → Figures)
-    → ((ensure b 8 0 >> accepted f) >>= (λ f. accepted (g f))) ≡ (ensure b 8 0 >> accepted (g f))
-mode-bind true f g = refl
-mode-bind false f g = refl
-
-accepted-is : (b : List ℕ) (f : File) → readFile b ≡ accepted f → figuredBy (wholeOf (accepted f)) ≡ figuredOf (figuresOf b)
-unfolding figuredF figuresOf checkFile checkMode
+accepted-is : (b : List ℕ) (f : File) → readFile b ≡ accepted f → surveyedBy (wholeOf (accepted f)) ≡ surveyedOf (checkFile b)
+unfolding figuredF checkFile checkMode
 accepted-is b f e =
     let t = cap (tallyIn f) in
     let g = accepted-figures b f e in
-    ap (λ (c : ℕ). if eqb (f .mode) 2 && leb 1 c then RefusedFigures 8 0 else FineFigures (finalF (f .mode) (length (f .scopes)) (length (f .symbols)) t))
+    let l = withRecords (layoutOf f) (t .records) in
+    ap (λ (c : ℕ).
+    withFigures l
+    (if eqb (f .mode) 2 && leb 1 c then RefusedFigures 8 0 else FineFigures (finalF (f .mode) (length (f .scopes)) (length (f .symbols)) t)))
     (contexts-are f t g)
-    ∙ by-mode (eqb (f .mode) 2 && leb 1 (finalFigures f .contexts)) _ (finalFigures f) (final-is f t g)
-    ∙ ap figuredOf (sym (mode-bind (not (eqb (f .mode) 2 && leb 1 (finalFigures f .contexts))) f finalFigures))
-    ∙ ap (λ (o : Outcome File). figuredOf ((o >>= (λ f. checkMode f >> accepted f)) >>= (λ f. accepted (finalFigures f)))) (sym e)
+    ∙ by-mode (eqb (f .mode) 2 && leb 1 (finalFigures f .contexts)) f _ l (final-is f t g)
+    (ap (λ (n : ℕ). record {
+      mode = f .mode;
+      esm = f .isModule;
+      scopes = length (f .scopes);
+      symbols = length (f .symbols);
+      records = n;
+      first = layoutOf f .first;
+      tree = layoutOf f .tree;
+    }) (accepted-records b f e))
+    ∙ ap (λ (o : Outcome File). surveyedOf (o >>= (λ f. checkMode f >> accepted f))) (sym e)
 
-refused-is : (b : List ℕ) (c p : ℕ) → readFile b ≡ refused c p → RefusedFigures c p ≡ figuredOf (figuresOf b)
-unfolding figuresOf checkFile
+refused-is : (b : List ℕ) (c p : ℕ) → readFile b ≡ refused c p → RefusedSurvey c p ≡ surveyedOf (checkFile b)
+unfolding checkFile
 refused-is b c p e = rw e
 
-by-reading : (b : List ℕ) (o : Outcome File) → readFile b ≡ o → figuredBy (wholeOf o) ≡ figuredOf (figuresOf b)
+by-reading : (b : List ℕ) (o : Outcome File) → readFile b ≡ o → surveyedBy (wholeOf o) ≡ surveyedOf (checkFile b)
 by-reading b (accepted f) e = accepted-is b f e
 by-reading b (refused c p) e = refused-is b c p e
 
-pub figured-is : (b : List ℕ) (w : Whole) → w ≡ fileF b → figuredBy w ≡ figuredOf (figuresOf b)
-figured-is b w e = ap figuredBy (e ∙ sym (whole-is b)) ∙ by-reading b (readFile b) refl
+pub surveyed-is : (b : List ℕ) (w : Whole) → w ≡ fileF b → surveyedBy w ≡ surveyedOf (checkFile b)
+surveyed-is b w e = ap surveyedBy (e ∙ sym (whole-is b)) ∙ by-reading b (readFile b) refl
+
+-- ---- the figures alone
+
+abbrev pub figuresIn : Surveyed → Figured
+figuresIn (FineSurvey l g) = FineFigures g
+figuresIn (RefusedSurvey c p) = RefusedFigures c p
+
+figures-alone : (o : Outcome File) → figuresIn (surveyedOf o) ≡ figuredOf (o >>= (λ f. accepted (finalFigures f)))
+figures-alone (accepted f) = refl
+figures-alone (refused c p) = refl
+
+pub figured-is : (b : List ℕ) (s : Surveyed) → s ≡ surveyedOf (checkFile b) → figuresIn s ≡ figuredOf (figuresOf b)
+unfolding figuresOf
+figured-is b s e = ap figuresIn e ∙ figures-alone (checkFile b)

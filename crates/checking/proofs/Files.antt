@@ -17,15 +17,16 @@ use Rattle.meaning.specs.declared.Reading.{Reading}
 use Rattle.meaning.specs.declared.Reading.the-variants.{Whole as WholeField, Refused as RefusedField}
 use Rattle.meaning.specs.declared.Rows.{Rows}
 use Rattle.meaning.specs.declared.Rows.the-variants.{Read, Refused as RefusedRows}
-use Rattle.parsing.specs.Fields.{field-is, scopes-are}
+use Rattle.parsing.specs.Fields.{field-is, scopes-are, symbols-are}
 use Rattle.parsing.specs.Files.{settings-are, scopes-length, symbols-length}
 use Rattle.tallies.specs.Tally.{noTally, _⊞_, cap, tallyOf}
 use Rattle.tallies.specs.declared.Tally.{Tally}
 use Rattle.tallies.specs.declared.Up.the-variants.{Plain}
-use Rattle.checking.specs.declared.RowCounts.{RowCounts}
+use Rattle.checking.specs.declared.Layout.{Layout}
 use Rattle.checking.specs.declared.Whole.{Whole}
 use Rattle.checking.specs.declared.Whole.the-variants.{Accepted, Refused as RefusedFile}
-use Rattle.checking.specs.Flat.{Past, listF, recordF, runAnswer, endF, answerOf, treeF, byRows, byField, rowsF, fileF}
+use Rattle.checking.specs.Flat.{Past, listF, recordF, runAnswer, endF, answerOf, treeF, layout, withRecords, byRows, byField, rowsF, fileF}
+use Rattle.checking.specs.Survey.{layoutOf}
 use Rattle.checking.proofs.Cap.{none-⊞}
 use Rattle.checking.proofs.Link.{forget, asRead, link-forest}
 
@@ -34,7 +35,7 @@ abbrev pub tallyIn : File → Tally
 tallyIn f = tallyOf (f .symbols) (λ _. Plain) 0 (f .tree)
 
 abbrev pub wholeOf : Outcome File → Whole
-wholeOf (accepted f) = Accepted (f .mode) (record { scopes = length (f .scopes); symbols = length (f .symbols) }) (cap (tallyIn f))
+wholeOf (accepted f) = Accepted (withRecords (layoutOf f) (cap (tallyIn f) .records)) (cap (tallyIn f))
 wholeOf (refused c p) = RefusedFile c p
 
 -- ---- the tree
@@ -51,28 +52,31 @@ program-is f scopes syms at m =
     link-forest f scopes syms 64 (λ _. Program) (λ _. Plain) 0 1 0 noTally at m ∙ alone (recordF 64 f scopes syms Program Plain 0 noTally at m)
 
 -- 7 and the lowest unnamed row; `g` makes the file
-end-tests : (b₁ b₂ : Bool) (c₁ p₁ c₂ p₂ : ℕ) (g : File) (q : Past) (mode : ℕ) (n : RowCounts)
-    → wholeOf (accepted g) ≡ Accepted mode n (q .tally)
+end-tests : (b₁ b₂ : Bool) (c₁ p₁ c₂ p₂ : ℕ) (g : File) (q : Past) (l : Layout)
+    → wholeOf (accepted g) ≡ Accepted (withRecords l (q .tally .records)) (q .tally)
     → wholeOf (ensure b₁ c₁ p₁ >> (ensure b₂ c₂ p₂ >> accepted g))
-    ≡ runAnswer mode n (answerOf (ensure b₁ c₁ p₁ >> (ensure b₂ c₂ p₂ >> accepted q)))
-end-tests true true c₁ p₁ c₂ p₂ g q mode n e = e
-end-tests true false c₁ p₁ c₂ p₂ g q mode n e = refl
-end-tests false b₂ c₁ p₁ c₂ p₂ g q mode n e = refl
+    ≡ runAnswer l (answerOf (ensure b₁ c₁ p₁ >> (ensure b₂ c₂ p₂ >> accepted q)))
+end-tests true true c₁ p₁ c₂ p₂ g q l e = e
+end-tests true false c₁ p₁ c₂ p₂ g q l e = refl
+end-tests false b₂ c₁ p₁ c₂ p₂ g q l e = refl
 
-end-is : (f : List ℕ) (n : ℕ) (ys : List Symbol) (o : Outcome Records) (oF : Outcome Past) (g : Records → File) (mode : ℕ) (counts : RowCounts)
-    → forget ys (λ _. Plain) 0 noTally o ≡ oF
-    → ((k : Records) → wholeOf (accepted (g k)) ≡ Accepted mode counts (cap (noTally ⊞ tallyOf ys (λ _. Plain) 0 (k .forest))))
+-- a layout with the tally of some records
+abbrev tallied : Layout → List Symbol → Records → Whole
+tallied l ys k = let t = cap (noTally ⊞ tallyOf ys (λ _. Plain) 0 (k .forest)) in Accepted (withRecords l (t .records)) t
+
+end-is : (f : List ℕ) (n : ℕ) (ys : List Symbol) (o : Outcome Records) (oF : Outcome Past) (g : Records → File) (l : Layout)
+    → forget ys (λ _. Plain) 0 noTally o ≡ oF → ((k : Records) → wholeOf (accepted (g k)) ≡ tallied l ys k)
     → wholeOf
     (o >>= (λ k.
     ensure (leb (length f) (k .next)) 7 (k .next)
     >> (ensure (leb n (unnamed (k .marks))) 5 (7 + 7 * unnamed (k .marks)) >> accepted (g k))))
-    ≡ runAnswer mode counts (answerOf (endF f n oF))
+    ≡ runAnswer l (answerOf (endF f n oF))
 unfolding endF
-end-is f n ys (accepted k) oF g mode counts e h =
+end-is f n ys (accepted k) oF g l e h =
     end-tests (leb (length f) (k .next)) (leb n (unnamed (k .marks))) 7 (k .next) 5 (7 + 7 * unnamed (k .marks)) (g k)
-    (record { next = k .next; marks = k .marks; tally = cap (noTally ⊞ tallyOf ys (λ _. Plain) 0 (k .forest)) }) mode counts (h k)
-    ∙ ap (λ (q : Outcome Past). runAnswer mode counts (answerOf (endF f n q))) e
-end-is f n ys (refused c p) oF g mode counts e h = ap (λ (q : Outcome Past). runAnswer mode counts (answerOf (endF f n q))) e
+    (record { next = k .next; marks = k .marks; tally = cap (noTally ⊞ tallyOf ys (λ _. Plain) 0 (k .forest)) }) l (h k)
+    ∙ ap (λ (q : Outcome Past). runAnswer l (answerOf (endF f n q))) e
+end-is f n ys (refused c p) oF g l e h = ap (λ (q : Outcome Past). runAnswer l (answerOf (endF f n q))) e
 
 -- ---- the steps before the tree
 
@@ -97,12 +101,12 @@ by-rows (Read k at) g gF h = h k at refl
 by-rows (RefusedRows c p) g gF h = refl
 
 -- the file that is made of accepted records
-made-is : (f : List ℕ) (mode modul n syms at : ℕ) (k : Records) → at ≡ 7 + 7 * n
-    → wholeOf (accepted (record { mode = mode; isModule = modul; scopes = scopesIn f n 1; symbols = symbolsIn f syms at; tree = k .forest }))
-    ≡ Accepted mode (record { scopes = n; symbols = syms }) (cap (noTally ⊞ tallyOf (asRead f n syms) (λ _. Plain) 0 (k .forest)))
-made-is f mode modul n syms at k e =
-    rw (scopes-length f n 1, symbols-length f syms at, e)
-    (ap (λ (t : Tally). Accepted mode (record { scopes = n; symbols = syms }) (cap t)) (sym (none-⊞ _)))
+made-is : (f : List ℕ) (s : Field) (n syms at at₂ : ℕ) (k : Records) → at ≡ 7 + 7 * n → at₂ ≡ at + 11 * syms
+    → wholeOf (accepted (record { mode = s .a; isModule = s .b; scopes = scopesIn f n 1; symbols = symbolsIn f syms at; tree = k .forest }))
+    ≡ tallied (layout s n syms at at₂) (asRead f n syms) k
+made-is f s n syms at at₂ k e₁ e₂ =
+    rw (scopes-length f n 1, symbols-length f syms at, e₂, e₁)
+    (ap (λ (t : Tally). Accepted (withRecords (layout s n syms (7 + 7 * n) (7 + 7 * n + 11 * syms)) (cap t .records)) (cap t)) (sym (none-⊞ _)))
 
 -- the first symbol row stands behind the settings and n scope rows
 symbols-from : (f : List ℕ) (x : Field) (n at : ℕ) → fieldAt f Settings 0 ≡ WholeField x → readScopes f (x .next) ≡ Read n at
@@ -113,6 +117,15 @@ symbols-from f x n at e r =
     let next = ap (λ (z : Field). z .next) (s .0) in
     omega (arith, next, settings-are f y .2, scopes-are f (x .next) n at (omega (arith, next, y .ends)) r .next-is)
 
+-- Program stands behind the symbol rows
+tree-from : (f : List ℕ) (x : Field) (n at syms at₂ : ℕ) → fieldAt f Settings 0 ≡ WholeField x → readScopes f (x .next) ≡ Read n at
+    → readSymbols f n at ≡ Read syms at₂ → at₂ ≡ at + 11 * syms
+tree-from f x n at syms at₂ e r q =
+    let s = field-is f Settings 0 x e in
+    let y = s .1 in
+    let next = ap (λ (z : Field). z .next) (s .0) in
+    symbols-are f n at syms at₂ (scopes-are f (x .next) n at (omega (arith, next, y .ends)) r .ends) q .next-is
+
 pub whole-is : (f : List ℕ) → wholeOf (readFile f) ≡ fileF f
 unfolding readFile fileF rowsF treeF
 whole-is f =
@@ -121,8 +134,8 @@ whole-is f =
     by-settings (leb (s .a) 2) (leb (s .b) 1) _ _ (
     by-rows (readScopes f (s .next)) _ _ (λ n at en.
     by-rows (readSymbols f n at) _ _ (λ syms at₂ ey.
-    end-is f n (asRead f n syms) (readForest 64 f syms (λ _. Program) 0 0 1 at₂ (replicate n 0)) _ _ (s .a) (record { scopes = n; symbols = syms })
+    end-is f n (asRead f n syms) (readForest 64 f syms (λ _. Program) 0 0 1 at₂ (replicate n 0)) _ _ (layout s n syms at at₂)
     (program-is f n syms at₂ (replicate n 0))
-    (λ k. made-is f (s .a) (s .b) n syms at k (symbols-from f s n at es en))
-    ∙ ap (λ (j : ℕ). runAnswer (s .a) (record { scopes = n; symbols = syms }) (answerOf (endF f j (recordF 64 f n syms Program Plain 0 noTally at₂ (replicate n 0)))))
+    (λ k. made-is f s n syms at at₂ k (symbols-from f s n at es en) (tree-from f s n at syms at₂ es en ey))
+    ∙ ap (λ (j : ℕ). runAnswer (layout s n syms at at₂) (answerOf (endF f j (recordF 64 f n syms Program Plain 0 noTally at₂ (replicate n 0)))))
     (sym (length-replicate n 0)))))))

@@ -1,6 +1,6 @@
 -- What the check computes: the reader's answers and marks, with no tree.
 -- Assumes nothing.
-use Prim.Native.Nat.{ℕ, zero, suc, _+_, _*_}
+use Prim.Native.Nat.{ℕ, zero, suc, _+_, _*_, min}
 use mathlib.Core.Bool.{Bool, not, _&&_}
 use mathlib.Core.List.{List}
 use lib.Dec.{eqb, leb}
@@ -19,7 +19,7 @@ use Rattle.checking.specs.declared.Answer.{Answer}
 use Rattle.checking.specs.declared.Answer.the-variants.{Next, Refused as RefusedAnswer}
 use Rattle.checking.specs.declared.Checked.{Checked}
 use Rattle.checking.specs.declared.Checked.the-variants.{Fine, Refused as RefusedCheck}
-use Rattle.checking.specs.declared.RowCounts.{RowCounts}
+use Rattle.checking.specs.declared.Layout.{Layout}
 use Rattle.checking.specs.declared.Whole.{Whole}
 use Rattle.checking.specs.declared.Whole.the-variants.{Accepted, Refused as RefusedFile}
 use Rattle.meaning.specs.Statements.{isUsing}
@@ -157,9 +157,26 @@ abbrev pub fileRows : Rows → Whole
 fileRows (Read k at) = RefusedFile 0 0
 fileRows (RefusedRows c p) = RefusedFile c p
 
-abbrev pub runAnswer : ℕ → RowCounts → Answer → Whole
-runAnswer mode n (Next at t) = Accepted mode n t
-runAnswer mode n (RefusedAnswer c p) = RefusedFile c p
+-- before the records are counted
+abbrev pub layout : Field → ℕ → ℕ → ℕ → ℕ → Layout
+layout s scopes symbols first tree =
+    record { mode = s .a; esm = s .b; scopes = scopes; symbols = symbols; records = 0; first = first; tree = tree }
+
+abbrev pub withRecords : Layout → ℕ → Layout
+withRecords l n =
+    record {
+      mode = l .mode;
+      esm = l .esm;
+      scopes = l .scopes;
+      symbols = l .symbols;
+      records = min n 65535;
+      first = l .first;
+      tree = l .tree;
+    }
+
+abbrev pub runAnswer : Layout → Answer → Whole
+runAnswer l (Next at t) = Accepted (withRecords l (t .records)) t
+runAnswer l (RefusedAnswer c p) = RefusedFile c p
 
 -- behind the tree: 7, and the lowest unnamed row of n
 unfoldable pub endF : List ℕ → ℕ → Outcome Past → Outcome Past
@@ -185,17 +202,16 @@ byField (WholeField x) g = g x
 byField (RefusedField c p) g = RefusedFile c p
 
 -- the rows behind the settings, and the tree
-unfoldable pub rowsF : List ℕ → ℕ → ℕ → Whole
-rowsF f mode from =
-    byRows (readScopes f from) (λ n at.
-    byRows (readSymbols f n at) (λ syms at₂.
-    runAnswer mode (record { scopes = n; symbols = syms }) (treeF f n syms at₂ (replicate n 0))))
+unfoldable pub rowsF : List ℕ → Field → Whole
+rowsF f s =
+    byRows (readScopes f (s .next)) (λ n at.
+    byRows (readSymbols f n at) (λ syms at₂. runAnswer (layout s n syms at at₂) (treeF f n syms at₂ (replicate n 0))))
 
 unfoldable pub fileF : List ℕ → Whole
 fileF f =
     if leb (length f) 65535
     then byField (fieldAt f Settings 0) (λ s.
-    if leb (s .a) 2 then (if leb (s .b) 1 then rowsF f (s .a) (s .next) else RefusedFile 5 0) else RefusedFile 5 0)
+    if leb (s .a) 2 then (if leb (s .b) 1 then rowsF f s else RefusedFile 5 0) else RefusedFile 5 0)
     else RefusedFile 1 65535
 
 -- 01's answer of a check

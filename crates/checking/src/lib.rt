@@ -1,5 +1,6 @@
 // Checking a tree file on its bytes, and the figures of what it is lowered to.
 use figures::Figured;
+use figures::FinalFigures;
 use meaning::Field;
 use meaning::Place;
 use meaning::Reading;
@@ -9,15 +10,16 @@ use tallies::Tally;
 use tallies::Up;
 ghost use mathlib.Core.Path.{_≡_};
 ghost use mathlib.Core.Bool.{_||_};
-ghost use Prim.Native.Nat.{_≤_};
+ghost use Prim.Native.Nat.{_≤_, min};
 ghost use lib.ListN.{getD, length, replicate};
 ghost use lib.Dec.{eqb};
 ghost use Rattle.meaning.specs.Tree.{if_then_else_};
 ghost use Rattle.meaning.specs.Grammar.{mayName, naming, unnamed};
 ghost use Rattle.meaning.specs.Reading.{scopeAt, symbolAt, readScopes, readSymbols, readFile};
-ghost use Rattle.meaning.specs.Lowering.{figuresOf};
+ghost use Rattle.meaning.specs.Lowering.{checkFile, figuresOf};
 ghost use Rattle.figures.specs.Figures.{figuredOf};
-ghost use Rattle.checking.specs.Flat.{isWhole, expressionSize, mentionSize, leafSize, entered, enterF, refusalOf, past, recordF, childrenF, afterF, rowsRefusal, treeF, fileRefusal, fileRows, runAnswer, rowsF, fileF, checkedOf};
+ghost use Rattle.checking.specs.Flat.{isWhole, expressionSize, mentionSize, leafSize, entered, enterF, refusalOf, past, recordF, childrenF, afterF, rowsRefusal, treeF, fileRefusal, fileRows, withRecords, runAnswer, rowsF, fileF, checkedOf};
+ghost use Rattle.checking.specs.Survey.{withFigures, surveyedOf};
 
 // The offset behind what was checked and the tally so far, or a refusal's number and place.
 enum Answer {
@@ -31,9 +33,27 @@ pub struct RowCounts {
     pub symbols: u16,
 }
 
-// What a whole file comes to: its mode, its rows and the tally of its tree, or the refusal.
+// What the check knows of a file: its settings, how many scope rows, symbol rows and records it has, and the offsets of the first symbol row
+// and of Program.
+pub struct Layout {
+    pub mode: u16,
+    pub esm: u16,
+    pub scopes: u16,
+    pub symbols: u16,
+    pub records: u16,
+    pub first: usize,
+    pub tree: usize,
+}
+
+// What a whole file comes to: its layout and the tally of its tree, or the refusal.
 enum Whole {
-    Accepted(u16, RowCounts, Tally),
+    Accepted(Layout, Tally),
+    Refused(u8, usize),
+}
+
+// What a survey answers: the layout of a file and the figures of the lowered one, or a refusal's number and place.
+pub enum Surveyed {
+    Fine(Layout, FinalFigures),
     Refused(u8, usize),
 }
 
@@ -475,20 +495,43 @@ fn rows_refused(r: Rows) -> Whole
     }
 }
 
-fn run_answer(mode: u16, rows: RowCounts, a: Answer) -> Whole
-    ensures { λ q. ⌜ q ≡ runAnswer mode rows a ⌝ }
+// A number, or the largest that fits.
+fn capped(x: u32) -> u16
+    ensures { λ r. ⌜ r ≡ min x 65535 ⌝ }
+{
+    if x <= 65535 { x as u16 } else { 65535 }
+}
+
+// The layout with the records that were counted.
+fn with_records(l: Layout, records: u32) -> Layout
+    ensures { λ r. ⌜ r ≡ withRecords l records ⌝ }
+{
+    Layout {
+        mode: l.mode,
+        esm: l.esm,
+        scopes: l.scopes,
+        symbols: l.symbols,
+        records: capped(records),
+        first: l.first,
+        tree: l.tree,
+    }
+}
+
+// A whole file by the answer of its tree; the layout does not count records yet.
+fn run_answer(l: Layout, a: Answer) -> Whole
+    ensures { λ q. ⌜ q ≡ runAnswer l a ⌝ }
 {
     match a {
-        Answer::Next(_, t) => Whole::Accepted(mode, rows, t),
+        Answer::Next(_, t) => Whole::Accepted(with_records(l, t.records), t),
         Answer::Refused(c, p) => Whole::Refused(c, p),
     }
 }
 
 // The rows behind the settings, and the tree.
-fn check_rows(file: &[u8], mode: u16, from: usize) -> Whole
-    ensures { λ r. ⌜ r ≡ rowsF (now (file .entry)) mode from ⌝ }
+fn check_rows(file: &[u8], settings: Field) -> Whole
+    ensures { λ r. ⌜ r ≡ rowsF (now (file .entry)) settings ⌝ }
 {
-    let scopes = read_scopes(file, from);
+    let scopes = read_scopes(file, settings.next);
     let Rows::Read(n, at) = scopes else {
         return rows_refused(scopes);
     };
@@ -500,7 +543,16 @@ fn check_rows(file: &[u8], mode: u16, from: usize) -> Whole
         scopes: n as u16,
         symbols: m as u16,
     };
-    run_answer(mode, rows, check_unmarked(file, rows, tree))
+    let l = Layout {
+        mode: settings.a,
+        esm: settings.b,
+        scopes: rows.scopes,
+        symbols: rows.symbols,
+        records: 0,
+        first: at,
+        tree,
+    };
+    run_answer(l, check_unmarked(file, rows, tree))
 }
 
 // Checks a whole file: how many rows, and the tally of its tree.
@@ -520,7 +572,7 @@ fn check_whole(file: &[u8]) -> Whole
     if 1 < s.b {
         return Whole::Refused(5, 0);
     }
-    check_rows(file, s.a, s.next)
+    check_rows(file, s)
 }
 
 // ---- public
@@ -531,8 +583,31 @@ pub fn check(file: &[u8]) -> Checked
 {
     let r = check_whole(file);
     match r {
-        Whole::Accepted(_, _, _) => Checked::Fine,
+        Whole::Accepted(_, _) => Checked::Fine,
         Whole::Refused(c, p) => Checked::Refused(c, p),
+    }
+}
+
+// The answer of a survey by that of the figures.
+fn with_figures(l: Layout, f: Figured) -> Surveyed
+    ensures { λ r. ⌜ r ≡ withFigures l f ⌝ }
+{
+    match f {
+        Figured::Fine(g) => Surveyed::Fine(l, g),
+        Figured::Refused(c, p) => Surveyed::Refused(c, p),
+    }
+}
+
+// The layout of a file and the figures of the lowered one, or 01's refusal with its place: those of reading, and 8.
+pub fn survey(file: &[u8]) -> Surveyed
+    ensures { λ r. ⌜ r ≡ surveyedOf (checkFile (now (file .entry))) ⌝ }
+{
+    let w = check_whole(file);
+    match w {
+        Whole::Accepted(l, t) => {
+            with_figures(l, figures::figures_of(l.mode, l.scopes, l.symbols, t))
+        }
+        Whole::Refused(c, p) => Surveyed::Refused(c, p),
     }
 }
 
@@ -540,9 +615,9 @@ pub fn check(file: &[u8]) -> Checked
 pub fn figures(file: &[u8]) -> Figured
     ensures { λ r. ⌜ r ≡ figuredOf (figuresOf (now (file .entry))) ⌝ }
 {
-    let w = check_whole(file);
-    match w {
-        Whole::Accepted(mode, rows, t) => figures::figures_of(mode, rows.scopes, rows.symbols, t),
-        Whole::Refused(c, p) => Figured::Refused(c, p),
+    let s = survey(file);
+    match s {
+        Surveyed::Fine(_, g) => Figured::Fine(g),
+        Surveyed::Refused(c, p) => Figured::Refused(c, p),
     }
 }

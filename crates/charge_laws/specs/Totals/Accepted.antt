@@ -3,7 +3,7 @@
 use mathlib.Core.Path.{_≡_, refl, subst}
 use mathlib.Core.Bool.{Bool, true, false, not, _&&_}
 use mathlib.Core.List.{List, [], _∷_}
-use Prim.Native.Nat.{ℕ, _≤_}
+use Prim.Native.Nat.{ℕ, _≤_, min}
 use native.Mathlib.Omega.{arith}
 use lib.Dec.{eqb, ltb}
 use borrow.Author.Tests.{eqb-true}
@@ -22,7 +22,7 @@ use Rattle.parsing.specs.Parsed.{RecordAt, same-tag, Parsed, parsed-none, parse
 use Rattle.parsing.specs.Counts.{parsed-bytes, size-bytes}
 use Rattle.parsing.specs.Files.{file-parsed}
 use Rattle.charge_laws.specs.Totals.Total.{figuresFrom, figures-are}
-use Rattle.charge_laws.specs.Totals.Bound.{tally-cap}
+use Rattle.charge_laws.specs.Totals.Bound.{tally-records, tally-cap}
 use Rattle.charge_laws.specs.Totals.Roles.{Lacks, LacksBelow, Regular}
 
 -- ---- places below a record
@@ -108,7 +108,12 @@ accepted-is f g e =
     let q = file-parsed f g e in
     record { regular = regular (q .tree); small = omega (arith, q .small, parsed-bytes (q .tree), size-bytes (g .tree)) }
 
--- its final figures are those of its tally, which no cap has changed
+-- its records are counted, and its final figures are those of its tally, which no cap has changed
+pub accepted-records : (f : List ℕ) (g : File) → readFile f ≡ accepted g
+    → (min (cap (tallyOf (g .symbols) (λ _. Plain) 0 (g .tree)) .records) 65535 ≡ size (g .tree))
+accepted-records f g e =
+    omega (arith, accepted-is f g e .small, tally-records (g .symbols) (g .tree) (λ _. Plain) 0)
+
 pub accepted-figures : (f : List ℕ) (g : File) → readFile f ≡ accepted g
     → finalFigures g ≡ figuresFrom g (tallyFigures (cap (tallyOf (g .symbols) (λ _. Plain) 0 (g .tree))))
 accepted-figures f g e =

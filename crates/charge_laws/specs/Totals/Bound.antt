@@ -1,6 +1,6 @@
 -- No counter of a tally exceeds a multiple of its records, so none is capped.
 -- Assumes nothing.
-use mathlib.Core.Path.{_≡_}
+use mathlib.Core.Path.{_≡_, refl}
 use mathlib.Core.Bool.{Bool, true, false, not, _&&_}
 use mathlib.Core.List.{List, [], _∷_}
 use Prim.Native.Nat.{ℕ, suc, _+_, _*_, _≤_}
@@ -138,6 +138,13 @@ tally-small asRead (more h k r) ups i =
     sum-small (size k) (size r) _ _
     (own-small (ups i) (insertsIn asRead (ups i) h) h (count k) (size k) (tallyOf asRead below 0 k) (tally-small asRead k below 0))
     (tally-small asRead r ups (suc i))
+
+-- The records that are counted are all there are.
+pub tally-records : (asRead : List Symbol) (f : Forest) (ups : ℕ → Up) (i : ℕ) → tallyOf asRead ups i f .records ≡ size f
+unfolding tallyOf own size
+tally-records asRead none ups i = refl
+tally-records asRead (more h k r) ups i =
+    omega (arith, tally-records asRead k (upOf (ups i) (h .tag) (isUsing h) (bodyOf k)) 0, tally-records asRead r ups (suc i))
 
 -- ---- no cap
 
