@@ -3,10 +3,11 @@
 use mathlib.Core.Path.{_≡_, refl, sym, ap, _∙_}
 use mathlib.Core.Bool.{Bool, true, false, _&&_}
 use mathlib.Core.List.{List}
-use Prim.Native.Nat.{ℕ, _+_, _*_}
+use Prim.Native.Nat.{ℕ, _+_, _*_, _≤_, min}
 use native.Mathlib.Omega.{arith}
 use lib.Dec.{leb}
 use lib.ListN.{length, replicate, length-replicate}
+use borrow.Author.Tests.{leb-true}
 use Rattle.meaning.specs.Tree.{if_then_else_}
 use Rattle.meaning.specs.File.{Symbol, File}
 use Rattle.meaning.specs.Grammar.{fieldAt, unnamed}
@@ -80,8 +81,9 @@ end-is f n ys (refused c p) oF g l e h = ap (λ (q : Outcome Past). runAnswer l 
 
 -- ---- the steps before the tree
 
-by-size : (b : Bool) (o : Outcome File) (r : Whole) → wholeOf o ≡ r → wholeOf (ensure b 1 65535 >> o) ≡ (if b then r else RefusedFile 1 65535)
-by-size true o r e = e
+by-size : (b : Bool) (o : Outcome File) (r : Whole) → (b ≡ true → wholeOf o ≡ r)
+    → wholeOf (ensure b 1 65535 >> o) ≡ (if b then r else RefusedFile 1 65535)
+by-size true o r e = e refl
 by-size false o r e = refl
 
 by-settings : (b₁ b₂ : Bool) (o : Outcome File) (r : Whole) → wholeOf o ≡ r
@@ -101,41 +103,61 @@ by-rows (Read k at) g gF h = h k at refl
 by-rows (RefusedRows c p) g gF h = refl
 
 -- the file that is made of accepted records
-made-is : (f : List ℕ) (s : Field) (n syms at at₂ : ℕ) (k : Records) → at ≡ 7 + 7 * n → at₂ ≡ at + 11 * syms
+made-is : (f : List ℕ) (s : Field) (n syms at at₂ : ℕ) (k : Records) → min at 65535 ≡ 7 + 7 * n → at ≡ 7 + 7 * n
+    → min at₂ 65535 ≡ 7 + 7 * n + 11 * syms
     → wholeOf (accepted (record { mode = s .a; isModule = s .b; scopes = scopesIn f n 1; symbols = symbolsIn f syms at; tree = k .forest }))
     ≡ tallied (layout s n syms at at₂) (asRead f n syms) k
-made-is f s n syms at at₂ k e₁ e₂ =
-    rw (scopes-length f n 1, symbols-length f syms at, e₂, e₁)
-    (ap (λ (t : Tally). Accepted (withRecords (layout s n syms (7 + 7 * n) (7 + 7 * n + 11 * syms)) (cap t .records)) (cap t)) (sym (none-⊞ _)))
+made-is f s n syms at at₂ k e₁ e e₂ =
+    rw (scopes-length f n 1, symbols-length f syms at, e₁, e₂, e)
+    (ap (λ (t : Tally).
+    Accepted
+    (record {
+      mode = s .a;
+      esm = s .b;
+      scopes = n;
+      symbols = syms;
+      records = min (cap t .records) 65535;
+      first = 7 + 7 * n;
+      tree = 7 + 7 * n + 11 * syms;
+    })
+    (cap t))
+    (sym (none-⊞ _)))
 
 -- the first symbol row stands behind the settings and n scope rows
 symbols-from : (f : List ℕ) (x : Field) (n at : ℕ) → fieldAt f Settings 0 ≡ WholeField x → readScopes f (x .next) ≡ Read n at
-    → at ≡ 7 + 7 * n
+    → (at ≡ 7 + 7 * n) × (at ≤ length f)
 symbols-from f x n at e r =
     let s = field-is f Settings 0 x e in
     let y = s .1 in
     let next = ap (λ (z : Field). z .next) (s .0) in
-    omega (arith, next, settings-are f y .2, scopes-are f (x .next) n at (omega (arith, next, y .ends)) r .next-is)
+    let q = scopes-are f (x .next) n at (omega (arith, next, y .ends)) r in
+    (omega (arith, next, settings-are f y .2, q .next-is), q .ends)
 
 -- Program stands behind the symbol rows
-tree-from : (f : List ℕ) (x : Field) (n at syms at₂ : ℕ) → fieldAt f Settings 0 ≡ WholeField x → readScopes f (x .next) ≡ Read n at
-    → readSymbols f n at ≡ Read syms at₂ → at₂ ≡ at + 11 * syms
-tree-from f x n at syms at₂ e r q =
-    let s = field-is f Settings 0 x e in
-    let y = s .1 in
-    let next = ap (λ (z : Field). z .next) (s .0) in
-    symbols-are f n at syms at₂ (scopes-are f (x .next) n at (omega (arith, next, y .ends)) r .ends) q .next-is
+tree-from : (f : List ℕ) (n at syms at₂ : ℕ) → at ≤ length f → readSymbols f n at ≡ Read syms at₂
+    → (at₂ ≡ at + 11 * syms) × (at₂ ≤ length f)
+tree-from f n at syms at₂ l e = let q = symbols-are f n at syms at₂ l e in (q .next-is, q .ends)
+
+-- the layout and the tally of what was read from a file that is not too long
+file-is : (f : List ℕ) (s : Field) (n at syms at₂ : ℕ) (k : Records) → length f ≤ 65535 → fieldAt f Settings 0 ≡ WholeField s
+    → readScopes f (s .next) ≡ Read n at → readSymbols f n at ≡ Read syms at₂
+    → wholeOf (accepted (record { mode = s .a; isModule = s .b; scopes = scopesIn f n 1; symbols = symbolsIn f syms at; tree = k .forest }))
+    ≡ tallied (layout s n syms at at₂) (asRead f n syms) k
+file-is f s n at syms at₂ k h es en ey =
+    let x = symbols-from f s n at es en in
+    let y = tree-from f n at syms at₂ (x .1) ey in
+    made-is f s n syms at at₂ k (omega (arith, x .0, x .1)) (x .0) (omega (arith, x .0, y .0, y .1))
 
 pub whole-is : (f : List ℕ) → wholeOf (readFile f) ≡ fileF f
 unfolding readFile fileF rowsF treeF
 whole-is f =
-    by-size (leb (length f) 65535) _ _ (
+    by-size (leb (length f) 65535) _ _ (λ short.
     by-field (fieldAt f Settings 0) _ _ (λ s es.
     by-settings (leb (s .a) 2) (leb (s .b) 1) _ _ (
     by-rows (readScopes f (s .next)) _ _ (λ n at en.
     by-rows (readSymbols f n at) _ _ (λ syms at₂ ey.
     end-is f n (asRead f n syms) (readForest 64 f syms (λ _. Program) 0 0 1 at₂ (replicate n 0)) _ _ (layout s n syms at at₂)
     (program-is f n syms at₂ (replicate n 0))
-    (λ k. made-is f s n syms at at₂ k (symbols-from f s n at es en) (tree-from f s n at syms at₂ es en ey))
+    (λ k. file-is f s n at syms at₂ k (leb-true (length f) 65535 short) es en ey)
     ∙ ap (λ (j : ℕ). runAnswer (layout s n syms at at₂) (answerOf (endF f j (recordF 64 f n syms Program Plain 0 noTally at₂ (replicate n 0)))))
     (sym (length-replicate n 0)))))))

@@ -160,7 +160,7 @@ fileRows (RefusedRows c p) = RefusedFile c p
 -- before the records are counted
 abbrev pub layout : Field → ℕ → ℕ → ℕ → ℕ → Layout
 layout s scopes symbols first tree =
-    record { mode = s .a; esm = s .b; scopes = scopes; symbols = symbols; records = 0; first = first; tree = tree }
+    record { mode = s .a; esm = s .b; scopes = scopes; symbols = symbols; records = 0; first = min first 65535; tree = min tree 65535 }
 
 abbrev pub withRecords : Layout → ℕ → Layout
 withRecords l n =

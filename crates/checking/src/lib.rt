@@ -41,8 +41,8 @@ pub struct Layout {
     pub scopes: u16,
     pub symbols: u16,
     pub records: u16,
-    pub first: usize,
-    pub tree: usize,
+    pub first: u16,
+    pub tree: u16,
 }
 
 // What a whole file comes to: its layout and the tally of its tree, or the refusal.
@@ -496,7 +496,7 @@ fn rows_refused(r: Rows) -> Whole
 }
 
 // A number, or the largest that fits.
-fn capped(x: u32) -> u16
+fn capped(x: usize) -> u16
     ensures { λ r. ⌜ r ≡ min x 65535 ⌝ }
 {
     if x <= 65535 { x as u16 } else { 65535 }
@@ -511,7 +511,7 @@ fn with_records(l: Layout, records: u32) -> Layout
         esm: l.esm,
         scopes: l.scopes,
         symbols: l.symbols,
-        records: capped(records),
+        records: capped(records as usize),
         first: l.first,
         tree: l.tree,
     }
@@ -549,8 +549,8 @@ fn check_rows(file: &[u8], settings: Field) -> Whole
         scopes: rows.scopes,
         symbols: rows.symbols,
         records: 0,
-        first: at,
-        tree,
+        first: capped(at),
+        tree: capped(tree),
     };
     run_answer(l, check_unmarked(file, rows, tree))
 }

@@ -27,51 +27,11 @@ pub enum Started {
     Refused(u8, usize),
 }
 
-// How many rows a file has, and the offsets of the first symbol row and of Program.
-struct Layout {
-    scopes: u16,
-    symbols: u16,
-    first: u16,
-    tree: u16,
-}
-
 // A number, or the largest that fits.
 pub fn capped(x: u64) -> u16
     ensures { λ r. ⌜ r ≡ min x 65535 ⌝ }
 {
     if x <= 65535 { x as u16 } else { 65535 }
-}
-
-// ---- where the rows stand
-
-fn no_layout() -> Layout
-    ensures { λ r. ⌜ r ≡ noLayout ⌝ }
-{
-    Layout {
-        scopes: 0,
-        symbols: 0,
-        first: 0,
-        tree: 0,
-    }
-}
-
-fn find_rows(file: &[u8]) -> Layout
-    ensures { λ r. ⌜ r ≡ layoutF (now (file .entry)) ⌝ }
-{
-    let scopes = checking::read_scopes(file, 7);
-    let Rows::Read(n, at) = scopes else {
-        return no_layout();
-    };
-    let symbols = checking::read_symbols(file, n, at);
-    let Rows::Read(m, tree) = symbols else {
-        return no_layout();
-    };
-    Layout {
-        scopes: capped(n as u64),
-        symbols: capped(m as u64),
-        first: capped(at as u64),
-        tree: capped(tree as u64),
-    }
 }
 
 // ---- scope and symbol rows
@@ -145,15 +105,6 @@ fn number_at(file: &[u8], at: usize, len: u8, i: u8) -> u16
     0
 }
 
-// Where the field behind that at an offset begins.
-fn next_at(file: &[u8], at: usize) -> usize
-    requires { ⌜ at ≤ 1000000 ⌝ }
-    ensures { λ r. ⌜ r ≡ fieldOf (now (file .entry)) at .next ⌝ }
-{
-    let len = fields::numbers_of(fields::byte(file, at));
-    at + (3 + 2 * (len as usize))
-}
-
 // The field at an offset, whatever stands there.
 fn field_at(file: &[u8], at: usize) -> Field
     requires { ⌜ at ≤ 1000000 ⌝ }
@@ -194,23 +145,6 @@ fn row_of(x: Field) -> Row
         own_number(count, 2, x.c),
         n,
     )
-}
-
-// How many records stand from an offset on.
-fn count_records(file: &[u8], tree: u16) -> u16
-    ensures { λ r. ⌜ r ≡ countF (now (file .entry)) tree ⌝ }
-{
-    let size = file.len();
-    let mut at = tree as usize;
-    let mut n: u16 = 0;
-    while n < 65535 {
-        if size <= at {
-            break;
-        }
-        at = next_at(file, at);
-        n += 1;
-    }
-    n
 }
 
 // The records from an offset on, into the rows behind `free` up to `end`.

@@ -46,7 +46,7 @@ cast-t12 c =
 check-unmarked-requires : tie.Need-check-unmarked-requires
 unfolding readScopes
 check-unmarked-requires c κs =
-    let at-scopes = c .before .before .before .before .before in
+    let at-scopes = c .before .before .before .before .before .before .before in
     let at-read-scopes = at-scopes .before .before in
     few _ _ _ _ _ _ (at-read-scopes .read-scopes .ensures) (at-scopes .scopes .given .1)
 
@@ -54,7 +54,9 @@ returns-3 : tie.Need-returns-3
 unfolding rowsF
 returns-3 c =
     let at-check-unmarked = c .before in
-    let at-symbols = at-check-unmarked .before .before in
+    let at-capped2 = at-check-unmarked .before in
+    let at-capped = at-capped2 .before in
+    let at-symbols = at-capped .before .before in
     let at-read-symbols = at-symbols .before .before in
     let at-scopes = at-read-symbols .before .before in
     let at-read-scopes = at-scopes .before .before in
@@ -63,6 +65,8 @@ returns-3 c =
       at-scopes .scopes .given .1,
       ← at-read-symbols .read-symbols .ensures,
       at-symbols .symbols .given .1,
+      ← at-capped .capped .ensures,
+      ← at-capped2 .capped2 .ensures,
       ← at-check-unmarked .check-unmarked .ensures,
     ) (c .run-answer .ensures)
 
@@ -72,4 +76,4 @@ check-rows-spec =
     (tie.spec
     (λ c κs. search needs) (λ c. search needs) (λ c. search needs) (λ c κs. search needs) returns
     (λ c κs. search needs) (λ c. search needs) (λ c. search needs) (λ c κs. search needs)
-    returns-2 cast-t11 cast-t12 check-unmarked-requires (λ c κs. search needs) returns-3)
+    returns-2 cast-t11 cast-t12 (λ c κs. search needs) (λ c κs. search needs) check-unmarked-requires (λ c κs. search needs) returns-3)
