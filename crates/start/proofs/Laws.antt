@@ -7,15 +7,14 @@ use native.Mathlib.Numerals.{add-one}
 use native.Mathlib.Omega.{arith}
 use lib.ListN.{length, getD, take, set, replicate, replicate-append-replicate}
 use lib.Seq.{take-all, take-suc-set}
-use borrow.Author.Tests.{lt-leb}
 use Rattle.meaning.specs.File.{fieldBytes}
 use Rattle.meaning.specs.Grammar.{fieldOf}
 use Rattle.meaning.specs.declared.Field.{Field}
-use Rattle.tables.specs.Loops.{turns, until, next-turn, go-on}
+use Rattle.tables.specs.Loops.{turns, next-turn}
 use Rattle.tables.specs.Table.{setRowF}
 use Rattle.tables.specs.declared.Row.{Row}
 use Rattle.rules.specs.Numbers.{numbers-most}
-use Rattle.start.specs.Flat.{recordF, Counting, counting, counted, countOne, Filling, filling, nextRecord}
+use Rattle.start.specs.Flat.{recordF, Filling, filling, nextRecord}
 
 -- ---- clearing
 
@@ -32,12 +31,6 @@ unfolding fieldOf fieldBytes
 next-most f at n next e h = rw e (omega (arith, numbers-most (getD f at 0)))
 
 -- ---- records
-
-pub count-turn : (r : Counting) (f : List ℕ) (at n next : ℕ)
-    → r ≡ until (65535 - n) (counted f) (countOne f) (counting at n) → n < 65535 → at < length f → next ≡ fieldOf f at .next
-    → r ≡ until (65535 - (n + 1)) (counted f) (countOne f) (counting next (n + 1))
-unfolding countOne
-count-turn r f at n next e h l d = rw d (go-on 65535 n (counted f) (countOne f) r (counting at n) e h (lt-leb (length f) at l))
 
 pub fill-turn : (r : Filling) (f t t′ : List ℕ) (end at k : ℕ) (x : Field) (row : Row)
     → r ≡ turns (end - k) (nextRecord f) (filling t at k) → k < end → x ≡ fieldOf f at → row ≡ recordF x → t′ ≡ setRowF t k row

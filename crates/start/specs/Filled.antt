@@ -20,6 +20,7 @@ use Rattle.parsing.specs.Outcomes.{Holds, bind, bind-any}
 use Rattle.parsing.specs.Parsed.{ParsedFile}
 use Rattle.parsing.specs.Files.{file-parsed}
 use Rattle.charge_laws.specs.Totals.Fits.{accepted-fits}
+use Rattle.checking.specs.Survey.{layoutOf}
 use Rattle.path.specs.declared.Walk.{Walk}
 use Rattle.path.specs.Path.{Tables, tables}
 use Rattle.tables.specs.declared.Row.{Row}
@@ -27,9 +28,9 @@ use Rattle.representation.specs.Gap.Cells.{table, free, rowsOf, length-rows}
 use Rattle.representation.specs.Store.Held.{scopeCells, symbolCells, ctxOf}
 use Rattle.representation.specs.Spots.Spots.{Rest, openRowsOf, afterRowsOf, opensAt, visitedAt, restAt, walkAt, held}
 use Rattle.start.specs.Start.{lentIn, freeRows, zerosBehind}
-use Rattle.start.specs.Flat.{layoutOf, layoutF, countF, walkF, fillF}
+use Rattle.start.specs.Flat.{walkF, fillF}
 use Rattle.start.specs.Rows.{scopes-are, symbols-are}
-use Rattle.start.specs.Run.{parsed-run, count-is, records-are}
+use Rattle.start.specs.Run.{parsed-run, records-are}
 
 tables-eq : {x y : Tables} → x .records ≡ y .records → x .scopes ≡ y .scopes → x .symbols ≡ y .symbols → x .walk ≡ y .walk → x ≡ y
 tables-eq e₁ e₂ e₃ e₄ = λ i. record { records = e₁ i; scopes = e₂ i; symbols = e₃ i; walk = e₄ i }
@@ -79,19 +80,15 @@ read-most f = (omega arith, omega arith, omega arith)
 
 module _ (b : List ℕ) (f : File) (q : ParsedFile b f)
     (fits : (finalFigures f .records ≤ 65535) × (finalFigures f .scopes ≤ 65535) × (finalFigures f .symbols ≤ 65535)) where
-  layout-is : layoutF b ≡ layoutOf (q .scope-number) (q .symbol-number) (q .first) (q .root)
-  unfolding layoutF
-  layout-is =
-      let most = read-most f in
-      let d₁ : min (q .scope-number) 65535 ≡ q .scope-number = omega (arith, q .scopes-many) in
-      let d₂ : min (q .symbol-number) 65535 ≡ q .symbol-number = omega (arith, q .symbols-many) in
-      let d₃ : min (q .first) 65535 ≡ q .first = omega (arith, q .small, q .scope-rows .ends) in
-      let d₄ : min (q .root) 65535 ≡ q .root = omega (arith, q .small, q .symbol-rows .ends) in
-      rw (q .scopes-read, q .symbols-read, d₁, d₂, d₃, d₄)
+  -- where its layout says that the symbol rows and Program stand
+  offsets : (layoutOf f .first ≡ q .first) × (layoutOf f .tree ≡ q .root)
+  offsets =
+      (omega (arith, q .scopes-many, q .scope-rows .next-is),
+      omega (arith, q .scopes-many, q .symbols-many, q .scope-rows .next-is, q .symbol-rows .next-is))
 
   fill-is : (r s y : List ℕ) → finalFigures f .records ≤ length r / 7 → finalFigures f .scopes ≤ length s / 2
       → finalFigures f .symbols ≤ length y / 5
-      → fillF b (min (finalFigures f .records) 65535) r s y ≡ held (start f) (freeRows f) (zerosBehind f r s y)
+      → fillF b (layoutOf f) (min (finalFigures f .records) 65535) r s y ≡ held (start f) (freeRows f) (zerosBehind f r s y)
   unfolding fillF walkF freeRows zerosBehind start storeOf
   fill-is r s y h₁ h₂ h₃ =
       let most = read-most f in
@@ -102,13 +99,12 @@ module _ (b : List ℕ) (f : File) (q : ParsedFile b f)
       let all : g + length rs ≡ end = omega arith in
       let fit : min end 65535 ≡ end = omega arith in
       let run = parsed-run (q .tree) in
-      let counted : countF b (q .root) ≡ size (f .tree) = count-is b (length b) (omega arith) rs (q .root) run (omega arith) ∙ long in
-      rw (fit, layout-is, counted, first-held (f .tree) (storeOf f) g (zerosBehind f r s y), all)
+      rw (fit, offsets .1, offsets .0, first-held (f .tree) (storeOf f) g (zerosBehind f r s y), all)
       (tables-eq
       (records-are b rs (q .root) (length b) g end r run all (omega arith))
       (rw (q .scopes-many, q .scopes) (scopes-are b (q .scope-number) s (omega (arith, q .scopes-many))))
       (rw (q .symbols-many, q .symbols) (symbols-are b (q .first) (q .symbol-number) y (omega (arith, q .symbols-many))))
-      (rw (q .scopes-many, q .symbols-many, q .mode, q .esm)))
+      refl)
 
 -- ---- a file that is admitted
 
@@ -147,7 +143,7 @@ module _ (bytes r s y : List ℕ) (f : File) (e : admit bytes (lentIn r s y) ≡
   admitted = subst (Holds (Admitted bytes (lentIn r s y))) e (admits bytes (lentIn r s y))
 
   -- THE TABLES FILLED with an admitted file hold its walk before the first visit.
-  pub fill-law : fillF bytes (min (finalFigures f .records) 65535) r s y ≡ held (start f) (freeRows f) (zerosBehind f r s y)
+  pub fill-law : fillF bytes (layoutOf f) (min (finalFigures f .records) 65535) r s y ≡ held (start f) (freeRows f) (zerosBehind f r s y)
   unfolding lentIn
   fill-law =
       let a = admitted in

@@ -1,4 +1,4 @@
--- Records that stand one after the other in a file: those of a tree that is read, counted, and stored as rows.
+-- Records that stand one after the other in a file: those of a tree that is read, stored as rows.
 -- Assumes nothing.
 use mathlib.Core.Path.{_≡_, refl, sym, ap, _∙_}
 use mathlib.Core.List.{List, [], _∷_, _++_}
@@ -6,18 +6,17 @@ use Prim.Native.Nat.{ℕ, zero, suc, _+_, _*_, _-_, _≤_, _<_}
 use native.Mathlib.Omega.{arith}
 use lib.ListN.{length, replicate}
 use lib.Seq.{append-snoc}
-use borrow.Author.Tests.{le-leb, lt-leb}
 use Rattle.meaning.specs.Tree.{Head, Forest, count}
 use Rattle.meaning.specs.File.{fieldBytes}
 use Rattle.meaning.specs.Grammar.{fieldOf}
 use Rattle.meaning.specs.declared.Place.{Place}
-use Rattle.tables.specs.Loops.{turns, until, stopped}
+use Rattle.tables.specs.Loops.{turns}
 use Rattle.tables.specs.Table.{setRowF}
 use Rattle.tables.specs.declared.Row.{Row}
 use Rattle.representation.specs.Gap.Cells.{table, zeros, free, line, rowsOf, length-free}
 use Rattle.representation.specs.Gap.Rows.{set-row, length-snoc}
 use Rattle.parsing.specs.Parsed.{RecordAt, Parsed, parsed-none, parsed-more}
-use Rattle.start.specs.Flat.{cleared, recordF, Counting, counting, counted, countOne, countF, filling, nextRecord, recordsF}
+use Rattle.start.specs.Flat.{cleared, recordF, filling, nextRecord, recordsF}
 use Rattle.start.specs.Rows.{blank, cleared-is}
 
 -- the rows of the records from an offset on, up to another
@@ -50,23 +49,6 @@ module _ {f : List ℕ} {syms : ℕ} where
     row-is y,
     run-++ f (rowsOf kids) (rowsOf beside) (fieldOf f at .next) mid next (parsed-run k) (parsed-run r),
   )
-
--- ---- counting
-
-module _ (f : List ℕ) (next : ℕ) (ends : length f ≤ next) where
-  count-from : (rs : List Row) (m k at : ℕ) → Run f at rs next → length rs ≤ m
-      → until m (counted f) (countOne f) (counting at k) .n ≡ k + length rs
-  unfolding until countOne
-  count-from [] m k at e h =
-      let s = stopped m (counted f) (countOne f) _ (counting at k) refl (le-leb (length f) at (omega arith)) in
-      sym (ap (λ (s : Counting). s .n) s) ∙ omega arith
-  count-from (r ∷ rs) zero k at (l, e, i) h = absurd (omega arith)
-  count-from (r ∷ rs) (suc m) k at (l, e, i) h =
-      rw (lt-leb (length f) at l) (count-from rs m (k + 1) (fieldOf f at .next) i (omega arith) ∙ omega arith)
-
-  pub count-is : (rs : List Row) (at : ℕ) → Run f at rs next → length rs ≤ 65535 → countF f at ≡ length rs
-  unfolding countF
-  count-is rs at i h = count-from rs 65535 0 at i h ∙ omega arith
 
 -- ---- storing
 

@@ -5,9 +5,9 @@ use Prim.Native.Nat.{ℕ, _*_, _-_, _/_}
 use lib.ListN.{length, replicate}
 use Rattle.meaning.specs.Tree.{size}
 use Rattle.meaning.specs.File.{File}
-use Rattle.meaning.specs.Reading.{Outcome, accepted, refused, _>>=_}
+use Rattle.meaning.specs.Reading.{Outcome, accepted, refused}
 use Rattle.meaning.specs.Walk.{start}
-use Rattle.meaning.specs.Charges.{Figures, finalFigures}
+use Rattle.meaning.specs.Charges.{finalFigures}
 use Rattle.meaning.specs.Lowering.{Lent, admit}
 use Rattle.path.specs.Path.{Tables}
 use Rattle.representation.specs.Spots.Spots.{Rest, held}
@@ -27,12 +27,6 @@ begun a r s y = record { answer = a; records = r; scopes = s; symbols = y }
 -- the rows of the tables
 unfoldable pub lentIn : List ℕ → List ℕ → List ℕ → Lent
 lentIn r s y = record { records = length r / 7; scopes = length s / 2; symbols = length y / 5 }
-
--- the figures of a file that passes the checks up to 9
-unfoldable pub admittedFigures : List ℕ → Lent → Outcome Figures
-admittedFigures bytes lent = do
-  f ← admit bytes lent
-  accepted (finalFigures f)
 
 -- the free rows among those that the lowered tree takes
 unfoldable pub freeRows : File → ℕ

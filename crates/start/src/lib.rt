@@ -2,10 +2,11 @@
 //
 // A refused file leaves the tables as they are. Otherwise they are cleared: the scope and symbol rows stand first in their tables, and the
 // records behind the free rows in theirs.
-use figures::Figured;
+use checking::Layout;
+use checking::Surveyed;
 use meaning::Field;
+use meaning::refusal;
 use meaning::RecordId;
-use meaning::Rows;
 use meaning::SymbolId;
 use path::Walk;
 use scoping::Ctx;
@@ -17,9 +18,10 @@ ghost use lib.ListN.{length, replicate};
 ghost use Rattle.meaning.specs.Tree.{if_then_else_};
 ghost use Rattle.meaning.specs.Grammar.{number, fieldOf};
 ghost use Rattle.path.specs.Path.{tables};
-ghost use Rattle.figures.specs.Figures.{figuredOf};
-ghost use Rattle.start.specs.Flat.{layoutF, noLayout, scopeIntoF, scopesF, symbolIntoF, symbolsF, recordF, countF, recordsF, walkF, fillF};
-ghost use Rattle.start.specs.Start.{begun, lentIn, admittedFigures, startF};
+ghost use Rattle.meaning.specs.Lowering as lowering;
+ghost use Rattle.checking.specs.Survey.{surveyedOf};
+ghost use Rattle.start.specs.Flat.{scopeIntoF, scopesF, symbolIntoF, symbolsF, recordF, recordsF, walkF, fillF};
+ghost use Rattle.start.specs.Start.{begun, lentIn, startF};
 
 // What start answers: where the walk stands, or a refusal's number and place.
 pub enum Started {
@@ -164,8 +166,8 @@ fn put_records(file: &[u8], records: &mut [u16], free: u16, end: u16, tree: u16)
 // ---- the tables
 
 // Before the first visit.
-fn walk_of(file: &[u8], l: Layout, free: u16, end: u16) -> Walk
-    ensures { λ r. ⌜ r ≡ walkF (now (file .entry)) l free end ⌝ }
+fn walk_of(l: Layout, free: u16, end: u16) -> Walk
+    ensures { λ r. ⌜ r ≡ walkF l free end ⌝ }
 {
     Walk {
         visited: RecordId(0),
@@ -173,8 +175,8 @@ fn walk_of(file: &[u8], l: Layout, free: u16, end: u16) -> Walk
         end: RecordId(end),
         inner: RecordId(0),
         ctx: Ctx {
-            mode: fields::read_two(file, 3),
-            esm: fields::read_two(file, 5),
+            mode: l.mode,
+            esm: l.esm,
             scopes: l.scopes,
             symbols: l.symbols,
             read: l.symbols,
@@ -184,47 +186,47 @@ fn walk_of(file: &[u8], l: Layout, free: u16, end: u16) -> Walk
     }
 }
 
-// The tree just read, with `end` rows in use.
+// The tree just read into the tables, with `end` record rows in use.
 pub fn fill(
     file: &[u8],
+    l: Layout,
+    end: u16,
     records: &mut [u16],
     scopes: &mut [u16],
     symbols: &mut [u16],
-    end: u16,
 ) -> Walk
-    ensures { λ r. ⌜ tables (now (records .exit)) (now (scopes .exit)) (now (symbols .exit)) r ≡ fillF (now (file .entry)) end (now (records .entry)) (now (scopes .entry)) (now (symbols .entry)) ⌝ }
+    ensures { λ r. ⌜ tables (now (records .exit)) (now (scopes .exit)) (now (symbols .exit)) r ≡ fillF (now (file .entry)) l end (now (records .entry)) (now (scopes .entry)) (now (symbols .entry)) ⌝ }
 {
-    let l = find_rows(file);
     clear(scopes);
     put_scopes(file, scopes, l.scopes);
     clear(symbols);
     put_symbols(file, symbols, l.first, l.symbols);
-    let free = tables::minus(end, count_records(file, l.tree));
+    let free = tables::minus(end, l.records);
     clear(records);
     put_records(file, records, free, end, l.tree);
-    walk_of(file, l, free, end)
+    walk_of(l, free, end)
 }
 
 // ---- public
 
-// The figures of a file that is accepted and for which enough rows are lent: 01's refusals 1 to 9.
-pub fn admit(file: &[u8], records: &[u16], scopes: &[u16], symbols: &[u16]) -> Figured
-    ensures { λ r. ⌜ r ≡ figuredOf (admittedFigures (now (file .entry)) (lentIn (now (records .entry)) (now (scopes .entry)) (now (symbols .entry)))) ⌝ }
+// The layout and the figures of a file that is accepted and for which enough rows are lent: 01's refusals 1 to 9.
+pub fn admit(file: &[u8], records: &[u16], scopes: &[u16], symbols: &[u16]) -> Surveyed
+    ensures { λ r. ⌜ r ≡ surveyedOf (lowering.admit (now (file .entry)) (lentIn (now (records .entry)) (now (scopes .entry)) (now (symbols .entry)))) ⌝ }
 {
-    let f = checking::figures(file);
-    let Figured::Fine(g) = f else {
+    let f = checking::survey(file);
+    let Surveyed::Fine(l, g) = f else {
         return f;
     };
     if ((records.len() / 7) as u64) < g.records {
-        return Figured::Refused(9, 0);
+        return Surveyed::Refused(refusal::FEW_ROWS, 0);
     }
     if ((scopes.len() / 2) as u64) < g.scopes {
-        return Figured::Refused(9, 1);
+        return Surveyed::Refused(refusal::FEW_ROWS, 1);
     }
     if ((symbols.len() / 5) as u64) < g.symbols {
-        return Figured::Refused(9, 2);
+        return Surveyed::Refused(refusal::FEW_ROWS, 2);
     }
-    Figured::Fine(g)
+    Surveyed::Fine(l, g)
 }
 
 // Reads an accepted file into the tables: 01's refusals 1 to 9, or the walk before its first visit.
@@ -232,7 +234,9 @@ pub fn start(file: &[u8], records: &mut [u16], scopes: &mut [u16], symbols: &mut
     ensures { λ r. ⌜ begun r (now (records .exit)) (now (scopes .exit)) (now (symbols .exit)) ≡ startF (now (file .entry)) (now (records .entry)) (now (scopes .entry)) (now (symbols .entry)) ⌝ }
 {
     match admit(file, records, scopes, symbols) {
-        Figured::Fine(g) => Started::Ready(fill(file, records, scopes, symbols, capped(g.records))),
-        Figured::Refused(c, p) => Started::Refused(c, p),
+        Surveyed::Fine(l, g) => {
+            Started::Ready(fill(file, l, capped(g.records), records, scopes, symbols))
+        }
+        Surveyed::Refused(c, p) => Started::Refused(c, p),
     }
 }

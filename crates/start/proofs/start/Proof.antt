@@ -9,10 +9,10 @@ returns : tie.Need-returns
 unfolding startBy
 returns c =
     let at-fill = c .before .before .before .before .before .before in
-    let at-capped = at-fill .before in
-    let at-g = at-capped .before .before .before .before .before in
-    let at-admit = at-g .before .before in
-    rw (← start-is _ _ _ _ _ (at-admit .admit .ensures), at-g .g .given .1, ← at-capped .capped .ensures, ← at-fill .fill .ensures)
+    let at-capped = at-fill .before .before .before .before in
+    let at-l = at-capped .before .before in
+    let at-admit = at-l .before .before in
+    rw (← start-is _ _ _ _ _ (at-admit .admit .ensures), at-l .l .given .1, ← at-capped .capped .ensures, ← at-fill .fill .ensures)
 
 returns-2 : tie.Need-returns-2
 unfolding startBy
