@@ -5,9 +5,10 @@ use Prim.Native.Nat.{ℕ, _*_, min}
 use lib.Dec.{leb}
 use lib.ListN.{length}
 use lib.Seq.{sets}
+use Rattle.meaning.specs.Numbers.Refusal
 use Rattle.meaning.specs.Tree.{if_then_else_}
-use Rattle.figures.specs.declared.Figured.{Figured}
-use Rattle.figures.specs.declared.Figured.the-variants.{Fine, Refused as RefusedFigures}
+use Rattle.checking.specs.declared.Surveyed.{Surveyed}
+use Rattle.checking.specs.declared.Surveyed.the-variants.{Fine, Refused as RefusedSurvey}
 use Rattle.tables.specs.Loops.{until}
 use Rattle.path.specs.Path.{Tables}
 use Rattle.start.specs.Flat.{fillF}
@@ -15,25 +16,24 @@ use Rattle.walk.specs.Visit.{visitF}
 use Rattle.walk.specs.Plain.{isOverIn}
 use Rattle.writing.specs.Writing.{fileBytes}
 use Rattle.lowering.specs.Lower.{Finished, finished, zerosFor}
-use Rattle.lowering.specs.declared.Lowered.{Lowered}
 use Rattle.lowering.specs.declared.Lowered.the-variants.{Written, Refused}
 
+-- the output, by the answer of start's admission
+unfoldable pub admitBy : Surveyed → List ℕ → Surveyed
+admitBy (Fine l g) o = if leb (g .bytes) (length o) then Fine l g else RefusedSurvey Refusal.ShortOutput (length o)
+admitBy (RefusedSurvey c p) o = RefusedSurvey c p
+
 -- visits until the walk is over, so many at most
-unfoldable pub visitAllF : ℕ → Tables → Tables
-visitAllF n q = until n isOverIn visitF q
+unfoldable pub runF : ℕ → Tables → Tables
+runF n q = until n isOverIn visitF q
 
--- the tables filled, walked and written, for a file that takes so many record rows
-unfoldable pub outputF : List ℕ → ℕ → List ℕ → List ℕ → List ℕ → List ℕ → List ℕ
-outputF bytes rows r s y o =
-    let q = visitAllF (2 * rows) (fillF bytes rows r s y) in
-    sets o 0 (fileBytes (q .records) (q .scopes) (q .symbols) (q .walk))
+-- the file in the tables, at the front of the output
+unfoldable pub finishF : Tables → List ℕ → List ℕ
+finishF q o = sets o 0 (fileBytes (q .records) (q .scopes) (q .symbols) (q .walk))
 
-unfoldable pub runF : Lowered → List ℕ → ℕ → List ℕ → List ℕ → List ℕ → List ℕ → Finished
-runF a bytes rows r s y o = finished a (zerosFor r) (zerosFor s) (zerosFor y) (outputF bytes rows r s y o)
-
--- by the answer of admission
-unfoldable pub lowerBy : Figured → List ℕ → List ℕ → List ℕ → List ℕ → List ℕ → Finished
-lowerBy (Fine g) bytes r s y o =
-    if leb (g .bytes) (length o) then runF (Written g) bytes (min (g .records) 65535) r s y o
-    else finished (Refused 10 (length o)) r s y o
-lowerBy (RefusedFigures c p) bytes r s y o = finished (Refused c p) r s y o
+-- by the answer of admission: the tables filled, visited, written and cleared
+unfoldable pub lowerBy : Surveyed → List ℕ → List ℕ → List ℕ → List ℕ → List ℕ → Finished
+lowerBy (Fine l g) bytes r s y o =
+    let rows = min (g .records) 65535 in
+    finished (Written g) (zerosFor r) (zerosFor s) (zerosFor y) (finishF (runF (2 * rows) (fillF bytes l rows r s y)) o)
+lowerBy (RefusedSurvey c p) bytes r s y o = finished (Refused c p) r s y o

@@ -13,17 +13,19 @@ use Rattle.meaning.specs.File.{File, written}
 use Rattle.meaning.specs.Reading.{Outcome, accepted, refused, _>>=_, _>>_, ensure}
 use Rattle.meaning.specs.Walk.{Spot, at, leaving, over, isOver, visits, start, treeAt, fileAt}
 use Rattle.meaning.specs.Charges.{Figures, figuresAt, finalFigures}
-use Rattle.meaning.specs.Lowering.{checkOutput, admit, lastSpot, lower}
+use Rattle.meaning.specs.Lowering.{Lent, checkOutput, admit, lastSpot, lower}
 use Rattle.spec_laws.specs.Tags.{clash, and-left, and-right}
 use Rattle.charge_laws.specs.Totals.Fits.{accepted-fits}
 use Rattle.bound_laws.specs.Numbers.{TreeWithin}
 use Rattle.bound_laws.specs.NumbersFit.{Bytes, numbers-fit}
-use Rattle.figures.specs.declared.Figured.{Figured}
-use Rattle.figures.specs.Figures.{shownFigures, figuredOf}
+use Rattle.figures.specs.Figures.{shownFigures}
+use Rattle.checking.specs.declared.Surveyed.{Surveyed}
+use Rattle.checking.specs.declared.Surveyed.the-variants.{Fine, Refused as RefusedSurvey}
+use Rattle.checking.specs.Survey.{layoutOf, surveyedOf}
 use Rattle.tables.specs.Loops.{turns, until}
 use Rattle.path.specs.Path.{Tables}
 use Rattle.representation.specs.Spots.Spots.{Rest, held}
-use Rattle.start.specs.Start.{lentIn, admittedFigures}
+use Rattle.start.specs.Start.{lentIn}
 use Rattle.start.specs.Flat.{fillF}
 use Rattle.start.specs.Filled.{admitted, fill-law}
 use Rattle.walk.specs.Visit.{isLeavingF, isOverF, visitF}
@@ -34,11 +36,11 @@ use Rattle.writing.specs.Stored.{sets-front}
 use Rattle.bound_laws.specs.Last.{last-spot, last-over, last-figures}
 use Rattle.readback_laws.specs.ReadBack.{Tagged}
 use Rattle.readback_laws.specs.Length.{tagged-length}
-use Rattle.lowering.specs.Lower.{finished, zerosFor, writtenOver, lowerOf, lowerF}
+use Rattle.lowering.specs.Lower.{admitOutput, finished, zerosFor, writtenOver, lowerOf, lowerF}
 use Rattle.walk.specs.Plain.{isOverIn}
-use Rattle.lowering.specs.Flat.{visitAllF, outputF, runF, lowerBy}
+use Rattle.lowering.specs.Flat.{admitBy, runF, finishF, lowerBy}
 use Rattle.lowering.specs.Bytes.{held-bytes}
-use Rattle.lowering.specs.declared.Lowered.the-variants.{Written as WrittenIn, Refused}
+use Rattle.lowering.specs.declared.Lowered.the-variants.{Written as WrittenIn}
 
 -- ---- visits until the walk is over
 
@@ -100,37 +102,55 @@ module _ (b r s y : List ℕ) (f : File) (bytes : Bytes b) (e : admit b (lentIn 
   small = omega (arith, accepted-fits b f (admitted b r s y f e .0))
 
   -- the tables after all visits
-  walked : visitAllF (2 * x .records) (fillF b (x .records) r s y) ≡ heldIn x (zerosAfter f r s y) (lastSpot f)
-  unfolding visitAllF
+  walked : runF (2 * x .records) (fillF b (layoutOf f) (x .records) r s y) ≡ heldIn x (zerosAfter f r s y) (lastSpot f)
+  unfolding runF
   walked =
-      ap (visitAllF (2 * x .records)) (rw small at (fill-law b r s y f e))
+      ap (runF (2 * x .records)) (rw small at (fill-law b r s y f e))
       ∙ until-turns isOverIn visitF over-fixed (2 * x .records) _
       ∙ visits-after-start b r s y f e (2 * x .records)
       ∙ ap (heldIn x (zerosAfter f r s y)) (sym (last-spot f))
 
-  output-is : (o : List ℕ) → x .bytes ≤ length o → outputF b (min (x .records) 65535) r s y o ≡ writtenOver (written (fileAt (lastSpot f))) o
-  unfolding outputF
-  output-is o fits =
+  -- the file at the front of the output
+  finish-is : (o : List ℕ) → x .bytes ≤ length o
+      → finishF (runF (2 * min (x .records) 65535) (fillF b (layoutOf f) (min (x .records) 65535) r s y)) o
+      ≡ writtenOver (written (fileAt (lastSpot f))) o
+  unfolding finishF
+  finish-is o fits =
       rw (small, walked, over-bytes (lastSpot f) _ _ (last-over b f (admitted b r s y f e .0)) last-tagged)
       (sets-front (written (fileAt (lastSpot f))) o (omega (arith, last-length)))
 
 -- ---- the answer
 
+-- 10, by its test
+long-enough : (f : File) (o : ℕ) (c : Bool)
+    → (if c then Fine (layoutOf f) (shownFigures (finalFigures f)) else RefusedSurvey 10 o) ≡ surveyedOf (ensure c 10 o >> accepted f)
+long-enough f o true = refl
+long-enough f o false = refl
+
+by-start : (o : List ℕ) (a : Outcome File)
+    → admitBy (surveyedOf a) o ≡ surveyedOf (a >>= (λ f. checkOutput (length o) (finalFigures f) >> accepted f))
+unfolding admitBy checkOutput
+by-start o (accepted f) = long-enough f (length o) (leb (finalFigures f .bytes) (length o))
+by-start o (refused c p) = refl
+
+-- THE ANSWER of admission with the output, by that of start, is 01's.
+pub admit-output-is : (b : List ℕ) (lent : Lent) (o : List ℕ) (d : Surveyed) → d ≡ surveyedOf (admit b lent)
+    → admitBy d o ≡ surveyedOf (admitOutput b lent (length o))
+unfolding admitOutput
+admit-output-is b lent o d e = ap (λ (d : Surveyed). admitBy d o) e ∙ by-start o (admit b lent)
+
 module _ (b r s y o : List ℕ) (bytes : Bytes b) where
-  -- 10
-  by-output : (f : File) (d : Bool) → leb (finalFigures f .bytes) (length o) ≡ d → admit b (lentIn r s y) ≡ accepted f
-      → (if d then runF (WrittenIn (shownFigures (finalFigures f))) b (min (finalFigures f .records) 65535) r s y o
-      else finished (Refused 10 (length o)) r s y o)
-      ≡ lowerOf
-      (ensure d 10 (length o) >> accepted (record { file = written (fileAt (lastSpot f)); figures = finalFigures f })) r s y o
-  unfolding runF
+  by-output : (f : File) (c : Bool) → leb (finalFigures f .bytes) (length o) ≡ c → admit b (lentIn r s y) ≡ accepted f
+      → lowerBy (surveyedOf (ensure c 10 (length o) >> accepted f)) b r s y o
+      ≡ lowerOf (ensure c 10 (length o) >> accepted (record { file = written (fileAt (lastSpot f)); figures = finalFigures f })) r s y o
+  unfolding lowerBy
   by-output f true c e =
       ap (finished (WrittenIn (shownFigures (finalFigures f))) (zerosFor r) (zerosFor s) (zerosFor y))
-      (output-is b r s y f bytes e o (leb-true _ _ c))
+      (finish-is b r s y f bytes e o (leb-true _ _ c))
   by-output f false c e = refl
 
   by-admission : (a : Outcome File) → admit b (lentIn r s y) ≡ a
-      → lowerBy (figuredOf (a >>= (λ f. accepted (finalFigures f)))) b r s y o
+      → lowerBy (surveyedOf (a >>= (λ f. checkOutput (length o) (finalFigures f) >> accepted f))) b r s y o
       ≡ lowerOf
       (a >>= (λ f. checkOutput (length o) (finalFigures f)
       >> accepted (record { file = written (fileAt (lastSpot f)); figures = finalFigures f })))
@@ -140,6 +160,6 @@ module _ (b r s y o : List ℕ) (bytes : Bytes b) where
   by-admission (refused c p) e = refl
 
   -- THE ANSWER by that of admission is 01's lowering.
-  pub lower-is : (d : Figured) → d ≡ figuredOf (admittedFigures b (lentIn r s y)) → lowerBy d b r s y o ≡ lowerF b r s y o
-  unfolding lowerF lower admittedFigures
-  lower-is d e = ap (λ (d : Figured). lowerBy d b r s y o) e ∙ by-admission (admit b (lentIn r s y)) refl
+  pub lower-is : (d : Surveyed) → d ≡ surveyedOf (admitOutput b (lentIn r s y) (length o)) → lowerBy d b r s y o ≡ lowerF b r s y o
+  unfolding lowerF lower admitOutput
+  lower-is d e = ap (λ (d : Surveyed). lowerBy d b r s y o) e ∙ by-admission (admit b (lentIn r s y)) refl

@@ -1,4 +1,4 @@
--- `lowering::visit_all` meets its contract. Assumes nothing.
+-- `lowering::run` meets its contract. Assumes nothing.
 use mathlib.Core.Path.{_≡_, refl, sym, _∙_}
 use Prim.Native.Nat.{_-_, _≤_}
 use native.Mathlib.Nat.{sub-zero}
@@ -8,10 +8,10 @@ use Rattle.tables.specs.Loops.{until, run-out, stopped}
 use Rattle.path.specs.Path.{tables}
 use Rattle.walk.specs.Visit.{visitF}
 use Rattle.walk.specs.Plain.{isOverIn, some-go-on}
-use Rattle.lowering.specs.Flat.{visitAllF}
+use Rattle.lowering.specs.Flat.{runF}
 use borrow.Author.Needs.{needs}
-use Rattle.lowering.proofs.visit_all.Statement.{statement}
-use Rattle.lowering.proofs.visit_all.Tie as tie
+use Rattle.lowering.proofs.run.Statement.{statement}
+use Rattle.lowering.proofs.run.Tie as tie
 
 abbrev Inv-loop : tie.InvT-loop
 Inv-loop limit records₀ scopes₀ symbols₀ w₀ k₀ records scopes symbols w k =
@@ -57,22 +57,22 @@ loop-again c =
     (go .1, at-visit-some .visit-some .kept .1 .1 .0 ∙ at-loop .loop .inv .1, at-visit-some .visit-some .kept .1 .1 .1 .0 ∙ at-loop .loop .inv .2, at-visit-some .visit-some .kept .1 .1 .1 .1 .0 ∙ at-loop .loop .inv .3, go .2)
 
 returns : tie.Need-returns Inv-loop μ-loop
-unfolding visitAllF
+unfolding runF
 returns c =
     let at-loop-test = c in
     let at-loop = at-loop-test .before in
     run-out _ _ _ _ _ _ (at-loop .loop .inv .4) (at-loop-test .loop-test .left)
 
 returns-2 : tie.Need-returns-2 Inv-loop μ-loop
-unfolding visitAllF
+unfolding runF
 returns-2 c =
     let at-if1 = c in
     let at-is-over = at-if1 .before in
     let at-loop = at-is-over .before .before .before in
     stopped _ _ _ _ _ (at-loop .loop .inv .4) (sym (at-is-over .is-over .ensures) ∙ at-if1 .if1 .taken)
 
-pub visit-all-spec : {M : Type 1} → statement M
-visit-all-spec =
+pub run-spec : {M : Type 1} → statement M
+run-spec =
     tie.close
     (tie.spec
     Inv-loop μ-loop loop-holds (λ c κs. search needs) (λ c. search needs) (λ c κs. search needs) add-k loop-less loop-again (λ c. search needs) (λ c. search needs) (λ c. search needs) returns (λ c. search needs) (λ c. search needs) (λ c. search needs) returns-2)
