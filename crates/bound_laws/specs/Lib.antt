@@ -11,4 +11,6 @@ pub mod NumbersContexts
 pub mod NumbersProgram
 pub mod NumbersVisits
 pub mod NumbersFit
+-- The end of the walk, and the walk as a recursion over the tree.
 pub mod Last
+pub mod Through

@@ -14,7 +14,8 @@ use Rattle.tables.specs.Loops.{turns, next-turn}
 use Rattle.tables.specs.Table.{setRowF}
 use Rattle.tables.specs.declared.Row.{Row}
 use Rattle.rules.specs.Numbers.{numbers-most}
-use Rattle.start.specs.Flat.{recordF, Filling, filling, nextRecord}
+use Rattle.start.specs.Flat.{Filling, filling, nextRecord}
+use Rattle.representation.specs.Run.{recordRow}
 
 -- ---- clearing
 
@@ -33,7 +34,7 @@ next-most f at n next e h = rw e (omega (arith, numbers-most (getD f at 0)))
 -- ---- records
 
 pub fill-turn : (r : Filling) (f t t′ : List ℕ) (end at k : ℕ) (x : Field) (row : Row)
-    → r ≡ turns (end - k) (nextRecord f) (filling t at k) → k < end → x ≡ fieldOf f at → row ≡ recordF x → t′ ≡ setRowF t k row
+    → r ≡ turns (end - k) (nextRecord f) (filling t at k) → k < end → x ≡ fieldOf f at → row ≡ recordRow x → t′ ≡ setRowF t k row
     → r ≡ turns (end - (k + 1)) (nextRecord f) (filling t′ (x .next) (k + 1))
 unfolding nextRecord
 fill-turn r f t t′ end at k x row e h ex er et = rw (et, er, ex) (next-turn end k (nextRecord f) r (filling t at k) e h)

@@ -30,7 +30,8 @@ use Rattle.representation.specs.Spots.Spots.{Rest, openRowsOf, afterRowsOf, ope
 use Rattle.start.specs.Start.{lentIn, freeRows, zerosBehind}
 use Rattle.start.specs.Flat.{walkF, fillF}
 use Rattle.start.specs.Rows.{scopes-are, symbols-are}
-use Rattle.start.specs.Run.{parsed-run, records-are}
+use Rattle.start.specs.Records.{records-are}
+use Rattle.representation.specs.Run.{parsed-run}
 
 tables-eq : {x y : Tables} → x .records ≡ y .records → x .scopes ≡ y .scopes → x .symbols ≡ y .symbols → x .walk ≡ y .walk → x ≡ y
 tables-eq e₁ e₂ e₃ e₄ = λ i. record { records = e₁ i; scopes = e₂ i; symbols = e₃ i; walk = e₄ i }

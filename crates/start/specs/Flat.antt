@@ -6,15 +6,13 @@ use lib.Dec.{leb}
 use lib.ListN.{length, set, replicate}
 use Rattle.meaning.specs.Numbers.Refusal
 use Rattle.meaning.specs.Tree.{if_then_else_}
-use Rattle.meaning.specs.Grammar.{two, fieldOf, headOf, childrenOf}
-use Rattle.meaning.specs.declared.Field.{Field}
+use Rattle.meaning.specs.Grammar.{two, fieldOf}
 use Rattle.checking.specs.declared.Layout.{Layout}
 use Rattle.checking.specs.declared.Surveyed.{Surveyed}
 use Rattle.checking.specs.declared.Surveyed.the-variants.{Fine, Refused as RefusedSurvey}
 use Rattle.tables.specs.Loops.{turns}
 use Rattle.tables.specs.Table.{setRowF}
-use Rattle.tables.specs.declared.Row.{Row}
-use Rattle.representation.specs.Gap.Cells.{line}
+use Rattle.representation.specs.Run.{recordRow}
 use Rattle.path.specs.declared.Walk.{Walk}
 use Rattle.path.specs.Path.{Tables, tables}
 use Rattle.start.specs.Start.{Begun, begun, ready}
@@ -60,10 +58,6 @@ symbolsF f first n t = turns n (nextSymbol f first) (storing t 0) .t
 
 -- ---- records
 
--- the row of a record that is not open
-unfoldable pub recordF : Field → Row
-recordF x = line (headOf x) (childrenOf x)
-
 -- a table, the offset of the next record, and its row
 pub record Filling : Type 0 where
   pub t : List ℕ
@@ -74,7 +68,7 @@ abbrev pub filling : List ℕ → ℕ → ℕ → Filling
 filling t at k = record { t = t; at = at; k = k }
 
 unfoldable pub nextRecord : List ℕ → Filling → Filling
-nextRecord f s = let x = fieldOf f (s .at) in filling (setRowF (s .t) (s .k) (recordF x)) (x .next) (s .k + 1)
+nextRecord f s = let x = fieldOf f (s .at) in filling (setRowF (s .t) (s .k) (recordRow x)) (x .next) (s .k + 1)
 
 unfoldable pub recordsF : List ℕ → ℕ → ℕ → ℕ → List ℕ → List ℕ
 recordsF f free end tree t = turns (end - free) (nextRecord f) (filling t tree free) .t

@@ -2,5 +2,5 @@
 pub mod Start
 pub mod Flat
 pub mod Rows
-pub mod Run
+pub mod Records
 pub mod Filled

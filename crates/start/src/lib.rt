@@ -20,7 +20,8 @@ ghost use Rattle.meaning.specs.Grammar.{number, fieldOf};
 ghost use Rattle.path.specs.Path.{tables};
 ghost use Rattle.meaning.specs.Lowering as lowering;
 ghost use Rattle.checking.specs.Survey.{surveyedOf};
-ghost use Rattle.start.specs.Flat.{scopeIntoF, scopesF, symbolIntoF, symbolsF, recordF, recordsF, walkF, fillF};
+ghost use Rattle.start.specs.Flat.{scopeIntoF, scopesF, symbolIntoF, symbolsF, recordsF, walkF, fillF};
+ghost use Rattle.representation.specs.Run.{recordRow};
 ghost use Rattle.start.specs.Start.{begun, lentIn, startF};
 
 // What start answers: where the walk stands, or a refusal's number and place.
@@ -136,7 +137,7 @@ fn own_number(count: u8, i: u8, v: u16) -> u16
 
 // The row of a record that is not open.
 fn row_of(x: Field) -> Row
-    ensures { λ r. ⌜ r ≡ recordF x ⌝ }
+    ensures { λ r. ⌜ r ≡ recordRow x ⌝ }
 {
     let count = rules::own_numbers(x.tag);
     let n = rules::children_of(x);

@@ -1,12 +1,12 @@
 -- `start::row_of` meets its contract. Assumes nothing.
 use Rattle.meaning.specs.Grammar.{headOf}
-use Rattle.start.specs.Flat.{recordF}
+use Rattle.representation.specs.Run.{recordRow}
 use borrow.Author.Needs.{needs}
 use Rattle.start.proofs.row_of.Statement.{statement}
 use Rattle.start.proofs.row_of.Tie as tie
 
 returns : tie.Need-returns
-unfolding recordF headOf
+unfolding recordRow headOf
 returns c =
     let at-made = c in
     let at-own-number3 = at-made .before in
