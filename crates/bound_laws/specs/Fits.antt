@@ -7,7 +7,7 @@ use Prim.Native.Nat.{ℕ, _+_, _*_, _≤_}
 use native.Mathlib.Omega.{arith}
 use lib.ListN.{length}
 use lib.Dec.{eqb}
-use Rattle.meaning.specs.Tree.{if_then_else_, oneOf, Head, Forest, none, more, count, size, Row, flatten}
+use Rattle.meaning.specs.Tree.{if_then_else_, oneOf, Head, Forest, none, more, size, Row, flatten}
 use Rattle.meaning.specs.File.{File, fieldBytes, numbersOf}
 use Rattle.meaning.specs.Reading.{accepted, readFile}
 use Rattle.meaning.specs.Statements.{isUsing}
@@ -34,6 +34,7 @@ use Rattle.bound_laws.specs.Weights.{
   weigh,
 }
 use Rattle.bound_laws.specs.Visits.{walk-within}
+use Rattle.spec_laws.specs.Trees.{count-size as count-most}
 
 -- ---- what the record around it pays: at a ForOf's first child
 
@@ -217,11 +218,6 @@ AtMost b (r ∷ rs) = (r .n ≤ b) × AtMost b rs
 most-++ : (b : ℕ) (rs qs : List Row) → AtMost b rs → AtMost b qs → AtMost b (rs ++ qs)
 most-++ b [] qs e d = d
 most-++ b (r ∷ rs) qs e d = (e .0, most-++ b rs qs (e .1) d)
-
-count-most : (f : Forest) → count f ≤ size f
-unfolding count size
-count-most none = omega arith
-count-most (more h k r) = omega (arith, count-most r)
 
 rows-most-n : (b : ℕ) (f : Forest) → size f ≤ b → AtMost b (flatten f)
 unfolding flatten size

@@ -10,7 +10,6 @@ use Rattle.meaning.specs.Numbers.Mode as LoadMode
 use Rattle.meaning.specs.Tree.{if_then_else_, oneOf, Head, Forest, none, more, one}
 use Rattle.meaning.specs.File.{Symbol, File}
 use Rattle.meaning.specs.Statements.{isUsing, anyUsing}
-use Rattle.meaning.specs.Contexts.{forList}
 use Rattle.meaning.specs.Program.{boundNames, keepsDefault}
 use Rattle.meaning.specs.Walk.{
   isStaticBlock,

@@ -26,6 +26,7 @@ use Rattle.readback_laws.specs.ReadBack.{
 }
 use Rattle.readback_laws.specs.Length.{complete, record-complete}
 use Rattle.readback_laws.specs.Decoded.{rowOf, recordsOf, treesFrom, treeIn}
+use Rattle.spec_laws.specs.Bools.{if-same}
 
 -- a record's head as it is written: numbers that are not its own are 0
 unfoldable pub plainHead : Head → Head
@@ -161,11 +162,6 @@ tree-back g q c =
     ∙ ap (λ (e : Forest × List Row). e .0) (all-back f (length (flatten f)) (length (flatten f)) (omega arith) (omega arith))
 
 -- ---- the hints
-
--- values that agree where the test passes
-if-same : (b : Bool) (x y : ℕ) → (b ≡ true → x ≡ y) → (if b then x else 0) ≡ (if b then y else 0)
-if-same true x y e = e refl
-if-same false x y e = refl
 
 -- numbers that a tag has are kept
 keeps-a : (h : Head) (t : ℕ) → ltb 0 (ownNumbers t) ≡ true → eqb (h .tag) t ≡ true → plainHead h .a ≡ h .a

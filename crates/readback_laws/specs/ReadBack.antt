@@ -22,6 +22,7 @@ use Rattle.meaning.specs.File.{
   recordFields,
   written,
 }
+use Rattle.spec_laws.specs.Trees.{two-length}
 
 -- ---- reading
 
@@ -80,11 +81,6 @@ numbers-back : (ns : List ℕ) → numbersIn (twoBytes ns) ≡ ns
 unfolding numbersIn twoBytes
 numbers-back [] = refl
 numbers-back (n ∷ ns) = ap₂ _∷_ (halves n) (numbers-back ns)
-
-two-length : (ns : List ℕ) → length (twoBytes ns) ≡ 2 * length ns
-unfolding twoBytes
-two-length [] = refl
-two-length (n ∷ ns) = omega (arith, two-length ns)
 
 pub field-length : (t : ℕ) (ns : List ℕ) → length (field t ns) ≡ 3 + 2 * length ns
 unfolding field twoBytes

@@ -22,6 +22,7 @@ use Rattle.representation.specs.Spots.Spots.{visitedAt, restAt, Rest, held}
 use Rattle.scoping_laws.specs.Created.Held.{freeScopes, freeSymbols, Room}
 use Rattle.simulation.specs.Rewritten.Replaced.{withFree, rewritten}
 use Rattle.simulation.specs.Tried.Passing.{newScopes, newSymbols}
+use Rattle.spec_laws.specs.Bools.{and-false, and-true}
 
 -- how many records are added
 abbrev pub newRecords : Forest → Forest → ℕ
@@ -77,14 +78,6 @@ module _ (done : Forest) (h : Head) (k r : Forest) (path : List Crumb) (st : Sto
   kept-by f e =
       done-by f (node h k, st) 0 0 0 (λ a. omega arith)
       (λ fits a room. ap (λ (i : ℕ). f (held here i z)) (zero-add g) ∙ e (omega arith) a)
-
-and-true : (b : Bool) → (b && true) ≡ b
-and-true true = refl
-and-true false = refl
-
-pub and-false : (b : Bool) → (b && false) ≡ false
-and-false true = refl
-and-false false = refl
 
 -- a context takes two symbols, and the runtime helper's if that is missing
 pub context-takes : (h : Head) (k : Forest) (st : Store) (e : Node × Store) (ls : List Line) (n s : ℕ) → PaysFor ls (one h k) st e

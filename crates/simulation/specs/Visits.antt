@@ -55,6 +55,7 @@ use Rattle.simulation.specs.Tried.Passing.{newScopes, newSymbols, scopes
 use Rattle.walk.specs.Visit.{visitF}
 use Rattle.simulation.specs.Rewrite.{newRecords}
 use Rattle.simulation.specs.Visit.{visit-grows, visit-kept, visit-law}
+use Rattle.spec_laws.specs.Trees.{visits-last}
 
 -- ---- tables of so many rows
 
@@ -119,12 +120,6 @@ contexts-most [] = omega arith
 contexts-most (l ∷ ls) = omega (arith, line-most l, contexts-most ls)
 
 -- ---- a file
-
--- one visit after others
-visits-last : (k : ℕ) (s : Spot) → visits (suc k) s ≡ visit (visits k s)
-unfolding visits
-visits-last zero s = refl
-visits-last (suc k) s = visits-last k (visit s)
 
 same-rows : (ys : List Symbol) → Agrees ys ys
 same-rows [] = tt

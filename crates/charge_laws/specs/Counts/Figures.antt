@@ -39,13 +39,15 @@ use Rattle.meaning.specs.Charges.{Line, helper, Figures, figures, _⊕_, total,
 use Rattle.meaning.specs.Due.{anyContext, missing, rewriteLines, due, dues}
 use Rattle.charge_laws.specs.VisitCharges.{standing, addHelper, visitsIn, visitCharges}
 use Rattle.charge_laws.specs.Growth.Trees.{more-&}
-use Rattle.charge_laws.specs.Growth.Charged.{counts, helperLine, Same, figures-same, Visited}
+use Rattle.spec_laws.specs.Figures.{Same, figures-same, total-++}
+use Rattle.charge_laws.specs.Growth.Charged.{counts, helperLine, Visited}
 use Rattle.charge_laws.specs.Growth.Enter.{entered}
 use Rattle.charge_laws.specs.Counts.Visits.{++-nil, &-none, &-assoc}
 use Rattle.charge_laws.specs.Counts.Enter.{Fit, proper}
 use Rattle.charge_laws.specs.Counts.Fits.{Fits}
 use Rattle.charge_laws.specs.Counts.Pending.{Pending, ready, pending-start, pending-visit}
 use Rattle.charge_laws.specs.Counts.Left.{rest, left, left-settle, Ready, visit-left, over-left, over-stays}
+use Rattle.spec_laws.specs.Bools.{and-true}
 
 -- ---- the tree and the store at a spot
 
@@ -183,11 +185,6 @@ unfoldable pub joined : List (List Line) → List Line
 joined [] = []
 joined (x ∷ xs) = x ++ joined xs
 
-total-++ : (xs zs : List Line) → Same (total (xs ++ zs)) (total xs ⊕ total zs)
-unfolding total
-total-++ [] zs = omega arith
-total-++ (x ∷ xs) zs = omega (arith, total-++ xs zs)
-
 with-helper : (b : Bool) (ls : List Line) → Same (total (if b then helper ∷ ls else ls)) (total ls ⊕ total (if b then helper ∷ [] else []))
 unfolding total
 with-helper true ls = omega arith
@@ -247,10 +244,6 @@ sums (suc k) s q = go (isOver s) refl (sums k (visit s) (pending-visit s q))
     go false e i = sum-step k s (visit-charged s (ready s q)) i
 
 -- ---- a file
-
-and-true : (b : Bool) → (b && true) ≡ b
-and-true true = refl
-and-true false = refl
 
 -- WHAT THE VISITS ARE CHARGED, in order, is the account from the source.
 pub dues-are : (k : ℕ) (f : File) → Fits (f .tree) → dues k (start f) ≡ take k (visitCharges f)

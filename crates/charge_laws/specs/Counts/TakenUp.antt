@@ -27,7 +27,7 @@ use Rattle.charge_laws.specs.Counts.Visits.{spread, spread-++, kept-if}
 
 -- ---- no using is left
 
-using-gone : (b : Bool) (h : Head) (k k′ r : Forest) → isUsing h ≡ b → anyUsing r ≡ false
+pub using-gone : (b : Bool) (h : Head) (k k′ r : Forest) → isUsing h ≡ b → anyUsing r ≡ false
     → anyUsing (if b then more (asConst h) k′ r else more h k r) ≡ false
 unfolding anyUsing isUsing asConst
 using-gone true h k k′ r u e = const-plain (eqb (h .b) 0) r e

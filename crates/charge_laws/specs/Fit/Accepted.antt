@@ -31,6 +31,7 @@ use Rattle.charge_laws.specs.Counts.Fits.{Fits}
 use Rattle.charge_laws.specs.Counts.Figures.{joined, dues-are, after}
 use Rattle.charge_laws.specs.Fit.Placed.{ReadAs, same-tag, Placed, accepted-placed}
 use Rattle.charge_laws.specs.Fit.Barred.{Bars, barred, no-catch}
+use Rattle.spec_laws.specs.Bools.{or-false}
 
 -- ---- a field
 
@@ -60,11 +61,6 @@ module _ (p : Place) (syms : ℕ) where
     not-empty n =
         let c : 0 ≡ x .c = n ∙ rw t in
         clash refl (and-right (not (is p ForOfDeclarator)) false (rw (t, z, one-name, ← c) at e))
-
--- tests joined by or
-or-false : (b : Bool) → (b || false) ≡ true → b ≡ true
-or-false true e = e
-or-false false e = e
 
 or-true : (b : Bool) → (b || true) ≡ true
 or-true true = refl

@@ -3,7 +3,6 @@
 use mathlib.Core.Path.{_≡_, refl, sym, ap, _∙_}
 use mathlib.Core.Bool.{Bool, true, false, not, _&&_}
 use mathlib.Core.List.{List, [], _∷_, _++_}
-use mathlib.Core.Logic.{_⊎_, inl, inr}
 use Prim.Native.Nat.{ℕ, zero, suc, _<_}
 use native.Mathlib.Omega.{arith}
 use lib.ListN.{length}
@@ -35,7 +34,7 @@ use Rattle.meaning.specs.Walk.{
   start,
 }
 use Rattle.meaning.specs.Charges.{Line}
-use Rattle.meaning.specs.Due.{anyContext, rewriteLines}
+use Rattle.meaning.specs.Due.{anyContext}
 use Rattle.charge_laws.specs.VisitCharges.{standing, visitsAs, visitsStanding, visitsOf, visitsIn, addHelper, visitCharges}
 use Rattle.charge_laws.specs.Counts.Visits.{++-nil, spread}
 use Rattle.charge_laws.specs.Counts.Pending.{Pending, ready, pending-start, pending-visit}

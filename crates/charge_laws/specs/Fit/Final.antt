@@ -46,7 +46,7 @@ use Rattle.meaning.specs.Charges.{
 }
 use Rattle.meaning.specs.Due.{isContext, anyContext}
 use Rattle.charge_laws.specs.VisitCharges.{standing, visitsIn, addHelper, visitCharges}
-use Rattle.charge_laws.specs.Growth.Charged.{Same, figures-same}
+use Rattle.spec_laws.specs.Figures.{Same, figures-same}
 use Rattle.charge_laws.specs.Counts.Figures.{joined}
 use Rattle.charge_laws.specs.Fit.Accepted.{accepted-after}
 use Rattle.charge_laws.specs.Fit.Ends.{walk-ends}

@@ -13,6 +13,7 @@ use Rattle.meaning.specs.Charges.{Line, helper, Figures, figures, charge, _⊕_
 use Rattle.meaning.specs.Due.{isContext, anyContext, missing}
 use Rattle.charge_laws.specs.Growth.Rows.{Grown, oneIf, both, counted, unchanged}
 use Rattle.charge_laws.specs.Growth.Trees.{More, more-&}
+use Rattle.spec_laws.specs.Figures.{Same, total-++}
 
 -- the figures of a store and the records given
 unfoldable pub counts : Store → Forest → Figures
@@ -27,14 +28,6 @@ counts st f =
 -- the runtime helper comes with a context, if it is missing
 unfoldable pub helperLine : Store → List Line → List Line
 helperLine st ls = if missing st && anyContext ls then helper ∷ [] else []
-
-abbrev pub Same : Figures → Figures → Type 0
-Same x y =
-    (x .records ≡ y .records) × (x .scopes ≡ y .scopes) × (x .symbols ≡ y .symbols)
-    × (x .contexts ≡ y .contexts) × (x .bytes ≡ y .bytes)
-
-pub figures-same : (x y : Figures) → Same x y → x ≡ y
-figures-same x y e = λ i. record { records = e .0 i; scopes = e .1 i; symbols = e .2 i; contexts = e .3 i; bytes = e .4 i }
 
 -- ---- changes that pay for lines
 
@@ -98,11 +91,6 @@ unfolding size recordBytes
 pays-below h p = record { rows = p .rows; records = omega arith; bytes = omega arith }
 
 -- ---- lines
-
-total-++ : (xs ys : List Line) → Same (total (xs ++ ys)) (total xs ⊕ total ys)
-unfolding total
-total-++ [] ys = omega arith
-total-++ (x ∷ xs) ys = omega (arith, total-++ xs ys)
 
 or-assoc : (a b c : Bool) → (a || (b || c)) ≡ ((a || b) || c)
 or-assoc true b c = refl

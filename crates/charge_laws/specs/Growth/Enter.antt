@@ -13,7 +13,8 @@ use Rattle.meaning.specs.ForOf.{bindsIdentifier}
 use Rattle.meaning.specs.Walk.{isStaticBlock, Act, actOf, enterAs, enter, leave}
 use Rattle.meaning.specs.Charges.{_⊕_, total, contextLines, ofStaticBlock}
 use Rattle.meaning.specs.Due.{enterLines}
-use Rattle.charge_laws.specs.Growth.Charged.{PaysFor, pays-nothing, counts, helperLine, figures-same, Visited, visited}
+use Rattle.spec_laws.specs.Figures.{figures-same}
+use Rattle.charge_laws.specs.Growth.Charged.{PaysFor, pays-nothing, counts, helperLine, Visited, visited}
 use Rattle.charge_laws.specs.Growth.Contexts.{block-pays, body-pays, static-pays, for-pays, switch-pays}
 use Rattle.charge_laws.specs.Growth.Parts.{try-pays}
 use Rattle.charge_laws.specs.Growth.ForOf.{Named, insert-pays, wrap-pays}

@@ -36,7 +36,8 @@ use Rattle.meaning.specs.Due.{isContext, anyContext}
 use Rattle.charge_laws.specs.Growth.Rows.{Grown, grown, both, child-scope, symbol-made}
 use Rattle.charge_laws.specs.Growth.Loading.{load-grows, load-sized}
 use Rattle.charge_laws.specs.Growth.Trees.{More, list-taken}
-use Rattle.charge_laws.specs.Growth.Charged.{Same, Pays, pays}
+use Rattle.spec_laws.specs.Figures.{Same}
+use Rattle.charge_laws.specs.Growth.Charged.{Pays, pays}
 
 pub context-grows : (scope : ℕ) (st : Store) → Grown false 0 1 1 st ((makeContext scope st) .1)
 unfolding makeContext createSymbol

@@ -1,6 +1,6 @@
 -- A Program with a using: its items, and its Block.
 -- Assumes nothing.
-use mathlib.Core.Path.{_≡_, refl, sym, ap}
+use mathlib.Core.Path.{_≡_, refl, ap}
 use mathlib.Core.Bool.{Bool, true, false, not, _&&_}
 use mathlib.Core.List.{List, [], _∷_, _++_}
 use Prim.Native.Nat.{ℕ, _+_, _*_}
@@ -50,6 +50,7 @@ use Rattle.spec_laws.specs.Tags.{Seen, other, here, there, seen, and-left}
 use Rattle.charge_laws.specs.Growth.Rows.{Grown, both, scope-below, symbol-made, symbol-flags, flags-of}
 use Rattle.charge_laws.specs.Growth.Trees.{More, block-bytes, more-&}
 use Rattle.charge_laws.specs.Growth.Charged.{Pays, PaysFor, pays, pays-nothing, pays-line, pays-below, pays-both}
+use Rattle.spec_laws.specs.Trees.{expression-tag}
 
 -- each export of a list has one child
 abbrev pub Exports : Forest → Type 0
@@ -115,10 +116,6 @@ unfolding defaultClass total lineCharge anyContext isContext size recordBytes
 default-class h h₁ k₁ st b e =
     pays 4 32 (defaultExport ∷ []) refl (omega arith) (class-grows h₁ k₁ st)
     (omega (arith, class-more h₁ k₁ st e, export-more (h₁ .c) 3 ((transformClassDecl h₁ k₁ st) .0)))
-
-expression-tag : (b : Bool) (h : Head) → eqb (h .tag) 15 ≡ b → (if b then hd 15 1 (h .b) (h .c) else h) .tag ≡ h .tag
-expression-tag true h e = sym (eqb-true (h .tag) 15 e)
-expression-tag false h e = refl
 
 expression-bytes : (h : Head) → fieldBytes ((asExpression h) .tag) ≡ fieldBytes (h .tag)
 unfolding asExpression

@@ -4,16 +4,15 @@ use Rattle.meaning.specs.Due.{missing}
 use mathlib.Core.Path.{_≡_, refl, sym, ap, _∙_}
 use mathlib.Core.Bool.{Bool, true, false, not, _||_, _&&_}
 use mathlib.Core.List.{List, [], _∷_}
-use Prim.Native.Nat.{ℕ, zero, suc, _+_}
+use Prim.Native.Nat.{ℕ, _+_}
 use native.Mathlib.Omega.{arith}
-use lib.ListN.{length, length-append, length-set}
+use lib.ListN.{length, length-append}
 use lib.Dec.{eqb}
 use Rattle.meaning.specs.Tree.{if_then_else_, Forest, none, more}
 use Rattle.meaning.specs.Grammar.{scopeOf}
 use Rattle.meaning.specs.Scoping.{
   Store,
   Change,
-  setRow,
   createChildScope,
   changeScopeParent,
   setScopeFlags,
@@ -26,6 +25,8 @@ use Rattle.meaning.specs.Scoping.{
   moveBindings,
   setFlagsOf,
 }
+use Rattle.spec_laws.specs.Bools.{and-false}
+use Rattle.spec_laws.specs.Trees.{length-setRow}
 
 abbrev pub oneIf : Bool → ℕ
 oneIf b = if b then 1 else 0
@@ -52,10 +53,6 @@ not-used true true = refl
 not-used true false = refl
 not-used false true = refl
 not-used false false = refl
-
-and-false : (b : Bool) → (b && false) ≡ false
-and-false true = refl
-and-false false = refl
 
 pub grown : {s y c : ℕ} {st st′ : Store} → Adds s y c st st′ → Grown false s y c st st′
 grown {st = st} e =
@@ -128,10 +125,6 @@ either true m n st p q = p
 either false m n st p q = q
 
 -- ---- scopes
-
-length-setRow : {X : Type 0} (xs : List X) (i : ℕ) (x : X) → length (setRow xs i x) ≡ length xs
-length-setRow xs zero x = refl
-length-setRow xs (suc i) x = length-set xs i x
 
 pub child-scope : (parent flags : ℕ) (st : Store) → Grown false 1 0 0 st ((createChildScope parent flags st) .1)
 unfolding createChildScope

@@ -6,8 +6,8 @@ use mathlib.Core.List.{List, [], _∷_}
 use Prim.Native.Nat.{ℕ, suc, _+_, _*_, _≤_}
 use native.Mathlib.Omega.{arith}
 use lib.Dec.{eqb, ltb}
-use Rattle.meaning.specs.Tree.{if_then_else_, oneOf, Head, Forest, none, more, count, size}
-use Rattle.meaning.specs.File.{Symbol, fieldBytes, numbersOf}
+use Rattle.meaning.specs.Tree.{if_then_else_, Head, Forest, none, more, count, size}
+use Rattle.meaning.specs.File.{Symbol, fieldBytes}
 use Rattle.meaning.specs.Statements.{isUsing}
 use Rattle.tallies.specs.declared.Tally.{Tally}
 use Rattle.tallies.specs.declared.Up.{Up}
@@ -31,14 +31,12 @@ use Rattle.tallies.specs.Tally.{
   tallyOf,
 }
 use Rattle.spec_laws.specs.Tags.{Seen, other, here, there, seen}
+use Rattle.spec_laws.specs.Bools.{at-most as if-most}
+use Rattle.spec_laws.specs.Trees.{numbers-most}
 
 pub one-most : (b : Bool) → oneIf b ≤ 1
 one-most true = omega arith
 one-most false = omega arith
-
-if-most : (b : Bool) (n : ℕ) → (if b then n else 0) ≤ n
-if-most true n = omega arith
-if-most false n = omega arith
 
 pub kept-most : (t usings n : ℕ) → itemsKept t usings n ≤ n
 unfolding itemsKept
@@ -49,18 +47,6 @@ kept-most t usings n = go (eqb t 1 && eqb usings 0)
     go false = omega arith
 
 -- ---- a field has at most eleven bytes
-
-most : (b : Bool) (x y : ℕ) → x ≤ 4 → y ≤ 4 → (if b then x else y) ≤ 4
-most true x y p q = p
-most false x y p q = q
-
-numbers-most : (t : ℕ) → numbersOf t ≤ 4
-unfolding numbersOf
-numbers-most t =
-    most (oneOf (14 ∷ 18 ∷ 19 ∷ 25 ∷ 26 ∷ []) t) 1 _ (omega arith)
-    (most (oneOf (1 ∷ 2 ∷ 4 ∷ 5 ∷ 7 ∷ 9 ∷ 10 ∷ 11 ∷ 16 ∷ 20 ∷ 24 ∷ 28 ∷ 40 ∷ 41 ∷ []) t) 2 _ (omega arith)
-    (most (oneOf (3 ∷ 6 ∷ 8 ∷ 17 ∷ 27 ∷ 29 ∷ []) t) 3 _ (omega arith)
-    (most (oneOf (12 ∷ 13 ∷ 15 ∷ 42 ∷ []) t) 4 0 (omega arith) (omega arith))))
 
 bytes-most : (t : ℕ) → fieldBytes t ≤ 11
 unfolding fieldBytes

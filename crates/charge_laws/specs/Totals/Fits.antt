@@ -47,6 +47,7 @@ use Rattle.charge_laws.specs.Totals.Roles.{upOf-all}
 use Rattle.charge_laws.specs.Totals.Bound.{one-most, kept-most}
 use Rattle.charge_laws.specs.Totals.Total.{figures-are}
 use Rattle.charge_laws.specs.Totals.Accepted.{either, accepted-is}
+use Rattle.spec_laws.specs.Bools.{or-false}
 
 -- ---- what pays
 
@@ -286,10 +287,6 @@ all-paid asRead (more h k r) ups i s =
 -- its place takes one tag
 Only : ℕ → Place → Type 0
 Only n p = (t : ℕ) → allowed p t ≡ true → eqb t n ≡ true
-
-or-false : (b : Bool) → (b || false) ≡ true → b ≡ true
-or-false true e = e
-or-false false e = e
 
 below-declaration : (p : Place) (x : Field) → x .tag ≡ 5 → (k : ℕ) → Only 6 (placeOf p x k)
 unfolding Only placeOf allowed tagsOf

@@ -33,7 +33,8 @@ use Rattle.tallies.specs.Tally.{upIndex, isUp, upOf, bodyOf, insertsIn, oneIf, 
 use Rattle.spec_laws.specs.Tags.{Seen, other, here, there, seen, clash}
 use Rattle.charge_laws.specs.Totals.Roles.{LacksBelow, Regular, upOf-all, bodyOf-all}
 use Rattle.charge_laws.specs.Totals.Lists.{usings-are}
-use Rattle.charge_laws.specs.Totals.Sums.{Same, total-++, total-three, itemFigures, itemsOf, programOwn, no-program, programLines}
+use Rattle.spec_laws.specs.Figures.{Same, total-++}
+use Rattle.charge_laws.specs.Totals.Sums.{total-three, itemFigures, itemsOf, programOwn, no-program, programLines}
 
 -- ---- roles
 

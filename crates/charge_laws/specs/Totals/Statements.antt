@@ -64,7 +64,8 @@ use Rattle.tallies.specs.Tally.{
 use Rattle.spec_laws.specs.Tags.{Seen, other, here, there, seen}
 use Rattle.charge_laws.specs.Totals.Roles.{Regular, no-body, part-below}
 use Rattle.charge_laws.specs.Totals.Lists.{Lists, lists}
-use Rattle.charge_laws.specs.Totals.Sums.{Same, total-++, total-three, contextFigures, forOfFigures, statementFigures, programOwn, programLines}
+use Rattle.spec_laws.specs.Figures.{Same, total-++}
+use Rattle.charge_laws.specs.Totals.Sums.{total-three, contextFigures, forOfFigures, statementFigures, programOwn, programLines}
 
 -- ---- a ForOf's lines, at its body
 

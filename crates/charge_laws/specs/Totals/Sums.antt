@@ -2,7 +2,7 @@
 -- Assumes nothing.
 use mathlib.Core.Path.{_≡_}
 use mathlib.Core.Bool.{false, _&&_}
-use mathlib.Core.List.{List, [], _∷_, _++_}
+use mathlib.Core.List.{List, [], _++_}
 use Prim.Native.Nat.{ℕ, _+_, _*_}
 use native.Mathlib.Omega.{arith}
 use lib.Dec.{eqb}
@@ -11,19 +11,7 @@ use Rattle.meaning.specs.Statements.{anyUsing}
 use Rattle.meaning.specs.Charges.{Line, Figures, figures, _⊕_, total, itemLines}
 use Rattle.tallies.specs.declared.Tally.{Tally}
 use Rattle.tallies.specs.Tally.{tallyFigures}
-
-abbrev pub Same : Figures → Figures → Type 0
-Same x y =
-    (x .records ≡ y .records) × (x .scopes ≡ y .scopes) × (x .symbols ≡ y .symbols)
-    × (x .contexts ≡ y .contexts) × (x .bytes ≡ y .bytes)
-
-pub figures-same : (x y : Figures) → Same x y → x ≡ y
-figures-same x y e = λ i. record { records = e .0 i; scopes = e .1 i; symbols = e .2 i; contexts = e .3 i; bytes = e .4 i }
-
-pub total-++ : (xs ys : List Line) → Same (total (xs ++ ys)) (total xs ⊕ total ys)
-unfolding total
-total-++ [] ys = omega arith
-total-++ (x ∷ xs) ys = omega (arith, total-++ xs ys)
+use Rattle.spec_laws.specs.Figures.{Same, total-++}
 
 pub total-three : (xs ys zs : List Line) → Same (total (xs ++ (ys ++ zs))) (total xs ⊕ total ys ⊕ total zs)
 total-three xs ys zs = omega (arith, total-++ xs (ys ++ zs), total-++ ys zs)

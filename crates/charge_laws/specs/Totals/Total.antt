@@ -12,7 +12,8 @@ use Rattle.tallies.specs.declared.Tally.{Tally}
 use Rattle.tallies.specs.declared.Up.the-variants.{Plain}
 use Rattle.tallies.specs.Tally.{upIndex, tallyOf, tallyFigures}
 use Rattle.charge_laws.specs.Totals.Roles.{Regular}
-use Rattle.charge_laws.specs.Totals.Sums.{Same, figures-same, tally-figures}
+use Rattle.spec_laws.specs.Figures.{Same, figures-same}
+use Rattle.charge_laws.specs.Totals.Sums.{tally-figures}
 use Rattle.charge_laws.specs.Totals.Statements.{no-bodies, statements-are}
 use Rattle.charge_laws.specs.Totals.Items.{plain, items-are}
 

@@ -45,7 +45,7 @@ tagless h n =
     let n₂₆ = or-none (eqb t 26) (oneOf (27 ∷ []) t) (n₆ .1) in
     record { five = n₅ .0; six = n₆ .0; name = n₂₆ .0; call = or-none (eqb t 27) false (n₂₆ .1) .0 }
 
-neutral-using : (h : Head) → Neutral h → isUsing h ≡ false
+pub neutral-using : (h : Head) → Neutral h → isUsing h ≡ false
 unfolding isUsing
 neutral-using h n = let e = tagless h n .five in rw e
 

@@ -7,7 +7,6 @@ use Prim.Native.Nat.{ℕ, _+_, _≤_, _<_}
 use native.Mathlib.Omega.{arith}
 use lib.ListN.{length}
 use lib.Dec.{eqb, ltb}
-use borrow.Author.Tests.{eqb-true}
 use Rattle.meaning.specs.Tree.{if_then_else_, oneOf, Head, hd, Forest, none, more, one}
 use Rattle.meaning.specs.Scoping.{Store, symbolIn, createSymbol}
 use Rattle.meaning.specs.Shapes.{declaration, exportNamed, specifier}
@@ -28,11 +27,7 @@ use Rattle.hint_laws.specs.Balanced.Balance.{doneIn, balanceOf}
 use Rattle.hint_laws.specs.Balanced.Sums.{ownLetter, worth, balance-more, balance-none, plain-one}
 use Rattle.hint_laws.specs.Balanced.Lists.{worth-plain}
 use Rattle.hint_laws.specs.Balanced.Tries.{listed}
-
--- a record as an expression keeps its tag
-expression-tag : (b : Bool) (h : Head) → eqb (h .tag) 15 ≡ b → (if b then hd 15 1 (h .b) (h .c) else h) .tag ≡ h .tag
-expression-tag true h e = sym (eqb-true (h .tag) 15 e)
-expression-tag false h e = refl
+use Rattle.spec_laws.specs.Trees.{expression-tag}
 
 module _ (w : List ℕ → ℕ → ℕ) (read : ℕ) where
   -- items with what they count for their Program

@@ -18,7 +18,7 @@ use Rattle.meaning.specs.Statements.{
   asConst,
   takeUp,
 }
-use Rattle.spec_laws.specs.Tags.{Seen, other, here, there, seen, clash, or-none}
+use Rattle.spec_laws.specs.Tags.{Seen, other, here, there, seen, or-none}
 use Rattle.charge_laws.specs.Growth.Trees.{using-tag}
 use Rattle.hint_laws.specs.Hints.{
   namesOf,
@@ -33,6 +33,7 @@ use Rattle.hint_laws.specs.Hints.{
 }
 use Rattle.hint_laws.specs.Balanced.Balance.{waits, doneIn, gives, balanceOf}
 use Rattle.hint_laws.specs.Balanced.Sums.{ownLetter, worth, inList, balance-more, balance-none}
+use Rattle.spec_laws.specs.Bools.{no-summand as one-if}
 
 names-wrapped : (f : Forest) (letter ctx m : ℕ) → namesOf m (wrapInitializer letter ctx m f) ≡ namesOf m f
 unfolding namesOf wrapInitializer
@@ -45,10 +46,6 @@ names-wrapped (more h k r) letter ctx (suc m) =
 by-tests : (s e o : Bool) (a b c d : ℕ) → s ≡ false → e ≡ false → o ≡ false
     → (if s then a else if e then b else 0) + (if s then c else if o then 0 else d) ≡ d
 by-tests s e o a b c d p q r = rw (p, q, r) (omega arith)
-
-one-if : (b c : Bool) (m n : ℕ) → (b || c) ≡ false → (c ≡ false → n ≡ 0) → (if b then m else 0) + n ≡ 0
-one-if true c m n e i = absurd (clash e refl)
-one-if false c m n e i = omega (arith, i e)
 
 module _ (w : List ℕ → ℕ → ℕ) (read : ℕ) where
   -- the balance

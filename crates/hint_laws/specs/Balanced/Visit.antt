@@ -43,6 +43,7 @@ use Rattle.hint_laws.specs.Balanced.Balance.{balanceOf, balance}
 use Rattle.hint_laws.specs.Balanced.Sums.{balance-&, beside}
 use Rattle.hint_laws.specs.Balanced.Alike.{plug-same}
 use Rattle.hint_laws.specs.Balanced.Entered.{Opens, enter-keeps, leave-keeps}
+use Rattle.spec_laws.specs.Trees.{visits-last as more-visits}
 
 -- ---- the tree at a spot
 
@@ -106,11 +107,6 @@ unfolding balance
 visit-balance w read s q new = kept-at (ofRead read w) read (new-name w read) s q new
 
 -- ---- all visits
-
-more-visits : (k : ℕ) (s : Spot) → visits (suc k) s ≡ visit (visits k s)
-unfolding visits
-more-visits zero s = refl
-more-visits (suc k) s = more-visits k (visit s)
 
 -- rows are only added
 symbols-grow : (b : List ℕ) (f : File) (k : ℕ) → readFile b ≡ accepted f → length (f .symbols) ≤ length (storeAt (visits k (start f)) .symbols)

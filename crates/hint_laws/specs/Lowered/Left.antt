@@ -31,6 +31,7 @@ use Rattle.meaning.specs.Walk.{isStaticBlock, leave}
 use Rattle.spec_laws.specs.Tags.{Seen, other, here, there, seen}
 use Rattle.hint_laws.specs.Outline.{Same, same-refl, same-neutral}
 use Rattle.hint_laws.specs.Lowered.Quiet.{Quiet, AllQuiet, calm, quiet-list}
+use Rattle.charge_laws.specs.Counts.TakenUp.{none-left as taken-list}
 
 -- ---- the list that is taken up
 
@@ -72,20 +73,6 @@ const-if : (b : Bool) → isUsing (hd 5 (if b then 2 else 0) 0 0) ≡ false
 unfolding isUsing
 const-if true = refl
 const-if false = refl
-
-taken-one : (u : Bool) (h : Head) (k k′ r : Forest) → isUsing h ≡ u → anyUsing r ≡ false
-    → anyUsing (if u then more (asConst h) k′ r else more h k r) ≡ false
-unfolding anyUsing asConst
-taken-one true h k k′ r e q = rw (const-if (eqb (h .b) 0), q)
-taken-one false h k k′ r e q = rw (e, q)
-
-taken-list : (f : Forest) (running : Bool) (ctx : ℕ) (needsAwait : Bool) → anyUsing (takeUp running ctx needsAwait f) ≡ false
-unfolding takeUp anyUsing
-taken-list none running ctx needsAwait = refl
-taken-list (more h k r) running ctx needsAwait =
-    let awaits = needsAwait || isAwaitUsing h in
-    taken-one (isUsing h) h k (wrapInitializers (letterIf awaits) ctx k) (takeUp running ctx (running && awaits) r) refl
-    (taken-list r running ctx (running && awaits))
 
 -- ---- the Try
 

@@ -14,6 +14,7 @@ use Rattle.spec_laws.specs.Tags.{clash, or-none}
 use Rattle.charge_laws.specs.Counts.Visits.{&-none, &-assoc}
 use Rattle.hint_laws.specs.Outline.{Neutral, Same, same-&, same-below}
 use Rattle.hint_laws.specs.Lowered.Quiet.{heldUsing, Quiet, AllQuiet, quiet-&}
+use Rattle.hint_laws.specs.Balanced.Alike.{neutral-using, Alike}
 
 -- an open record; a StaticBlock's usings are taken up when it is left
 abbrev pub OpenQuiet : Head → Forest → Type 0
@@ -55,19 +56,10 @@ quiet-settle (c ∷ p) d (more h k r) st q o = (q, o)
 
 -- ---- a record beside others is replaced
 
--- two neutral heads are told apart neither as usings nor as Declarators
-neutral-using : (h : Head) → Neutral h → isUsing h ≡ false
-unfolding isUsing
-neutral-using h n = let five : eqb (h .tag) 5 ≡ false = or-none _ _ n .0 in rw five
-
 neutral-declarator : (h : Head) → Neutral h → (eqb (h .tag) 6 && eqb (h .a) 0) ≡ false
 neutral-declarator h n =
     let six : eqb (h .tag) 6 ≡ false = or-none _ _ (or-none (eqb (h .tag) 5) _ n .1) .0 in
     rw six
-
--- what `Same` says of two records
-abbrev Alike : Head → Forest → Head → Forest → Type 0
-Alike h k h′ k′ = ((h ≡ h′) × Same k k′) ⊎ (Neutral h × Neutral h′)
 
 using-alike : (h h′ : Head) (k k′ : Forest) → Alike h k h′ k′ → isUsing h ≡ isUsing h′
 using-alike h h′ k k′ a =

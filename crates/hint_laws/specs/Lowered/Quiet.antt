@@ -1,8 +1,8 @@
 -- Records that entering again would not change for their usings; of a tree with only such records nothing is asked.
 -- Assumes nothing.
 use mathlib.Core.Path.{_≡_, refl}
-use mathlib.Core.Bool.{Bool, true, false, _||_, _&&_}
-use Prim.Native.Nat.{ℕ, _+_}
+use mathlib.Core.Bool.{Bool, true, false, _&&_}
+use Prim.Native.Nat.{ℕ}
 use mathlib.Core.List.{List}
 use native.Mathlib.Omega.{arith}
 use lib.Dec.{eqb}
@@ -11,6 +11,7 @@ use Rattle.meaning.specs.Statements.{isUsing, anyUsing}
 use Rattle.meaning.specs.ForOf.{bindsIdentifier}
 use Rattle.spec_laws.specs.Tags.{clash}
 use Rattle.hint_laws.specs.Hints.{sumOver, namesOf, overDeclarators, letterFor, takesUp, usingsIn, forOfUsing, asksFor}
+use Rattle.spec_laws.specs.Bools.{no-summand}
 
 -- of at least three children, those of a ForOf, the first is a using with an identifier
 unfoldable pub heldUsing : Forest → Bool
@@ -44,10 +45,6 @@ quiet-& none g p q = q
 quiet-& (more h k r) g p q = (p .0, p .1, quiet-& r g (p .2) q)
 
 -- ---- what is asked
-
-no-summand : (b c : Bool) (m n : ℕ) → (b || c) ≡ false → (c ≡ false → n ≡ 0) → (if b then m else 0) + n ≡ 0
-no-summand true c m n e i = absurd (clash e refl)
-no-summand false c m n e i = omega (arith, i e)
 
 no-value : (b : Bool) (m : ℕ) → b ≡ false → (if b then m else 0) ≡ 0
 no-value b m e = rw e

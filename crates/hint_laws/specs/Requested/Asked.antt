@@ -18,12 +18,9 @@ use Rattle.spec_laws.specs.Tags.{and-left}
 use Rattle.hint_laws.specs.Hints.{sumOver, namesOf, ofInitializer, overDeclarators, allRead, ofRead, letterFor, usingsIn, forOfUsing, asksFor, asked, called, callsIn, calls}
 use Rattle.hint_laws.specs.Requested.Everywhere.{Everywhere, everywhere, sums-same}
 use Rattle.hint_laws.specs.Requested.Known.{Known, accepted-known}
+use Rattle.spec_laws.specs.Bools.{if-same}
 
 -- ---- summands
-
-if-same : (b : Bool) (x y : ℕ) → (b ≡ true → x ≡ y) → (if b then x else 0) ≡ (if b then y else 0)
-if-same true x y e = e refl
-if-same false x y e = refl
 
 if-none : (b : Bool) (x : ℕ) → x ≡ 0 → (if b then x else 0) ≡ 0
 if-none true x e = e

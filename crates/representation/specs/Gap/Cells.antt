@@ -2,7 +2,7 @@
 -- Assumes nothing.
 use mathlib.Core.Path.{_≡_, refl, sym, ap}
 use mathlib.Core.List.{List, [], _∷_, _++_, append-assoc}
-use Prim.Native.Nat.{ℕ, zero, suc, _+_, _≤_}
+use Prim.Native.Nat.{ℕ, zero, suc, _+_}
 use native.Mathlib.Nat.{zero-add}
 use native.Mathlib.Omega.{arith}
 use lib.ListN.{length, length-append}
@@ -55,11 +55,6 @@ pub length-rows : (f : Forest) → length (rowsOf f) ≡ size f
 unfolding rowsOf size
 length-rows none = refl
 length-rows (more h k r) = omega (arith, length-append (rowsOf k) (rowsOf r), length-rows k, length-rows r)
-
-pub count-size : (f : Forest) → count f ≤ size f
-unfolding count size
-count-size none = omega arith
-count-size (more h k r) = omega (arith, count-size r)
 
 -- ---- forests beside each other
 

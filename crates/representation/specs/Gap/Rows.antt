@@ -85,7 +85,7 @@ slide zero v = refl
 slide (suc g) v = ap (_∷_ zeros) (slide g v)
 
 -- the rows up to the right end
-length-left : (a : List Row) (g : ℕ) → length (a ++ free g) ≡ length a + g
+pub length-left : (a : List Row) (g : ℕ) → length (a ++ free g) ≡ length a + g
 length-left a g = rw (length-append, length-free)
 
 module _ (z : List ℕ) (a : List Row) (g : ℕ) where

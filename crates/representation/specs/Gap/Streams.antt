@@ -2,12 +2,9 @@
 -- Assumes nothing.
 use mathlib.Core.Path.{_≡_, refl, sym, ap, ap₂, _∙_}
 use mathlib.Core.List.{List, [], _∷_, _++_, append-assoc, append-nil}
-use mathlib.Core.Bool.{false}
 use Prim.Native.Nat.{ℕ, suc, _+_, _-_, _≤_, _<_}
 use native.Mathlib.Nat.{zero-add, add-zero}
 use native.Mathlib.Omega.{arith}
-use borrow.Author.Tests.{ne-eqb}
-use lib.Dec.{eqb}
 use lib.ListN.{length, length-append}
 use Rattle.meaning.specs.Tree.{Head, Forest, none, more, count, size}
 use Rattle.tables.specs.Loops.{until, go-on, stopped}
@@ -16,9 +13,7 @@ use Rattle.tables.specs.Stream.{Buf, passF, passAsF, Copying, copying, copied, 
 use Rattle.tables.specs.declared.Row.{Row}
 use Rattle.representation.specs.Gap.Cells.{table, line, rowsOf, gapped, length-rows}
 use Rattle.representation.specs.Gap.Rows.{n-at, cap-one, length-snoc, next-gapped, pass-gapped}
-
-some-left : (c : ℕ) → eqb (suc c) 0 ≡ false
-some-left c = ne-eqb (suc c) 0 (λ e. omega arith)
+use Rattle.spec_laws.specs.Bools.{some as some-left}
 
 -- ---- copied
 

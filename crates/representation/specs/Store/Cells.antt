@@ -5,12 +5,13 @@ use mathlib.Core.Bool.{Bool, true, false}
 use mathlib.Core.List.{List, [], _∷_, _++_}
 use Prim.Native.Nat.{ℕ, zero, suc, _+_, _*_, _-_}
 use native.Mathlib.Omega.{arith}
-use lib.ListN.{length, getD, set, length-set}
+use lib.ListN.{length, getD, set}
 use lib.Seq.{getD-append-add}
 use lib.Dec.{eqb, leb, leb·suc-suc}
 use borrow.Author.Tests.{ne-eqb, le-leb, lt-leb}
 use Rattle.meaning.specs.Tree.{if_then_else_}
 use Rattle.meaning.specs.Scoping.{rowAt, setRow}
+use Rattle.spec_laws.specs.Bools.{one-less as by-one}
 
 -- How rows are laid out: `w` numbers to a row, by the row and a state that goes along, and free numbers behind the rows.
 pub record Layout (X A : Type 0) : Type 0 where
@@ -51,9 +52,6 @@ module _ (w : ℕ) (r t : List ℕ) (long : length r ≡ w) where
 
 first : (w f : ℕ) → 0 * w + f ≡ f
 first w f = omega arith
-
-by-one : (s : ℕ) → suc s - 1 ≡ s
-by-one s = omega arith
 
 either-++ : (b : Bool) (r s t : List ℕ) → (if b then r ++ s else r ++ t) ≡ r ++ (if b then s else t)
 either-++ true r s t = refl
@@ -101,10 +99,6 @@ module _ {X A : Type 0} (L : Layout X A) (d : X) (f : ℕ) where
         → put (L .w) (L .cells xs a z) (length xs) s f v ≡ L .cells (setRow xs s (g (rowAt d xs s))) a z
     put-is xs a z zero = refl
     put-is xs a z (suc i) = rw (ne-eqb (suc i) 0 (λ q. omega (arith, q)), by-one i) (put-from xs a z i)
-
-pub length-setRow : {X : Type 0} (xs : List X) (s : ℕ) (x : X) → length (setRow xs s x) ≡ length xs
-length-setRow xs zero x = refl
-length-setRow xs (suc i) x = length-set xs i x
 
 -- ---- a number behind the rows
 

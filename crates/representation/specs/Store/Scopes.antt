@@ -22,7 +22,8 @@ use Rattle.scoping.specs.Rows.{withScope, scopeNumber, setScopeF, scopeAt, scop
 use Rattle.scoping.specs.Changes.{createChildScopeF, changeScopeParentF, setScopeFlagsF, insertScopeBetweenF}
 use Rattle.scoping.specs.declared.Ctx.{Ctx}
 use Rattle.representation.specs.Store.Held.{scopeCells, ctxOf, scopesHeld}
-use Rattle.representation.specs.Store.Cells.{Layout, get-next, number-is, put-is, length-setRow, set-behind, rows-are}
+use Rattle.representation.specs.Store.Cells.{Layout, get-next, number-is, put-is, set-behind, rows-are}
+use Rattle.spec_laws.specs.Trees.{length-setRow}
 
 -- ---- the layout
 

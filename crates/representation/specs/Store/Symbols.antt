@@ -23,7 +23,8 @@ use Rattle.tables.specs.Table.{capped}
 use Rattle.scoping.specs.Rows.{withSymbol, symbolNumber, setSymbolF, symbolAt, symbolsF}
 use Rattle.scoping.specs.Changes.{createSymbolF, moveBindingF, setSymbolFlagsF}
 use Rattle.representation.specs.Store.Held.{symbolCells, ctxOf, symbolsHeld}
-use Rattle.representation.specs.Store.Cells.{Layout, get-next, number-is, put-is, length-setRow, set-behind, rows-next, rows-are}
+use Rattle.representation.specs.Store.Cells.{Layout, get-next, number-is, put-is, set-behind, rows-next, rows-are}
+use Rattle.spec_laws.specs.Trees.{length-setRow}
 
 -- ---- the layout; the state are the rows as read that are left
 

@@ -6,7 +6,6 @@ use mathlib.Core.List.{List, [], _∷_, _++_, append-assoc}
 use Prim.Native.Nat.{ℕ, suc, _+_, _-_, _≤_}
 use native.Mathlib.Nat.{zero-add, add-zero}
 use native.Mathlib.Omega.{arith}
-use borrow.Author.Tests.{ne-eqb}
 use lib.Dec.{eqb}
 use lib.ListN.{length, length-append}
 use Rattle.meaning.specs.Tree.{if_then_else_, Head, Forest, none, more, count, size}
@@ -17,7 +16,7 @@ use Rattle.meaning.specs.Due.{missing}
 use Rattle.tables.specs.Loops.{until, stopped}
 use Rattle.tables.specs.Table.{capped, rowF}
 use Rattle.tables.specs.declared.Row.{Row}
-use Rattle.representation.specs.Gap.Cells.{table, line, rowsOf, length-rows, count-size}
+use Rattle.representation.specs.Gap.Cells.{table, line, rowsOf, length-rows}
 use Rattle.representation.specs.Gap.Rows.{row-at, length-snoc, cap-one}
 use Rattle.scoping.specs.Changes.{inScopes, changeScopeParentF}
 use Rattle.scoping.specs.declared.Ctx.{Ctx}
@@ -26,6 +25,8 @@ use Rattle.representation.specs.Store.Scopes.{parent-changed, parent-ctx, child
 use Rattle.table_laws.specs.Lists.Plan.{cap-sum}
 use Rattle.creation.specs.Scopes.{PassingF, passingF, moveScopeF, passed, moveScopesF, insertScopeBelowF}
 use Rattle.scoping_laws.specs.Created.Held.{freeScopes}
+use Rattle.spec_laws.specs.Bools.{and-false, one-less, some}
+use Rattle.spec_laws.specs.Trees.{count-size}
 
 -- ---- what else the store has stays
 
@@ -71,16 +72,6 @@ module _ (s : ℕ) (f : Forest) (st : Store) where
   below-number = child-scope-number st s 0 ∙ sym (ap (λ (x : Ctx). x .scopes) (below-kept .0))
 
 -- ---- row by row
-
-one-less : (n : ℕ) → suc n - 1 ≡ n
-one-less n = omega arith
-
-and-false : (b : Bool) → (b && false) ≡ false
-and-false true = refl
-and-false false = refl
-
-some : (n : ℕ) → eqb (suc n) 0 ≡ false
-some n = ne-eqb (suc n) 0 (λ e. omega arith)
 
 module _ (z t : List ℕ) (x : Ctx) (parent : ℕ) where
   abbrev run : ℕ → PassingF → PassingF

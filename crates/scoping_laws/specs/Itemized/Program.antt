@@ -44,7 +44,7 @@ items-more : (h : Head) (k r : Forest)
 unfolding itemLines
 items-more h k r = total-more (linesOf (h .tag) k) (itemLines r)
 
-free-more : (m n : ℕ) (z : List ℕ) → freeSymbols (m + n) z ≡ freeSymbols m (freeSymbols n z)
+pub free-more : (m n : ℕ) (z : List ℕ) → freeSymbols (m + n) z ≡ freeSymbols m (freeSymbols n z)
 unfolding freeSymbols
 free-more zero n z = rw (zero-add n)
 free-more (suc m) n z = rw (suc-add m n, free-more m n z)

@@ -1,12 +1,11 @@
 -- A loop over the rows of some Declarators: it visits the names that they bind, in their order.
 -- Assumes nothing.
 use mathlib.Core.Path.{_≡_, refl, sym, ap, ap₂, _∙_}
-use mathlib.Core.Bool.{Bool, true, false, _&&_}
+use mathlib.Core.Bool.{Bool, true, false}
 use mathlib.Core.List.{List, [], _∷_, _++_, append-assoc, append-nil}
 use Prim.Native.Nat.{ℕ, suc, _+_, _-_, _≤_, _<_}
 use native.Mathlib.Nat.{zero-add, add-zero}
 use native.Mathlib.Omega.{arith}
-use borrow.Author.Tests.{ne-eqb}
 use lib.Dec.{eqb}
 use lib.ListN.{length, length-append}
 use Rattle.meaning.specs.Tree.{if_then_else_, Head, Forest, none, more, count, size}
@@ -15,11 +14,13 @@ use Rattle.meaning.specs.Program.{boundNames}
 use Rattle.tables.specs.Loops.{until, stopped}
 use Rattle.tables.specs.Table.{capped, columnF, rowF}
 use Rattle.tables.specs.declared.Row.{Row}
-use Rattle.representation.specs.Gap.Cells.{table, line, rowsOf, length-rows, count-size}
+use Rattle.representation.specs.Gap.Cells.{table, line, rowsOf, length-rows}
 use Rattle.representation.specs.Gap.Rows.{row-at, length-snoc, cap-one}
 use Rattle.table_laws.specs.Lists.Plan.{cap-sum}
 use Rattle.items.specs.Names.{names, firstNames, isNameF, nextNameF, namesDoneF}
 use Rattle.items.specs.declared.Names.{Names}
+use Rattle.spec_laws.specs.Bools.{and-false, one-less, some}
+use Rattle.spec_laws.specs.Trees.{count-size}
 
 -- what names make of a state, one after another
 abbrev pub visited : {A : Type 0} → (ℕ → A → A) → List ℕ → A → A
@@ -45,16 +46,6 @@ pub record Visiting (A S : Type 0) (Fits : A → List ℕ → Type 0) (z : List 
   pub visits : (x : A) (y : ℕ) (ys : List ℕ) (s : Names) → Fits x (y ∷ ys)
       → (let t = table (before x (y ∷ ys) ++ w) z in
       isNameF t s ≡ true → columnF t (s .at) 1 ≡ y → step (state x (y ∷ ys) s) ≡ state (go y x) ys (nextNameF t s))
-
-some : (n : ℕ) → eqb (suc n) 0 ≡ false
-some n = ne-eqb (suc n) 0 (λ e. omega arith)
-
-one-less : (n : ℕ) → suc n - 1 ≡ n
-one-less n = omega arith
-
-and-false : (b : Bool) → (b && false) ≡ false
-and-false true = refl
-and-false false = refl
 
 module _ {A S : Type 0} {Fits : A → List ℕ → Type 0} {z : List ℕ} {base : ℕ} {w : List Row} (L : Visiting A S Fits z base w) where
   abbrev run : ℕ → S → S

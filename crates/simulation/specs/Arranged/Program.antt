@@ -16,7 +16,7 @@ use Rattle.charge_laws.specs.Growth.Program.{Exports, program-pays}
 use Rattle.tables.specs.Table.{capped, madeF}
 use Rattle.tables.specs.Stream.{passAsF}
 use Rattle.tables.specs.declared.Row.{Row}
-use Rattle.representation.specs.Gap.Cells.{table, free, line, rowsOf, gapped, length-rows, count-size, count-&, rows-&}
+use Rattle.representation.specs.Gap.Cells.{table, free, line, rowsOf, gapped, length-rows, count-&, rows-&}
 use Rattle.representation.specs.Gap.Rows.{cap-one, length-snoc, pass-as-gapped}
 use Rattle.representation.specs.Store.Held.{scopeCells, symbolCells, ctxOf, scopesHeld}
 use Rattle.representation.specs.Store.Agreed.{Agreed, below-agreed}
@@ -35,6 +35,7 @@ use Rattle.simulation.specs.Rewritten.Replaced.{withFree, rewritten, sta
 use Rattle.simulation.specs.Arranged.Plan.{items-size, plan-program-law}
 use Rattle.simulation.specs.Arranged.Scopes.{items-same}
 use Rattle.simulation.specs.Arranged.Rewrite.{blockRow, rewrite-items-law}
+use Rattle.spec_laws.specs.Trees.{count-size}
 
 module _ (done : Forest) (h : Head) (k r : Forest) (path : List Crumb) (st : Store) (g : ℕ) (z : Rest) (x : Exports k) where
   abbrev here : Spot

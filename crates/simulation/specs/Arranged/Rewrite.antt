@@ -12,7 +12,7 @@ use Rattle.charge_laws.specs.Growth.Program.{Exports}
 use Rattle.tables.specs.Table.{capped, madeF}
 use Rattle.tables.specs.Stream.{Buf, emitF}
 use Rattle.tables.specs.declared.Row.{Row}
-use Rattle.representation.specs.Gap.Cells.{table, free, rowsOf, gapped, count-size}
+use Rattle.representation.specs.Gap.Cells.{table, free, rowsOf, gapped}
 use Rattle.representation.specs.Gap.Rows.{cap-one, emit-gapped}
 use Rattle.representation.specs.Store.Held.{symbolCells, ctxOf}
 use Rattle.representation.specs.Store.Agreed.{Agreed}
@@ -28,6 +28,7 @@ use Rattle.program.specs.Program.{transformItemsF, rewriteItemsF}
 use Rattle.simulation.specs.Arranged.Mix.{mix-length}
 use Rattle.simulation.specs.Arranged.Arrange.{items-mix, kept-rows-law, arrange-law}
 use Rattle.simulation.specs.Arranged.Plan.{items-size}
+use Rattle.spec_laws.specs.Trees.{count-size}
 
 -- the Block's row: it has the next scope
 abbrev pub blockRow : Forest → Store → Row

@@ -16,6 +16,7 @@ use Rattle.representation.specs.Store.Held.{scopeCells, symbolCells, ctxOf}
 use Rattle.representation.specs.Store.Agreed.{Agreed}
 use Rattle.scoping_laws.specs.Created.Held.{freeScopes, freeSymbols, Room}
 use Rattle.contexts.specs.Tries.{PartingF, partingF}
+use Rattle.scoping_laws.specs.Itemized.Program.{free-more as symbols-more}
 
 -- the rows of a store, and a table with a gap: the rows before it, g free ones, and those behind it
 abbrev pub beside : List ℕ → List ℕ → Store → Buf → PartingF
@@ -50,11 +51,6 @@ pub scopes-more : (m n : ℕ) (z : List ℕ) → freeScopes (m + n) z ≡ freeSc
 unfolding freeScopes
 scopes-more zero n z = rw zero-add
 scopes-more (suc m) n z = rw (suc-add m n) (ap (λ (t : List ℕ). 0 ∷ 0 ∷ t) (scopes-more m n z))
-
-pub symbols-more : (m n : ℕ) (z : List ℕ) → freeSymbols (m + n) z ≡ freeSymbols m (freeSymbols n z)
-unfolding freeSymbols
-symbols-more zero n z = rw zero-add
-symbols-more (suc m) n z = rw (suc-add m n) (ap (λ (t : List ℕ). 0 ∷ 0 ∷ 0 ∷ 0 ∷ 0 ∷ t) (symbols-more m n z))
 
 -- ---- rewrites
 

@@ -22,6 +22,7 @@ use Rattle.statements.specs.TakeUp.{hasInitializerF}
 use Rattle.statements.specs.Plan.{counting, countOneF, initializersF, wrapsF, plan, noPlan, planOneF, planF}
 use Rattle.statements.specs.declared.Counting.{Counting}
 use Rattle.table_laws.specs.Lists.TakeUp.{initializer, itemWraps, length-line}
+use Rattle.spec_laws.specs.Bools.{at-most}
 
 -- the usings that stand directly in a list, and the `await using`s
 unfoldable pub usings : Forest → ℕ
@@ -56,16 +57,12 @@ pub cap-sum : (x k : ℕ) → x + k ≤ 65535 → capped x k ≡ x + k
 unfolding capped
 cap-sum x k h = omega arith
 
-at-most : (b : Bool) (n : ℕ) → (if b then n else 0) ≤ n
-at-most true n = omega arith
-at-most false n = omega arith
-
-initializers-size : (f : Forest) → initializers f ≤ size f
+pub initializers-size : (f : Forest) → initializers f ≤ size f
 unfolding initializers size
 initializers-size none = omega arith
 initializers-size (more h k r) = omega (arith, at-most (eqb (h .tag) 6 && ltb (h .b) (count k)) 1, initializers-size r)
 
-counts-size : (f : Forest) → (usings f ≤ size f) × (awaits f ≤ size f) × (wraps f ≤ size f)
+pub counts-size : (f : Forest) → (usings f ≤ size f) × (awaits f ≤ size f) × (wraps f ≤ size f)
 unfolding usings awaits wraps size
 counts-size none = omega arith
 counts-size (more h k r) =

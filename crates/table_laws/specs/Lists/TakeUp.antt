@@ -126,7 +126,7 @@ pub length-line : (a : List Row) (x : Row) (k : Forest) → length (a ++ x ∷ r
 length-line a x k = omega (arith, length-append a (x ∷ rowsOf k), length-rows k)
 
 -- the first row of some, and the free rows cut in two
-first-row : (z : List ℕ) (h : Head) (k r : Forest) (a : List Row) (x y g : ℕ) (v : List Row)
+pub first-row : (z : List ℕ) (h : Head) (k r : Forest) (a : List Row) (x y g : ℕ) (v : List Row)
     → gapped z a (x + y + g) (rowsOf (more h k r) ++ v) ≡ gapped z a (x + (y + g)) (line h (count k) ∷ (rowsOf k ++ (rowsOf r ++ v)))
 unfolding rowsOf
 first-row z h k r a x y g v = rw (add-assoc x y g, append-assoc (rowsOf k) (rowsOf r) v)

@@ -6,12 +6,12 @@ use mathlib.Core.Bool.{Bool, true, false, not, _&&_}
 use Prim.Native.Nat.{ℕ, suc, _+_, _≤_}
 use native.Mathlib.Nat.{zero-add, add-zero}
 use native.Mathlib.Omega.{arith}
-use lib.Dec.{eqb, ltb}
+use lib.Dec.{eqb}
 use lib.ListN.{length}
 use Rattle.meaning.specs.Tree.{if_then_else_, Head, Forest, none, more, count, size}
-use Rattle.meaning.specs.Statements.{isUsing, isAwaitUsing, anyUsing, anyAwaitUsing}
+use Rattle.meaning.specs.Statements.{anyUsing, anyAwaitUsing}
 use Rattle.meaning.specs.Contexts.{anyCaseUsing, anyCaseAwaitUsing}
-use Rattle.meaning.specs.Charges.{initializers, wraps, caseWraps}
+use Rattle.meaning.specs.Charges.{wraps, caseWraps}
 use Rattle.tables.specs.Loops.{turns}
 use Rattle.tables.specs.Table.{capped}
 use Rattle.tables.specs.declared.Row.{Row}
@@ -19,9 +19,10 @@ use Rattle.representation.specs.Gap.Cells.{table, line, rowsOf}
 use Rattle.representation.specs.Gap.Rows.{length-snoc}
 use Rattle.statements.specs.Plan.{plan, planF}
 use Rattle.table_laws.specs.Lists.TakeUp.{length-line}
-use Rattle.table_laws.specs.Lists.Plan.{usings, awaits, any-usings, any-awaits, plan-law, parted, plan-eq, row-here, end-here}
+use Rattle.table_laws.specs.Lists.Plan.{usings, awaits, any-usings, any-awaits, plan-law, parted, plan-eq, row-here, end-here, counts-size as list-size}
 use Rattle.for_switch.specs.Switch.{planCaseF, planCasesF}
 use Rattle.table_laws.specs.Streamed.Places.{some-both, below-here, rows-below}
+use Rattle.spec_laws.specs.Bools.{at-most}
 
 -- a number of a Case's list, or 0
 abbrev pub inCase : Head → ℕ → ℕ
@@ -62,28 +63,6 @@ any-case-awaits (more h k r) =
     (any-case-awaits r)
 
 -- ---- nothing is capped
-
-at-most : (b : Bool) (n : ℕ) → (if b then n else 0) ≤ n
-at-most true n = omega arith
-at-most false n = omega arith
-
-initializers-size : (f : Forest) → initializers f ≤ size f
-unfolding initializers size
-initializers-size none = omega arith
-initializers-size (more h k r) = omega (arith, at-most (eqb (h .tag) 6 && ltb (h .b) (count k)) 1, initializers-size r)
-
-list-size : (f : Forest) → (usings f ≤ size f) × (awaits f ≤ size f) × (wraps f ≤ size f)
-unfolding usings awaits wraps size
-list-size none = omega arith
-list-size (more h k r) =
-    omega (
-      arith,
-      at-most (isUsing h) 1,
-      at-most (isAwaitUsing h) 1,
-      at-most (isUsing h) (initializers k),
-      initializers-size k,
-      list-size r,
-    )
 
 cases-size : (f : Forest) → (caseUsings f ≤ size f) × (caseAwaits f ≤ size f) × (caseWraps f ≤ size f)
 unfolding caseUsings caseAwaits caseWraps size

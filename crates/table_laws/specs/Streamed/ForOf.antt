@@ -12,7 +12,7 @@ use Rattle.charge_laws.specs.Counts.Enter.{Begins}
 use Rattle.tables.specs.Table.{capped, madeF}
 use Rattle.tables.specs.Stream.{Buf, emitF, copyF}
 use Rattle.tables.specs.declared.Row.{Row}
-use Rattle.representation.specs.Gap.Cells.{table, free, line, rowsOf, gapped, length-rows, count-size, count-&, size-&, rows-&}
+use Rattle.representation.specs.Gap.Cells.{table, free, line, rowsOf, gapped, length-rows, count-&, size-&, rows-&}
 use Rattle.representation.specs.Gap.Rows.{length-snoc, next-gapped, pass-gapped, pass-as-gapped, emit-gapped}
 use Rattle.representation.specs.Gap.Streams.{copy-all}
 use Rattle.table_laws.specs.Lists.Plan.{cap-sum}
@@ -20,6 +20,7 @@ use Rattle.table_laws.specs.Lists.Try.{declare-law}
 use Rattle.for_of.specs.ForOf.{leftRowsF, usingRowsF, insertRowsF, wrapRowsF}
 use Rattle.table_laws.specs.Streamed.Places.{cap-count, next-rows, more-rows, n-gapped}
 use Rattle.table_laws.specs.Streamed.Sides.{sides-rows}
+use Rattle.spec_laws.specs.Trees.{count-size}
 
 -- ---- up to the body
 

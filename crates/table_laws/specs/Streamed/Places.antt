@@ -8,15 +8,16 @@ use native.Mathlib.Nat.{zero-add}
 use native.Mathlib.Omega.{arith}
 use borrow.Author.Tests.{ne-eqb}
 use lib.Dec.{eqb}
-use lib.ListN.{length, length-append}
+use lib.ListN.{length}
 use Rattle.meaning.specs.Tree.{Head, Forest, more, one, count, size}
 use Rattle.meaning.specs.Charges.{wraps}
 use Rattle.tables.specs.Table.{capped, columnF, rowF}
 use Rattle.tables.specs.declared.Row.{Row}
-use Rattle.representation.specs.Gap.Cells.{table, free, line, rowsOf, gapped, length-free, count-size}
-use Rattle.representation.specs.Gap.Rows.{length-snoc, next-gapped}
+use Rattle.representation.specs.Gap.Cells.{table, free, line, rowsOf, gapped}
+use Rattle.representation.specs.Gap.Rows.{length-snoc, next-gapped, length-left}
 use Rattle.statements.specs.Plan.{plan, noPlan, planF}
 use Rattle.table_laws.specs.Lists.Plan.{usings, awaits, cap-sum, plan-list-law, row-here}
+use Rattle.spec_laws.specs.Trees.{count-size}
 
 -- of two numbers, one is not 0
 pub some-both : (b c : Bool) (m n : ℕ) → b ≡ not (eqb m 0) → c ≡ not (eqb n 0) → (b || c) ≡ not (eqb (m + n) 0)
@@ -63,10 +64,6 @@ module _ (z : List ℕ) (h : Head) (k : Forest) (a v : List Row) (t : List ℕ)
       (plan-list-law z k (a ++ x ∷ []) v t rows-below (omega arith) ∙ ap (λ (i : ℕ). plan i (usings k) (awaits k) (wraps k)) (omega arith))
 
 -- ---- behind a gap
-
--- the rows up to its right end
-pub length-left : (a : List Row) (g : ℕ) → length (a ++ free g) ≡ length a + g
-length-left a g = rw (length-append, length-free)
 
 -- the n of the next row
 pub n-gapped : (z : List ℕ) (a : List Row) (g : ℕ) (x : Row) (v : List Row)

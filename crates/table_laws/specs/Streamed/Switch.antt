@@ -4,7 +4,7 @@ use mathlib.Core.Path.{_≡_, refl, ap, _∙_}
 use mathlib.Core.List.{List, [], _∷_, _++_, append-assoc, append-nil}
 use mathlib.Core.Bool.{Bool, true, false, _||_}
 use Prim.Native.Nat.{ℕ, suc, _+_, _≤_}
-use native.Mathlib.Nat.{zero-add, add-assoc}
+use native.Mathlib.Nat.{zero-add}
 use native.Mathlib.Omega.{arith}
 use lib.Dec.{eqb}
 use lib.ListN.{length}
@@ -21,12 +21,12 @@ use Rattle.representation.specs.Gap.Rows.{length-snoc, next-gapped, pass-gapped
 use Rattle.representation.specs.Gap.Streams.{copy-all}
 use Rattle.statements.specs.TakeUp.{takeUpF}
 use Rattle.statements.specs.declared.Parts.{Parts}
-use Rattle.table_laws.specs.Lists.TakeUp.{size-taken, count-taken, length-line, take-up-law}
+use Rattle.table_laws.specs.Lists.TakeUp.{size-taken, count-taken, length-line, take-up-law, first-row}
 use Rattle.table_laws.specs.Lists.Plan.{awaits, any-awaits}
 use Rattle.table_laws.specs.Lists.Try.{contextOf, handlersOf}
 use Rattle.contexts.specs.Lists.{listScope}
 use Rattle.for_switch.specs.Switch.{CasingF, casingF, orAwaitsF, takeUpCaseF, takeUpCasesF, switchRowsF}
-use Rattle.table_laws.specs.Streamed.Places.{one-row, next-rows, n-gapped, plan-gapped}
+use Rattle.table_laws.specs.Streamed.Places.{one-row, n-gapped, plan-gapped}
 use Rattle.table_laws.specs.Streamed.Cases.{inCase}
 use Rattle.table_laws.specs.Streamed.Frame.{frame-law}
 
@@ -68,11 +68,6 @@ count-cases (more h k r) ctx needs =
     ap count (next-cases c ctx needs h k r) ∙ ap suc (count-cases r ctx (needsAfter c needs k))
 
 -- ---- the Cases
-
--- the first row of some, and the free rows cut in two
-first-row : (z : List ℕ) (h : Head) (k r : Forest) (a : List Row) (x y g : ℕ) (v : List Row)
-    → gapped z a (x + y + g) (rowsOf (more h k r) ++ v) ≡ gapped z a (x + (y + g)) (line h (count k) ∷ (rowsOf k ++ (rowsOf r ++ v)))
-first-row z h k r a x y g v = rw (add-assoc x y g, next-rows h k r v)
 
 module _ (z : List ℕ) where
   -- a child, by whether it is a Case

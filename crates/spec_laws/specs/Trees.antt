@@ -1,0 +1,58 @@
+-- Small laws of trees, files and the walk.
+-- Assumes nothing.
+use mathlib.Core.Path.{_≡_, refl, sym}
+use mathlib.Core.Bool.{Bool, true, false}
+use mathlib.Core.List.{List, [], _∷_}
+use Prim.Native.Nat.{ℕ, zero, suc, _*_, _≤_}
+use native.Mathlib.Omega.{arith}
+use lib.Dec.{eqb}
+use lib.ListN.{length, length-set}
+use borrow.Author.Tests.{eqb-true}
+use Rattle.meaning.specs.Tree.{if_then_else_, oneOf, Head, hd, Forest, none, more, count, size}
+use Rattle.meaning.specs.File.{numbersOf, twoBytes}
+use Rattle.meaning.specs.Scoping.{setRow}
+use Rattle.meaning.specs.Walk.{Spot, visit, visits}
+
+-- ---- trees
+
+pub count-size : (f : Forest) → count f ≤ size f
+unfolding count size
+count-size none = omega arith
+count-size (more h k r) = omega (arith, count-size r)
+
+-- a Class that is made an expression keeps its tag
+pub expression-tag : (b : Bool) (h : Head) → eqb (h .tag) 15 ≡ b → (if b then hd 15 1 (h .b) (h .c) else h) .tag ≡ h .tag
+expression-tag true h e = sym (eqb-true (h .tag) 15 e)
+expression-tag false h e = refl
+
+-- ---- rows
+
+pub length-setRow : {X : Type 0} (xs : List X) (s : ℕ) (x : X) → length (setRow xs s x) ≡ length xs
+length-setRow xs zero x = refl
+length-setRow xs (suc i) x = length-set xs i x
+
+-- ---- the bytes of a field
+
+most : (b : Bool) (x y : ℕ) → x ≤ 4 → y ≤ 4 → (if b then x else y) ≤ 4
+most true x y p q = p
+most false x y p q = q
+
+pub numbers-most : (t : ℕ) → numbersOf t ≤ 4
+unfolding numbersOf
+numbers-most t =
+    most (oneOf (14 ∷ 18 ∷ 19 ∷ 25 ∷ 26 ∷ []) t) 1 _ (omega arith)
+    (most (oneOf (1 ∷ 2 ∷ 4 ∷ 5 ∷ 7 ∷ 9 ∷ 10 ∷ 11 ∷ 16 ∷ 20 ∷ 24 ∷ 28 ∷ 40 ∷ 41 ∷ []) t) 2 _ (omega arith)
+    (most (oneOf (3 ∷ 6 ∷ 8 ∷ 17 ∷ 27 ∷ 29 ∷ []) t) 3 _ (omega arith)
+    (most (oneOf (12 ∷ 13 ∷ 15 ∷ 42 ∷ []) t) 4 0 (omega arith) (omega arith))))
+
+pub two-length : (ns : List ℕ) → length (twoBytes ns) ≡ 2 * length ns
+unfolding twoBytes
+two-length [] = refl
+two-length (n ∷ ns) = omega (arith, two-length ns)
+
+-- ---- visits
+
+pub visits-last : (k : ℕ) (s : Spot) → visits (suc k) s ≡ visit (visits k s)
+unfolding visits
+visits-last zero s = refl
+visits-last (suc k) s = visits-last k (visit s)
