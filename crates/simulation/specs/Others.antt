@@ -59,8 +59,9 @@ use Rattle.scoping_laws.specs.Itemized.Program.{items-store}
 use Rattle.simulation.specs.Arranged.Scopes.{items-same}
 use Rattle.simulation.specs.Arranged.Program.{program-law}
 use Rattle.walk.specs.Visit.{planNextF, rewriteProgramF, rewriteTryF, rewriteForOfF}
-use Rattle.simulation.specs.Rewrite.{Takes, By, done-by, kept-by, counts-some, and-false, line-takes}
+use Rattle.simulation.specs.Rewrite.{Takes, By, done-by, kept-by, counts-some, line-takes}
 use Rattle.simulation.specs.Lists.{in-list}
+use Rattle.spec_laws.specs.Bools.{and-false}
 
 module _ (done : Forest) (h : Head) (k r : Forest) (path : List Crumb) (st : Store) (g : ℕ) (z : Rest) where
   -- ---- a Try

@@ -51,11 +51,12 @@ use Rattle.representation.specs.Spots.Spots.{Rest, held}
 use Rattle.representation.specs.Spots.Lengths.{store-settled}
 use Rattle.scoping_laws.specs.Created.Held.{Room}
 use Rattle.simulation.specs.Rewritten.Replaced.{withFree}
-use Rattle.simulation.specs.Tried.Passing.{newScopes, newSymbols, scopes-more, symbols-more}
+use Rattle.simulation.specs.Tried.Passing.{newScopes, newSymbols, scopes-more}
 use Rattle.walk.specs.Visit.{visitF}
 use Rattle.simulation.specs.Rewrite.{newRecords}
 use Rattle.simulation.specs.Visit.{visit-grows, visit-kept, visit-law}
 use Rattle.spec_laws.specs.Trees.{visits-last}
+use Rattle.scoping_laws.specs.Itemized.Program.{free-more as symbols-more}
 
 -- ---- tables of so many rows
 

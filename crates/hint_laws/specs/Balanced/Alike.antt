@@ -50,7 +50,7 @@ unfolding isUsing
 neutral-using h n = let e = tagless h n .five in rw e
 
 -- what `Same` says of two records
-abbrev Alike : Head → Forest → Head → Forest → Type 0
+abbrev pub Alike : Head → Forest → Head → Forest → Type 0
 Alike h k h′ k′ = ((h ≡ h′) × Same k k′) ⊎ (Neutral h × Neutral h′)
 
 -- a value that a record has unless a test of its head fails, as it does for neutral ones

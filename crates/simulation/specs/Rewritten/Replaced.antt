@@ -15,9 +15,10 @@ use Rattle.representation.specs.Gap.Cells.{table, zeros, free, rowsOf, gapped}
 use Rattle.representation.specs.Store.Held.{scopeCells, symbolCells, ctxOf}
 use Rattle.representation.specs.Spots.Spots.{afterRowsOf, opensAt, visitedAt, restAt, Rest, walkAt, held}
 use Rattle.representation.specs.Spots.Lengths.{rest-at, walk-eq}
-use Rattle.table_laws.specs.Streamed.Places.{more-rows, length-left}
+use Rattle.table_laws.specs.Streamed.Places.{more-rows}
 use Rattle.scoping_laws.specs.Created.Held.{freeScopes, freeSymbols}
 use Rattle.simulation.specs.Rewritten.Standing.{before, behind, rows-here, gap-here}
+use Rattle.representation.specs.Gap.Rows.{length-left}
 
 -- what is behind the rows of the tables, with so many free scope and symbol rows first
 abbrev pub withFree : ℕ → ℕ → Rest → Rest

@@ -15,7 +15,7 @@ use Rattle.tables.specs.Table.{capped, columnF, rowF}
 use Rattle.tables.specs.declared.Row.{Row}
 use Rattle.path.specs.Path.{Tables}
 use Rattle.representation.specs.Gap.Cells.{table, free, line, rowsOf}
-use Rattle.representation.specs.Gap.Rows.{row-at, cap-one, length-snoc}
+use Rattle.representation.specs.Gap.Rows.{row-at, cap-one, length-snoc, length-left}
 use Rattle.representation.specs.Spots.Spots.{openRowsOf, afterRowsOf, opensAt, visitedAt, restAt, Rest, walkAt, held}
 use Rattle.representation.specs.Spots.Scopes.{depth-law, current-law, hoist-law}
 use Rattle.representation.specs.Spots.Lengths.{visited-at, rest-at}
@@ -27,7 +27,7 @@ use Rattle.scoping_laws.specs.Created.Held.{rowsHeld}
 use Rattle.contexts.specs.Lists.{currentIn, hoistIn}
 use Rattle.for_switch.specs.For.{planForF}
 use Rattle.for_switch.specs.Switch.{planCasesF}
-use Rattle.table_laws.specs.Streamed.Places.{one-row, more-rows, length-left}
+use Rattle.table_laws.specs.Streamed.Places.{one-row, more-rows}
 use Rattle.table_laws.specs.Streamed.For.{Plans, plan-for-law}
 use Rattle.table_laws.specs.Streamed.Cases.{caseUsings, caseAwaits, plan-cases-law}
 

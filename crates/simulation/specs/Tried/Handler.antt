@@ -16,13 +16,13 @@ use Rattle.tables.specs.Stream.{Buf, passF}
 use Rattle.tables.specs.declared.Row.{Row}
 use Rattle.scoping.specs.declared.Ctx.{Ctx}
 use Rattle.representation.specs.Gap.Cells.{table, free, line, rowsOf, gapped, length-rows}
-use Rattle.representation.specs.Gap.Rows.{cap-one, length-snoc, pass-gapped}
+use Rattle.representation.specs.Gap.Rows.{cap-one, length-snoc, pass-gapped, length-left}
 use Rattle.representation.specs.Store.Held.{ctxOf}
 use Rattle.representation.specs.Store.Symbols.{bindings-ctx}
 use Rattle.representation.specs.Store.Agreed.{Agreed, bindings-agreed}
 use Rattle.scoping_laws.specs.Created.Held.{freeScopes, freeSymbols}
 use Rattle.contexts.specs.Tries.{PartingF, partingF, transformPartsF, planPartsF, lastBlockScopeF, moveNamesF, transformHandlerF}
-use Rattle.table_laws.specs.Streamed.Places.{one-row, below-here, rows-below, length-left, n-gapped}
+use Rattle.table_laws.specs.Streamed.Places.{one-row, below-here, rows-below, n-gapped}
 use Rattle.table_laws.specs.Streamed.Parts.{partRows, any-parts, plan-parts-law, last-block-law}
 use Rattle.simulation.specs.Tried.Passing.{beside, passing, newScopes, newSymbols, Rewrites}
 use Rattle.simulation.specs.Tried.Parts.{parts-law, parts-count, parts-names}

@@ -19,7 +19,7 @@ use Rattle.tables.specs.Table.{capped, columnF, rowF}
 use Rattle.tables.specs.Stream.{Buf, passF}
 use Rattle.tables.specs.declared.Row.{Row}
 use Rattle.representation.specs.Gap.Cells.{table, free, line, rowsOf, gapped}
-use Rattle.representation.specs.Gap.Rows.{length-snoc, pass-gapped}
+use Rattle.representation.specs.Gap.Rows.{length-snoc, pass-gapped, length-left}
 use Rattle.statements.specs.TakeUp.{takeUpF}
 use Rattle.statements.specs.Plan.{plan, noPlan, planF}
 use Rattle.statements.specs.declared.Parts.{Parts}
@@ -29,7 +29,7 @@ use Rattle.table_laws.specs.Lists.Plan.{usings, awaits, parted, row-here
 use Rattle.table_laws.specs.Lists.Try.{contextOf, handlersOf}
 use Rattle.contexts.specs.Lists.{listScope}
 use Rattle.for_switch.specs.For.{isLoopF, nextRow, labelsEndF, planForF, passRowsF, forRowsF}
-use Rattle.table_laws.specs.Streamed.Places.{one-row, tag-here, rows-below, plan-below, length-left, n-gapped}
+use Rattle.table_laws.specs.Streamed.Places.{one-row, tag-here, rows-below, plan-below, n-gapped}
 use Rattle.table_laws.specs.Streamed.Frame.{frame-law}
 
 -- how many Labels stand before a record
