@@ -1,8 +1,9 @@
-// The statements and bodies that get a context: block, function body, static block, try parts, for, switch. Each is rewritten where it stands,
-// as the first of the rows still to visit.
+// Block, function body, static block and try parts get a context. Each is rewritten where it stands, as the first of the rows still to visit.
 use meaning::RecordId;
 use meaning::ScopeId;
 use meaning::SymbolId;
+use meaning::parts;
+use meaning::tag;
 use path::Walk;
 use scoping::Ctx;
 use statements::Counting;
@@ -10,13 +11,14 @@ use statements::Parts;
 use statements::Plan;
 use tables::Cursor;
 use tables::Row;
+use tables::record;
 ghost use mathlib.Core.Path.{_≡_};
 ghost use Rattle.path.specs.Path.{tables};
 ghost use Rattle.tables.specs.Stream.{buf};
 ghost use Rattle.contexts.specs.Lists.{listScope, blockRowsF, wrappedRowsF, transformBlockStatementF, enterFunctionBodyF, exitStaticBlockF};
 ghost use Rattle.contexts.specs.Tries.{parting, transformTryBlockF, isPartF, transformPartF, transformPartsF, partRowsF, planPartF, planPartsF, planChildF, planTryF, ifBlockF, blockScopeF, lastBlockScopeF, naming, moveNameF, moveNamesF, transformHandlerF, transformChildF, transformChildrenF, enterTryStatementF};
 
-// The scope made last before the Catch's.
+// The scope of a context's list, where one is made: the last before the Catch's.
 pub fn list_scope(p: Parts) -> ScopeId
     ensures { λ r. ⌜ r .0 ≡ listScope p ⌝ }
 {
@@ -30,11 +32,11 @@ fn write_block(records: &mut [u16], q: Cursor, p: Parts) -> Cursor
     ensures { λ o. ⌜ buf (now (records .exit)) o ≡ blockRowsF p (buf (now (records .entry)) q) ⌝ }
 {
     let r = tables::row_after(records, q.read);
-    let q1 = tables::emit(records, q, tables::made(11, 3, 0, 0, 3));
+    let q1 = tables::emit(records, q, tables::made(tag::TRY, parts::BOTH, 0, 0, 3));
     let q2 = tables::pass_as(
         records,
         q1,
-        tables::made(2, r.a, 0, 0, tables::plus(r.n, 1)),
+        tables::made(tag::BLOCK, r.a, 0, 0, tables::plus(r.n, 1)),
     );
     statements::transform_list(records, q2, r.n, p)
 }
@@ -53,7 +55,7 @@ pub fn transform_block_statement(
     let hoist = path::hoist_scope(records, w.inner, w.visited.0);
     let c = creation::for_block(scopes, symbols, w.ctx, cur, hoist, plan.awaits);
     let read = w.gap;
-    let v = w.charge(tables::plus(plan.wraps, 11));
+    let v = w.charge(tables::plus(plan.wraps, statements::CONTEXT_ROWS));
     let written = v.gap;
     write_block(records, Cursor { read, written }, c.parts);
     v.with_ctx(c.ctx)
@@ -63,7 +65,7 @@ pub fn transform_block_statement(
 fn write_wrapped(records: &mut [u16], q: Cursor, row: Row, scope: ScopeId, p: Parts) -> Cursor
     ensures { λ o. ⌜ buf (now (records .exit)) o ≡ wrappedRowsF row (scope .0) p (buf (now (records .entry)) q) ⌝ }
 {
-    let n = tables::column(records, q.read, 4);
+    let n = tables::column(records, q.read, record::N);
     let q1 = tables::pass_as(records, q, row);
     let q2 = statements::open_try(records, q1, scope, tables::plus(n, 1));
     statements::transform_list(records, q2, n, p)
@@ -82,7 +84,7 @@ pub fn enter_function_body(
     let cur = path::current_scope(records, w.inner, w.visited.0);
     let hoist = path::hoist_scope(records, w.inner, w.visited.0);
     let read = w.gap;
-    let n = tables::column(records, read, 4);
+    let n = tables::column(records, read, record::N);
     let list = RecordId(tables::plus(read.0, 1));
     let c = creation::for_body(
         records,
@@ -95,12 +97,12 @@ pub fn enter_function_body(
         n,
         plan.awaits,
     );
-    let v = w.charge(tables::plus(plan.wraps, 12));
+    let v = w.charge(tables::plus(plan.wraps, statements::WRAPPED_CONTEXT_ROWS));
     let written = v.gap;
     write_wrapped(
         records,
         Cursor { read, written },
-        tables::made(14, 0, 0, 0, 1),
+        tables::made(tag::BODY, 0, 0, 0, 1),
         list_scope(c.parts),
         c.parts,
     );
@@ -119,13 +121,13 @@ pub fn exit_static_block(
 {
     let read = w.gap;
     let written = w.visited;
-    let old = ScopeId(tables::column(records, read, 1));
+    let old = ScopeId(tables::column(records, read, record::A));
     let c = creation::for_static_block(scopes, symbols, w.ctx, old, plan.awaits);
     let scope = list_scope(c.parts);
     let q = write_wrapped(
         records,
         Cursor { read, written },
-        tables::made(16, scope.0, 0, 0, 1),
+        tables::made(tag::STATIC_BLOCK, scope.0, 0, 0, 1),
         old,
         c.parts,
     );
@@ -154,10 +156,10 @@ fn transform_try_block(
     ensures { λ r. ⌜ parting (now (records .exit)) (now (scopes .exit)) (now (symbols .exit)) r ≡ transformTryBlockF (cur .0) (hoist .0) awaits (parting (now (records .entry)) (now (scopes .entry)) (now (symbols .entry)) s) ⌝ }
 {
     let q = s.at;
-    let old = ScopeId(tables::column(records, q.read, 1));
+    let old = ScopeId(tables::column(records, q.read, record::A));
     let c = creation::for_try_part(scopes, symbols, s.ctx, cur, hoist, old, awaits);
     let scope = list_scope(c.parts);
-    let at = write_wrapped(records, q, tables::made(2, scope.0, 0, 0, 1), old, c.parts);
+    let at = write_wrapped(records, q, tables::made(tag::BLOCK, scope.0, 0, 0, 1), old, c.parts);
     let ctx = c.ctx;
     Parting { at, ctx }
 }
@@ -193,13 +195,13 @@ fn transform_part(
 fn is_part(r: Row, plan: Plan) -> bool
     ensures { λ o. ⌜ o ≡ isPartF r plan ⌝ }
 {
-    if r.tag != 2 {
+    if r.tag != tag::BLOCK {
         return false;
     }
     plan.usings != 0
 }
 
-// The same for `n` parts beside each other.
+// `n` parts beside each other: each Block with a using directly in it is transformed.
 fn transform_parts(
     records: &mut [u16],
     scopes: &mut [u16],
@@ -231,10 +233,11 @@ fn block_scope(records: &[u16], s: Counting) -> Counting
     }
 }
 
+// A Block's scope, or 0.
 fn if_block(r: Row) -> u16
     ensures { λ o. ⌜ o ≡ ifBlockF r ⌝ }
 {
-    if r.tag == 2 { r.a } else { 0 }
+    if r.tag == tag::BLOCK { r.a } else { 0 }
 }
 
 // The scope of the last Block of a list, or 0.
@@ -262,7 +265,7 @@ fn move_name(
 {
     let r = tables::row_after(records, after);
     let end = tables::end_after(records, after, 1);
-    if r.tag == 26 {
+    if r.tag == tag::NAME {
         scoping::move_binding(symbols, ctx, SymbolId(r.a), scope);
         end
     } else {
@@ -301,7 +304,7 @@ fn transform_handler(
     ensures { λ r. ⌜ parting (now (records .exit)) (now (scopes .exit)) (now (symbols .exit)) r ≡ transformHandlerF (cur .0) (hoist .0) (parting (now (records .entry)) (now (scopes .entry)) (now (symbols .entry)) s) ⌝ }
 {
     let q = s.at;
-    let n = tables::column(records, q.read, 4);
+    let n = tables::column(records, q.read, record::N);
     let added = plan_parts(records, RecordId(tables::plus(q.read.0, 1)), n);
     let start = q.written;
     let at = tables::pass(records, q);
@@ -334,7 +337,7 @@ fn transform_child(
     ensures { λ r. ⌜ parting (now (records .exit)) (now (scopes .exit)) (now (symbols .exit)) r ≡ transformChildF (cur .0) (hoist .0) (parting (now (records .entry)) (now (scopes .entry)) (now (symbols .entry)) s) ⌝ }
 {
     let q = s.at;
-    if tables::column(records, q.read, 0) == 12 {
+    if tables::column(records, q.read, record::TAG) == tag::CATCH {
         transform_handler(records, scopes, symbols, s, cur, hoist)
     } else {
         transform_part(records, scopes, symbols, s, cur, hoist)
@@ -375,7 +378,7 @@ pub fn enter_try_statement(
     let cur = path::current_scope(records, w.inner, w.visited.0);
     let hoist = path::hoist_scope(records, w.inner, w.visited.0);
     let read = w.gap;
-    let n = tables::column(records, read, 4);
+    let n = tables::column(records, read, record::N);
     let v = w.charge(added);
     let written = v.gap;
     let at = tables::pass(records, Cursor { read, written });
@@ -389,12 +392,13 @@ fn part_rows(r: Row, plan: Plan) -> u16
     ensures { λ o. ⌜ o ≡ partRowsF r plan ⌝ }
 {
     if is_part(r, plan) {
-        tables::plus(plan.wraps, 12)
+        tables::plus(plan.wraps, statements::WRAPPED_CONTEXT_ROWS)
     } else {
         0
     }
 }
 
+// One part of a Try more: the rows that it adds.
 fn plan_part(records: &[u16], s: Counting) -> Counting
     ensures { λ o. ⌜ o ≡ planPartF (now (records .entry)) s ⌝ }
 {
@@ -423,11 +427,12 @@ fn plan_parts(records: &[u16], after: RecordId, n: u16) -> u16
     s.sum
 }
 
+// One child of a Try more: the rows that it adds.
 fn plan_child(records: &[u16], s: Counting) -> Counting
     ensures { λ o. ⌜ o ≡ planChildF (now (records .entry)) s ⌝ }
 {
     let r = tables::row_after(records, s.at);
-    if r.tag == 12 {
+    if r.tag == tag::CATCH {
         let added = plan_parts(records, RecordId(tables::plus(s.at.0, 1)), r.n);
         return Counting {
             at: tables::end_after(records, s.at, 1),

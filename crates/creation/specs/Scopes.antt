@@ -7,7 +7,7 @@ use lib.Dec.{eqb}
 use Rattle.meaning.specs.Tree.{if_then_else_}
 use Rattle.meaning.specs.Grammar.{scopeOf}
 use Rattle.tables.specs.Loops.{until}
-use Rattle.tables.specs.Table.{capped, rowF, headF}
+use Rattle.tables.specs.Table.{largest, capped, rowF, headF}
 use Rattle.scoping.specs.Changes.{ScopeRows, inScopes, createChildScopeF, changeScopeParentF}
 use Rattle.scoping.specs.declared.Ctx.{Ctx}
 use Rattle.creation.specs.declared.Passing.{Passing}
@@ -42,7 +42,7 @@ abbrev pub passed : PassingF → Bool
 passed s = eqb (s .pending) 0 && eqb (s .skip) 0
 
 unfoldable pub moveScopesF : List ℕ → ScopeRows → ℕ → ℕ → ℕ → List ℕ
-moveScopesF records q after n parent = until 65535 passed (moveScopeF records (q .ctx) parent) (passingF (q .t) after n 0) .t
+moveScopesF records q after n parent = until largest passed (moveScopeF records (q .ctx) parent) (passingF (q .t) after n 0) .t
 
 unfoldable pub insertScopeBelowF : List ℕ → ScopeRows → ℕ → ℕ → ℕ → ScopeRows
 insertScopeBelowF records q scope after n =

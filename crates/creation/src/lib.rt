@@ -2,6 +2,9 @@
 use meaning::RecordId;
 use meaning::ScopeId;
 use meaning::SymbolId;
+use meaning::known_name;
+use meaning::scope_flag;
+use meaning::symbol_flag;
 use scoping::Ctx;
 use statements::Parts;
 ghost use mathlib.Core.Path.{_≡_};
@@ -19,6 +22,7 @@ pub struct Transformed {
 }
 
 impl Transformed {
+    // With other counters.
     pub fn with_ctx(mut self, ctx: Ctx) -> Self
         ensures { λ r. ⌜ r ≡ withCtxF self ctx ⌝ }
     {
@@ -72,6 +76,7 @@ fn move_scope(records: &[u16], scopes: &mut [u16], ctx: Ctx, s: Passing, parent:
     }
 }
 
+// No record is left to look at.
 fn is_passed(s: Passing) -> bool
     ensures { λ r. ⌜ r ≡ isPassedF s ⌝ }
 {
@@ -98,7 +103,7 @@ fn move_scopes(
         skip: 0,
     };
     let mut k: u16 = 0;
-    while k < 65535 {
+    while k < tables::LARGEST {
         if is_passed(s) {
             break;
         }
@@ -125,11 +130,11 @@ pub fn insert_scope_below(
 
 // ---- the context
 
-// Its symbol, on `usingCtx`.
+// A context's symbol, on `usingCtx`.
 pub fn make_context(symbols: &mut [u16], ctx: Ctx, scope: ScopeId) -> Ctx
     ensures { λ r. ⌜ inSymbols (now (symbols .exit)) r ≡ makeContextF (inSymbols (now (symbols .entry)) ctx) (scope .0) ⌝ }
 {
-    let made = scoping::create_symbol(symbols, ctx, 5, 1, scope, 1);
+    let made = scoping::create_symbol(symbols, ctx, known_name::USING_CTX, symbol_flag::FUNCTION_SCOPED, scope, 1);
     made.new_context()
 }
 
@@ -170,13 +175,16 @@ pub fn transform_statements(
 
 // ---- the Try
 
+// The flags of `_` in a Catch.
+const ERROR_FLAGS: u16 = symbol_flag::FUNCTION_SCOPED + symbol_flag::CATCH;
+
 // `create_catch_clause`: the Catch's scope, that of its body, and `_`.
 fn create_catch_clause(scopes: &mut [u16], symbols: &mut [u16], ctx: Ctx, parent: ScopeId) -> Ctx
     ensures { λ r. ⌜ inRows (now (scopes .exit)) (now (symbols .exit)) r ≡ createCatchClauseF (inRows (now (scopes .entry)) (now (symbols .entry)) ctx) (parent .0) ⌝ }
 {
-    let caught = scoping::create_child_scope(scopes, ctx, parent, 2);
+    let caught = scoping::create_child_scope(scopes, ctx, parent, scope_flag::CATCH);
     let body = scoping::create_child_scope(scopes, caught, ScopeId(caught.scopes), 0);
-    scoping::create_symbol(symbols, body, 2, 17, ScopeId(body.scopes), 0)
+    scoping::create_symbol(symbols, body, known_name::UNDERSCORE, ERROR_FLAGS, ScopeId(body.scopes), 0)
 }
 
 // `create_try_stmt`: the Catch and the last Block below the scope `parent`.
@@ -256,10 +264,10 @@ pub fn for_static_block(
     ensures { λ r. ⌜ creating (now (scopes .exit)) (now (symbols .exit)) r ≡ forStaticBlockF (inRows (now (scopes .entry)) (now (symbols .entry)) ctx) (old .0) awaits ⌝ }
 {
     let t = transform_statements(scopes, symbols, ctx, old, old);
-    let x = scoping::insert_scope_between(scopes, t.ctx, old, 4);
+    let x = scoping::insert_scope_between(scopes, t.ctx, old, scope_flag::STATIC_BLOCK);
     let scope = ScopeId(x.scopes);
     scoping::move_binding(symbols, x, t.context, scope);
-    scoping::set_scope_flags(scopes, x, old, 1);
+    scoping::set_scope_flags(scopes, x, old, scope_flag::STRICT);
     create_try_stmt(scopes, symbols, t.with_ctx(x), scope, awaits)
 }
 

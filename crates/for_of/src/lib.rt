@@ -4,10 +4,15 @@
 use meaning::RecordId;
 use meaning::ScopeId;
 use meaning::SymbolId;
+use meaning::kind;
+use meaning::symbol_flag;
+use meaning::tag;
 use path::Walk;
 use scoping::Ctx;
 use tables::Cursor;
 use tables::Row;
+use tables::record;
+use tables::symbol;
 ghost use mathlib.Core.Path.{_≡_};
 ghost use Rattle.path.specs.Path.{tables};
 ghost use Rattle.scoping.specs.Changes.{inSymbols};
@@ -20,7 +25,7 @@ ghost use Rattle.for_of.specs.ForOf.{isIdentifierF, takesUsingF, usingSy
 fn is_identifier(r: Row) -> bool
     ensures { λ o. ⌜ o ≡ isIdentifierF r ⌝ }
 {
-    if r.tag != 6 {
+    if r.tag != tag::DECLARATOR {
         return false;
     }
     r.a == 0
@@ -31,7 +36,7 @@ pub fn takes_using(records: &[u16], after: RecordId) -> bool
     ensures { λ o. ⌜ o ≡ takesUsingF (now (records .entry)) (after .0) ⌝ }
 {
     let n = after.0;
-    if tables::column(records, after, 4) < 3 {
+    if tables::column(records, after, record::N) < 3 {
         return false;
     }
     let r = tables::row_after(records, RecordId(tables::plus(n, 1)));
@@ -44,14 +49,14 @@ pub fn takes_using(records: &[u16], after: RecordId) -> bool
     false
 }
 
-// Its symbol.
+// The symbol of the ForOf's using.
 fn using_symbol(records: &[u16], after: RecordId) -> SymbolId
     ensures { λ o. ⌜ o .0 ≡ usingSymbolF (now (records .entry)) (after .0) ⌝ }
 {
-    SymbolId(tables::column(records, RecordId(tables::plus(after.0, 3)), 1))
+    SymbolId(tables::column(records, RecordId(tables::plus(after.0, 3)), record::A))
 }
 
-// The row before the body.
+// The row before the ForOf's body.
 fn body_after(records: &[u16], after: RecordId) -> RecordId
     ensures { λ o. ⌜ o .0 ≡ bodyAfterF (now (records .entry)) (after .0) ⌝ }
 {
@@ -63,7 +68,7 @@ pub fn inserts(records: &[u16], symbols: &[u16], ctx: Ctx, after: RecordId) -> b
     ensures { λ o. ⌜ o ≡ insertsF (now (records .entry)) (inSymbols (now (symbols .entry)) ctx) (after .0) ⌝ }
 {
     let r = tables::row_after(records, body_after(records, after));
-    if r.tag != 2 {
+    if r.tag != tag::BLOCK {
         return false;
     }
     let y = using_symbol(records, after);
@@ -75,12 +80,19 @@ pub fn inserts(records: &[u16], symbols: &[u16], ctx: Ctx, after: RecordId) -> b
 
 // ---- rows
 
+// The flags of the new symbol.
+const TEMP_FLAGS: u16 = symbol_flag::BLOCK_SCOPED + symbol_flag::CONST;
+
+// The rows of a using in the body: Declaration, Declarator, Name and Read; and with a Block around the body.
+const USING_ROWS: u16 = 4;
+const WRAPPED_USING_ROWS: u16 = 5;
+
 // A new symbol for the using's name in the ForOf's scope.
 fn make_temp(symbols: &mut [u16], ctx: Ctx, y: SymbolId, scope: ScopeId) -> Ctx
     ensures { λ r. ⌜ inSymbols (now (symbols .exit)) r ≡ makeTempF (inSymbols (now (symbols .entry)) ctx) (y .0) (scope .0) ⌝ }
 {
-    let name = scoping::symbol_number(symbols, ctx.symbols, y, 0);
-    scoping::create_symbol(symbols, ctx, name, 6, scope, 1)
+    let name = scoping::symbol_number(symbols, ctx.symbols, y, symbol::NAME);
+    scoping::create_symbol(symbols, ctx, name, TEMP_FLAGS, scope, 1)
 }
 
 // The ForOf up to its body, its using bound to the new symbol and const.
@@ -88,12 +100,12 @@ fn write_left(records: &mut [u16], q: Cursor, temp: SymbolId) -> Cursor
     ensures { λ o. ⌜ buf (now (records .exit)) o ≡ leftRowsF (temp .0) (buf (now (records .entry)) q) ⌝ }
 {
     let q1 = tables::pass(records, q);
-    let declarators = tables::column(records, q1.read, 4);
-    let q2 = tables::pass_as(records, q1, tables::made(5, 2, 0, 0, declarators));
-    let m = tables::column(records, q2.read, 4);
+    let declarators = tables::column(records, q1.read, record::N);
+    let q2 = tables::pass_as(records, q1, tables::made(tag::DECLARATION, kind::CONST, 0, 0, declarators));
+    let m = tables::column(records, q2.read, record::N);
     let q3 = tables::pass(records, q2);
-    let below = tables::column(records, q3.read, 4);
-    let q4 = tables::pass_as(records, q3, tables::made(26, temp.0, 0, 0, below));
+    let below = tables::column(records, q3.read, record::N);
+    let q4 = tables::pass_as(records, q3, tables::made(tag::NAME, temp.0, 0, 0, below));
     let rest = tables::plus(tables::plus(below, tables::minus(m, 1)), declarators);
     tables::copy(records, q4, rest)
 }
@@ -103,7 +115,7 @@ fn write_using(records: &mut [u16], q: Cursor, kind: u16, y: SymbolId, temp: Sym
     ensures { λ o. ⌜ buf (now (records .exit)) o ≡ usingRowsF kind (y .0) (temp .0) (buf (now (records .entry)) q) ⌝ }
 {
     let q1 = statements::declare(records, q, kind, y);
-    tables::emit(records, q1, tables::made(25, temp.0, 0, 0, 0))
+    tables::emit(records, q1, tables::made(tag::READ, temp.0, 0, 0, 0))
 }
 
 // The using at index 0 of the body.
@@ -132,7 +144,7 @@ fn write_wrap(
     ensures { λ o. ⌜ buf (now (records .exit)) o ≡ wrapRowsF kind (y .0) (temp .0) (scope .0) (buf (now (records .entry)) q) ⌝ }
 {
     let q1 = write_left(records, q, temp);
-    let q2 = tables::emit(records, q1, tables::made(2, scope.0, 0, 0, 2));
+    let q2 = tables::emit(records, q1, tables::made(tag::BLOCK, scope.0, 0, 0, 2));
     write_using(records, q2, kind, y, temp)
 }
 
@@ -144,11 +156,11 @@ pub fn insert_using(records: &mut [u16], scopes: &[u16], symbols: &mut [u16], w:
 {
     let read = w.gap;
     let y = using_symbol(records, read);
-    let kind = tables::column(records, RecordId(tables::plus(read.0, 1)), 1);
-    let x = make_temp(symbols, w.ctx, y, ScopeId(tables::column(records, read, 1)));
+    let kind = tables::column(records, RecordId(tables::plus(read.0, 1)), record::A);
+    let x = make_temp(symbols, w.ctx, y, ScopeId(tables::column(records, read, record::A)));
     let body = body_after(records, read);
-    scoping::move_binding(symbols, x, y, ScopeId(tables::column(records, body, 1)));
-    let v = w.charge(4);
+    scoping::move_binding(symbols, x, y, ScopeId(tables::column(records, body, record::A)));
+    let v = w.charge(USING_ROWS);
     let written = v.gap;
     write_insert(
         records,
@@ -166,8 +178,8 @@ pub fn wrap_body(records: &mut [u16], scopes: &mut [u16], symbols: &mut [u16], w
 {
     let read = w.gap;
     let y = using_symbol(records, read);
-    let kind = tables::column(records, RecordId(tables::plus(read.0, 1)), 1);
-    let scope = ScopeId(tables::column(records, read, 1));
+    let kind = tables::column(records, RecordId(tables::plus(read.0, 1)), record::A);
+    let scope = ScopeId(tables::column(records, read, record::A));
     let x = make_temp(symbols, w.ctx, y, scope);
     let temp = SymbolId(x.symbols);
     let made = creation::insert_scope_below(
@@ -179,7 +191,7 @@ pub fn wrap_body(records: &mut [u16], scopes: &mut [u16], symbols: &mut [u16], w
         1,
     );
     scoping::move_binding(symbols, made, y, ScopeId(made.scopes));
-    let v = w.charge(5);
+    let v = w.charge(WRAPPED_USING_ROWS);
     let written = v.gap;
     write_wrap(
         records,

@@ -4,13 +4,15 @@ use mathlib.Core.List.{List}
 use mathlib.Core.Bool.{Bool, false, not}
 use Prim.Native.Nat.{ℕ, _+_, _-_}
 use lib.Dec.{eqb}
+use Rattle.meaning.specs.Numbers.Tag
 use Rattle.meaning.specs.Tree.{if_then_else_}
+use Rattle.tables.specs.Columns.RecordTable
 use Rattle.tables.specs.Loops.{turns, until}
-use Rattle.tables.specs.Table.{capped, columnF, rowF}
+use Rattle.tables.specs.Table.{largest, capped, columnF, rowF}
 use Rattle.tables.specs.Stream.{Buf, passF}
 use Rattle.statements.specs.TakeUp.{takeUpF}
 use Rattle.statements.specs.Plan.{noPlan, planF}
-use Rattle.statements.specs.Try.{declareContextF, handlersF, openTryF}
+use Rattle.statements.specs.Try.{wrappedContextRows, declareContextF, handlersF, openTryF}
 use Rattle.statements.specs.declared.Parts.{Parts}
 use Rattle.statements.specs.declared.Plan.{Plan}
 use Rattle.creation.specs.Creation.{inRows}
@@ -20,21 +22,21 @@ use Rattle.contexts.specs.Lists.{listScope, currentIn, hoistIn}
 
 -- the row after another is no Label
 unfoldable pub isLoopF : List ℕ → ℕ → Bool
-isLoopF t after = not (eqb (columnF t after 0) 4)
+isLoopF t after = not (eqb (columnF t after RecordTable.Tag) Tag.Label)
 
 abbrev pub nextRow : ℕ → ℕ
 nextRow at = at + 1
 
 -- the last of the Labels after a row
 unfoldable pub labelsEndF : List ℕ → ℕ → ℕ
-labelsEndF t after = until (65535 - after) (isLoopF t) nextRow after
+labelsEndF t after = until (largest - after) (isLoopF t) nextRow after
 
 -- what the For below the Labels has to take up
 unfoldable pub planForF : List ℕ → ℕ → Plan
 planForF t after =
     let at = labelsEndF t after in
     let r = rowF t at in
-    if eqb (r .tag) 7 then planF t (noPlan (capped at 1)) (r .n) else noPlan at
+    if eqb (r .tag) Tag.For then planF t (noPlan (capped at 1)) (r .n) else noPlan at
 
 unfoldable pub passRowsF : ℕ → Buf → Buf
 passRowsF n b = turns n passF b
@@ -45,7 +47,7 @@ forRowsF p b =
     let b₁ = openTryF (listScope p) 2 b in
     let b₂ = declareContextF p b₁ in
     let b₃ = passRowsF labels b₂ in
-    let n = columnF (b₃ .t) (b₃ .read) 4 in
+    let n = columnF (b₃ .t) (b₃ .read) RecordTable.N in
     let b₄ = passF b₃ in
     let b₅ = takeUpF n false (p .context .0) false b₄ in
     handlersF p b₅
@@ -56,6 +58,6 @@ transformForStatementF plan q =
     let c =
     forLoopF (q .records) (inRows (q .scopes) (q .symbols) (w .ctx)) (currentIn q) (hoistIn q) (w .gap .0) (plan .awaits)
     in
-    let v = chargedF w (capped (plan .wraps) 12) in
+    let v = chargedF w (capped (plan .wraps) wrappedContextRows) in
     let b = forRowsF (c .created .parts) (record { t = q .records; read = w .gap .0; written = v .gap .0 }) in
     tables (b .t) (c .scopes) (c .symbols) (withCtxF v (c .created .ctx))

@@ -4,13 +4,15 @@ use mathlib.Core.List.{List}
 use mathlib.Core.Bool.{Bool, true, false, not, _||_}
 use Prim.Native.Nat.{ℕ}
 use lib.Dec.{eqb}
+use Rattle.meaning.specs.Numbers.Tag
 use Rattle.meaning.specs.Tree.{if_then_else_}
+use Rattle.tables.specs.Columns.RecordTable
 use Rattle.tables.specs.Loops.{turns}
 use Rattle.tables.specs.Table.{capped, columnF, rowF, endF}
 use Rattle.tables.specs.Stream.{Buf, buf, passF, copyF}
 use Rattle.statements.specs.TakeUp.{takeUpF}
 use Rattle.statements.specs.Plan.{plan, noPlan, planF}
-use Rattle.statements.specs.Try.{declareContextF, handlersF, openTryF}
+use Rattle.statements.specs.Try.{wrappedContextRows, declareContextF, handlersF, openTryF}
 use Rattle.statements.specs.declared.Parts.{Parts}
 use Rattle.statements.specs.declared.Plan.{Plan}
 use Rattle.creation.specs.Creation.{inRows}
@@ -38,7 +40,7 @@ takeUpCaseF context s =
     let r = rowF (s .buf .t) (s .buf .read) in
     let p = planF (s .buf .t) (noPlan (capped (s .buf .read) 1)) (r .n) in
     let b = takeUpF (r .n) true context (s .needs) (passF (s .buf)) in
-    if eqb (r .tag) 10 then casingF b (orAwaitsF (s .needs) (p .awaits)) else casingF (copyF (s .buf) 1) (s .needs)
+    if eqb (r .tag) Tag.Case then casingF b (orAwaitsF (s .needs) (p .awaits)) else casingF (copyF (s .buf) 1) (s .needs)
 
 unfoldable pub takeUpCasesF : ℕ → ℕ → Buf → Buf
 takeUpCasesF n context b = turns n (takeUpCaseF context) (casingF b false) .buf
@@ -46,7 +48,7 @@ takeUpCasesF n context b = turns n (takeUpCaseF context) (casingF b false) .buf
 unfoldable pub planCaseF : List ℕ → Plan → Plan
 planCaseF t p =
     let r = rowF t (p .at .0) in
-    if eqb (r .tag) 10 then planF t (plan (capped (p .at .0) 1) (p .usings) (p .awaits) (p .wraps)) (r .n)
+    if eqb (r .tag) Tag.Case then planF t (plan (capped (p .at .0) 1) (p .usings) (p .awaits) (p .wraps)) (r .n)
     else plan (endF t (p .at .0) 1) (p .usings) (p .awaits) (p .wraps)
 
 -- what the Cases among n children have to take up
@@ -55,7 +57,7 @@ planCasesF t after n = turns n (planCaseF t) (noPlan after)
 
 unfoldable pub switchRowsF : Parts → Buf → Buf
 switchRowsF p b =
-    let n = columnF (b .t) (b .read) 4 in
+    let n = columnF (b .t) (b .read) RecordTable.N in
     let b₁ = openTryF (listScope p) 2 b in
     let b₂ = declareContextF p b₁ in
     let b₃ = passF b₂ in
@@ -65,8 +67,8 @@ switchRowsF p b =
 unfoldable pub transformSwitchStatementF : Plan → Tables → Tables
 transformSwitchStatementF plan q =
     let w = q .walk in
-    let old = columnF (q .records) (w .gap .0) 1 in
+    let old = columnF (q .records) (w .gap .0) RecordTable.A in
     let c = forSwitchF (inRows (q .scopes) (q .symbols) (w .ctx)) (currentIn q) old (plan .awaits) in
-    let v = chargedF w (capped (plan .wraps) 12) in
+    let v = chargedF w (capped (plan .wraps) wrappedContextRows) in
     let b = switchRowsF (c .created .parts) (record { t = q .records; read = w .gap .0; written = v .gap .0 }) in
     tables (b .t) (c .scopes) (c .symbols) (withCtxF v (c .created .ctx))

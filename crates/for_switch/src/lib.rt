@@ -1,10 +1,12 @@
 // The For, with its Labels, and the Switch.
 use meaning::RecordId;
 use meaning::ScopeId;
+use meaning::tag;
 use path::Walk;
 use statements::Parts;
 use statements::Plan;
 use tables::Cursor;
+use tables::record;
 ghost use mathlib.Core.Path.{_≡_};
 ghost use mathlib.Core.Bool.{not};
 ghost use lib.Dec.{eqb};
@@ -20,7 +22,7 @@ ghost use Rattle.for_switch.specs.Switch.{casing, orAwaitsF, takeUpCaseF
 fn is_loop(records: &[u16], after: u16) -> bool
     ensures { λ r. ⌜ r ≡ isLoopF (now (records .entry)) after ⌝ }
 {
-    tables::column(records, RecordId(after), 0) != 4
+    tables::column(records, RecordId(after), record::TAG) != tag::LABEL
 }
 
 // The last of the Labels after a row, each the only child of the one before.
@@ -28,7 +30,7 @@ fn labels_end(records: &[u16], after: u16) -> u16
     ensures { λ r. ⌜ r ≡ labelsEndF (now (records .entry)) after ⌝ }
 {
     let mut at = after;
-    while at < 65535 {
+    while at < tables::LARGEST {
         if is_loop(records, at) {
             break;
         }
@@ -43,7 +45,7 @@ pub fn plan_for(records: &[u16], after: RecordId) -> Plan
 {
     let at = labels_end(records, after.0);
     let r = tables::row_after(records, RecordId(at));
-    if r.tag == 7 {
+    if r.tag == tag::FOR {
         statements::plan_list(
             records,
             statements::no_plan(RecordId(tables::plus(at, 1))),
@@ -54,7 +56,7 @@ pub fn plan_for(records: &[u16], after: RecordId) -> Plan
     }
 }
 
-// The next n rows.
+// Copies the next n rows.
 fn pass_rows(records: &mut [u16], start: Cursor, n: u16) -> Cursor
     ensures { λ o. ⌜ buf (now (records .exit)) o ≡ passRowsF n (buf (now (records .entry)) start) ⌝ }
 {
@@ -75,7 +77,7 @@ fn write_for(records: &mut [u16], q: Cursor, p: Parts) -> Cursor
     let q1 = statements::open_try(records, q, contexts::list_scope(p), 2);
     let q2 = statements::declare_context(records, q1, p);
     let q3 = pass_rows(records, q2, labels);
-    let n = tables::column(records, q3.read, 4);
+    let n = tables::column(records, q3.read, record::N);
     let q4 = tables::pass(records, q3);
     let q5 = statements::take_up(records, q4, n, p.context, false, false);
     statements::write_handlers(records, q5, p)
@@ -104,7 +106,7 @@ pub fn transform_for_statement(
         read,
         plan.awaits,
     );
-    let v = w.charge(tables::plus(plan.wraps, 12));
+    let v = w.charge(tables::plus(plan.wraps, statements::WRAPPED_CONTEXT_ROWS));
     let written = v.gap;
     write_for(records, Cursor { read, written }, c.parts);
     v.with_ctx(c.ctx)
@@ -112,7 +114,7 @@ pub fn transform_for_statement(
 
 // ---- switch
 
-// A Switch's children on their way, and needs_await so far.
+// A Switch's children while they are taken up, and needs_await so far.
 pub struct Casing {
     pub at: Cursor,
     pub needs: bool,
@@ -134,7 +136,7 @@ fn take_up_case(records: &mut [u16], s: Casing, p: Parts) -> Casing
 {
     let q = s.at;
     let r = tables::row_after(records, q.read);
-    if r.tag == 10 {
+    if r.tag == tag::CASE {
         let plan = statements::plan_list(
             records,
             statements::no_plan(RecordId(tables::plus(q.read.0, 1))),
@@ -152,6 +154,7 @@ fn take_up_case(records: &mut [u16], s: Casing, p: Parts) -> Casing
     }
 }
 
+// The n children of a Switch: the usings of its Cases are taken up.
 fn take_up_cases(records: &mut [u16], start: Cursor, n: u16, p: Parts) -> Cursor
     ensures { λ o. ⌜ buf (now (records .exit)) o ≡ takeUpCasesF n (p .context .0) (buf (now (records .entry)) start) ⌝ }
 {
@@ -167,12 +170,12 @@ fn take_up_cases(records: &mut [u16], start: Cursor, n: u16, p: Parts) -> Cursor
     s.at
 }
 
-// A child of a Switch counted.
+// One child of a Switch more: the list of a Case is counted.
 fn plan_case(records: &[u16], p: Plan) -> Plan
     ensures { λ o. ⌜ o ≡ planCaseF (now (records .entry)) p ⌝ }
 {
     let r = tables::row_after(records, p.at);
-    if r.tag == 10 {
+    if r.tag == tag::CASE {
         let inside = Plan {
             at: RecordId(tables::plus(p.at.0, 1)),
             usings: p.usings,
@@ -207,7 +210,7 @@ pub fn plan_cases(records: &[u16], after: RecordId, n: u16) -> Plan
 fn write_switch(records: &mut [u16], q: Cursor, p: Parts) -> Cursor
     ensures { λ o. ⌜ buf (now (records .exit)) o ≡ switchRowsF p (buf (now (records .entry)) q) ⌝ }
 {
-    let n = tables::column(records, q.read, 4);
+    let n = tables::column(records, q.read, record::N);
     let q1 = statements::open_try(records, q, contexts::list_scope(p), 2);
     let q2 = statements::declare_context(records, q1, p);
     let q3 = tables::pass(records, q2);
@@ -227,9 +230,9 @@ pub fn transform_switch_statement(
 {
     let cur = path::current_scope(records, w.inner, w.visited.0);
     let read = w.gap;
-    let old = ScopeId(tables::column(records, read, 1));
+    let old = ScopeId(tables::column(records, read, record::A));
     let c = creation::for_switch(scopes, symbols, w.ctx, cur, old, plan.awaits);
-    let v = w.charge(tables::plus(plan.wraps, 12));
+    let v = w.charge(tables::plus(plan.wraps, statements::WRAPPED_CONTEXT_ROWS));
     let written = v.gap;
     write_switch(records, Cursor { read, written }, c.parts);
     v.with_ctx(c.ctx)

@@ -3,12 +3,20 @@
 use mathlib.Core.List.{List}
 use Prim.Native.Nat.{ℕ}
 use lib.Dec.{eqb}
+use Rattle.meaning.specs.Numbers.Tag
+use Rattle.meaning.specs.Numbers.Kind
+use Rattle.meaning.specs.Numbers.Form
+use Rattle.meaning.specs.Numbers.LineForm
+use Rattle.meaning.specs.Numbers.SymbolFlag
+use Rattle.meaning.specs.Numbers.KnownName
 use Rattle.meaning.specs.Tree.{if_then_else_}
 use Rattle.meaning.specs.Statements.{isUsing}
+use Rattle.tables.specs.Columns.RecordTable
+use Rattle.tables.specs.Columns.SymbolTable
 use Rattle.tables.specs.Table.{capped, columnF, rowF, setRowF, madeF, headF}
 use Rattle.tables.specs.Stream.{Buf, buf, emitF, passAsF, copyF}
 use Rattle.tables.specs.declared.Row.{Row}
-use Rattle.scoping.specs.Rows.{symbolNumber}
+use Rattle.scoping.specs.Rows.{rootScope, symbolNumber}
 use Rattle.scoping.specs.Changes.{SymbolRows, inSymbols, createSymbolF, setSymbolFlagsF}
 use Rattle.scoping.specs.declared.Ctx.{Ctx}
 use Rattle.statements.specs.Try.{declareF}
@@ -35,17 +43,17 @@ dropF b = record { t = setRowF (b .t) (b .read) (madeF 0 0 0 0 0); read = capped
 
 -- `export { y as name }`
 unfoldable pub exportRowsF : ℕ → ℕ → Buf → Buf
-exportRowsF y name b = emitF (emitF b (madeF 17 2 0 0 1)) (madeF 20 y name 0 0)
+exportRowsF y name b = emitF (emitF b (madeF Tag.ModuleLine LineForm.ExportNamed 0 0 1)) (madeF Tag.Specifier y name 0 0)
 
 -- `var y = ` and the next record, with another row
 unfoldable pub valueRowsF : ℕ → Row → Buf → Buf
-valueRowsF y row b = copyF (passAsF (declareF 0 y b) row) (row .n)
+valueRowsF y row b = copyF (passAsF (declareF Kind.Var y b) row) (row .n)
 
 unfoldable pub preserveNameF : SymbolRows → Row → SymbolRows
 preserveNameF q r =
     let n = q .ctx .symbols in
-    let q₁ = createSymbolF q (symbolNumber (q .t) n (r .c) 0) 8 (r .b) (symbolNumber (q .t) n (r .c) 3) in
-    inSymbols (setSymbolFlagsF q₁ (r .c) 1) (q₁ .ctx)
+    let q₁ = createSymbolF q (symbolNumber (q .t) n (r .c) SymbolTable.Name) SymbolFlag.Class (r .b) (symbolNumber (q .t) n (r .c) SymbolTable.Made) in
+    inSymbols (setSymbolFlagsF q₁ (r .c) SymbolFlag.FunctionScoped) (q₁ .ctx)
 
 -- ---- items
 
@@ -68,11 +76,11 @@ unfoldable pub classF : PassingF → PassingF
 classF s =
     let r = rowF (s .buf .t) (s .buf .read) in
     let y = preserveNameF (inSymbols (s .symbols) (s .ctx)) r in
-    passingF (valueRowsF (r .c) (madeF 15 1 (r .b) (y .ctx .symbols) (r .n)) (s .buf)) (y .t) (y .ctx)
+    passingF (valueRowsF (r .c) (madeF Tag.Class Form.Expression (r .b) (y .ctx .symbols) (r .n)) (s .buf)) (y .t) (y .ctx)
 
 -- a Declaration becomes var; a using is recorded
 unfoldable pub recordedF : Row → Row
-recordedF r = if isUsing (headF r) then madeF 5 0 (r .a) 0 (r .n) else madeF 5 0 0 0 (r .n)
+recordedF r = if isUsing (headF r) then madeF Tag.Declaration Kind.Var (r .a) 0 (r .n) else madeF Tag.Declaration Kind.Var 0 0 (r .n)
 
 unfoldable pub declaredF : PassingF → PassingF
 declaredF s =
@@ -83,35 +91,35 @@ declaredF s =
 unfoldable pub exportedClassF : PassingF → PassingF
 exportedClassF s =
     let b = dropF (s .buf) in
-    let y = columnF (b .t) (b .read) 3 in
-    let name = symbolNumber (s .symbols) (s .ctx .symbols) y 0 in
+    let y = columnF (b .t) (b .read) RecordTable.C in
+    let name = symbolNumber (s .symbols) (s .ctx .symbols) y SymbolTable.Name in
     classF (passingF (exportRowsF y name b) (s .symbols) (s .ctx))
 
 unfoldable pub exportedDeclarationF : PassingF → PassingF
 exportedDeclarationF s =
     let b = dropF (s .buf) in
-    let n = columnF (b .t) (b .read) 4 in
+    let n = columnF (b .t) (b .read) RecordTable.N in
     let list = capped (b .read) 1 in
     let ys = flagNamesF (b .t) (inSymbols (s .symbols) (s .ctx)) list n in
-    let b₁ = emitF b (madeF 17 2 0 0 (countNamesF (b .t) list n)) in
+    let b₁ = emitF b (madeF Tag.ModuleLine LineForm.ExportNamed 0 0 (countNamesF (b .t) list n)) in
     let b₂ = specifiersF (inSymbols ys (s .ctx)) n b₁ in
-    let b₃ = passAsF b₂ (madeF 5 0 0 0 n) in
+    let b₃ = passAsF b₂ (madeF Tag.Declaration Kind.Var 0 0 n) in
     passingF (copyF b₃ n) ys (s .ctx)
 
 unfoldable pub defaultClassF : PassingF → PassingF
 defaultClassF s =
     let b = dropF (s .buf) in
-    classF (passingF (exportRowsF (columnF (b .t) (b .read) 3) 3 b) (s .symbols) (s .ctx))
+    classF (passingF (exportRowsF (columnF (b .t) (b .read) RecordTable.C) KnownName.Default b) (s .symbols) (s .ctx))
 
 unfoldable pub asExpressionF : Row → Row
-asExpressionF r = if eqb (r .tag) 15 then madeF 15 1 (r .b) (r .c) (r .n) else madeF (r .tag) (r .a) (r .b) (r .c) (r .n)
+asExpressionF r = if eqb (r .tag) Tag.Class then madeF Tag.Class Form.Expression (r .b) (r .c) (r .n) else madeF (r .tag) (r .a) (r .b) (r .c) (r .n)
 
 unfoldable pub defaultValueF : PassingF → PassingF
 defaultValueF s =
-    let y = createSymbolF (inSymbols (s .symbols) (s .ctx)) 4 1 1 0 in
+    let y = createSymbolF (inSymbols (s .symbols) (s .ctx)) KnownName.DefaultValue SymbolFlag.FunctionScoped rootScope 0 in
     let b = dropF (s .buf) in
     let r = rowF (b .t) (b .read) in
-    let b₁ = exportRowsF (y .ctx .symbols) 3 b in
+    let b₁ = exportRowsF (y .ctx .symbols) KnownName.Default b in
     passingF (valueRowsF (y .ctx .symbols) (asExpressionF r) b₁) (y .t) (y .ctx)
 
 -- by what it is

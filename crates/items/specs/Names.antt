@@ -4,9 +4,13 @@ use mathlib.Core.List.{List}
 use mathlib.Core.Bool.{Bool, not, _&&_}
 use Prim.Native.Nat.{ℕ, _-_}
 use lib.Dec.{eqb}
+use Rattle.meaning.specs.Numbers.Tag
+use Rattle.meaning.specs.Numbers.SymbolFlag
 use Rattle.meaning.specs.Tree.{if_then_else_}
+use Rattle.tables.specs.Columns.RecordTable
+use Rattle.tables.specs.Columns.SymbolTable
 use Rattle.tables.specs.Loops.{until}
-use Rattle.tables.specs.Table.{capped, columnF, rowF, madeF}
+use Rattle.tables.specs.Table.{largest, capped, columnF, rowF, madeF}
 use Rattle.tables.specs.Stream.{Buf, buf, emitF}
 use Rattle.scoping.specs.Rows.{symbolNumber}
 use Rattle.scoping.specs.Changes.{SymbolRows, inSymbols, setSymbolFlagsF}
@@ -25,7 +29,7 @@ firstNames after n = names after n 0 0
 
 -- the next row is such a name
 unfoldable pub isNameF : List ℕ → Names → Bool
-isNameF t s = eqb (s .below) 0 && (not (eqb (s .children) 0) && eqb (columnF t (s .at) 0) 26)
+isNameF t s = eqb (s .below) 0 && (not (eqb (s .children) 0) && eqb (columnF t (s .at) RecordTable.Tag) Tag.Name)
 
 -- the next row is passed
 unfoldable pub nextNameF : List ℕ → Names → Names
@@ -34,7 +38,7 @@ nextNameF t s =
     let next = capped (s .at) 1 in
     if eqb (s .below) 0 then (
     if eqb (s .children) 0 then (
-    if eqb (r .tag) 6 then names next (s .declarators - 1) (r .n) 0 else names next (s .declarators - 1) 0 (r .n))
+    if eqb (r .tag) Tag.Declarator then names next (s .declarators - 1) (r .n) 0 else names next (s .declarators - 1) 0 (r .n))
     else names next (s .declarators) (s .children - 1) (r .n))
     else names next (s .declarators) (s .children) (capped (s .below - 1) (r .n))
 
@@ -53,7 +57,7 @@ abbrev pub allCounted : Counted → Bool
 allCounted s = namesDoneF (s .names)
 
 unfoldable pub countNamesF : List ℕ → ℕ → ℕ → ℕ
-countNamesF t after n = until 65535 allCounted (countNameF t) (counted (firstNames after n) 0) .sum
+countNamesF t after n = until largest allCounted (countNameF t) (counted (firstNames after n) 0) .sum
 
 -- ---- their flags
 
@@ -67,7 +71,7 @@ flagging t s = record { t = t; names = s }
 unfoldable pub flagNameF : List ℕ → Ctx → Flagging → Flagging
 flagNameF records x s =
     flagging
-    (if isNameF records (s .names) then setSymbolFlagsF (inSymbols (s .t) x) (columnF records (s .names .at) 1) 1 else s .t)
+    (if isNameF records (s .names) then setSymbolFlagsF (inSymbols (s .t) x) (columnF records (s .names .at) RecordTable.A) SymbolFlag.FunctionScoped else s .t)
     (nextNameF records (s .names))
 
 abbrev pub allFlagged : Flagging → Bool
@@ -75,7 +79,7 @@ allFlagged s = namesDoneF (s .names)
 
 unfoldable pub flagNamesF : List ℕ → SymbolRows → ℕ → ℕ → List ℕ
 flagNamesF records q after n =
-    until 65535 allFlagged (flagNameF records (q .ctx)) (flagging (q .t) (firstNames after n)) .t
+    until largest allFlagged (flagNameF records (q .ctx)) (flagging (q .t) (firstNames after n)) .t
 
 -- ---- their Specifiers
 
@@ -91,8 +95,8 @@ specifying t s = specifyingF (buf t (s .at)) (s .names)
 
 unfoldable pub specifierF : SymbolRows → SpecifyingF → SpecifyingF
 specifierF q s =
-    let y = columnF (s .buf .t) (s .names .at) 1 in
-    let r = madeF 20 y (symbolNumber (q .t) (q .ctx .symbols) y 0) 0 0 in
+    let y = columnF (s .buf .t) (s .names .at) RecordTable.A in
+    let r = madeF Tag.Specifier y (symbolNumber (q .t) (q .ctx .symbols) y SymbolTable.Name) 0 0 in
     let next = nextNameF (s .buf .t) (s .names) in
     if isNameF (s .buf .t) (s .names) then specifyingF (emitF (s .buf) r) next else specifyingF (s .buf) next
 
@@ -100,7 +104,7 @@ abbrev pub allSpecified : SpecifyingF → Bool
 allSpecified s = namesDoneF (s .names)
 
 unfoldable pub specifyAllF : SymbolRows → SpecifyingF → SpecifyingF
-specifyAllF q s = until 65535 allSpecified (specifierF q) s
+specifyAllF q s = until largest allSpecified (specifierF q) s
 
 unfoldable pub specifiersF : SymbolRows → ℕ → Buf → Buf
 specifiersF q n b = specifyAllF q (specifyingF b (firstNames (capped (b .read) 1) n)) .buf

@@ -2,9 +2,17 @@
 use meaning::RecordId;
 use meaning::ScopeId;
 use meaning::SymbolId;
+use meaning::form;
+use meaning::kind;
+use meaning::known_name;
+use meaning::line_form;
+use meaning::symbol_flag;
+use meaning::tag;
 use scoping::Ctx;
 use tables::Cursor;
 use tables::Row;
+use tables::record;
+use tables::symbol;
 ghost use mathlib.Core.Path.{_≡_};
 ghost use Rattle.meaning.specs.Tree.{if_then_else_};
 ghost use Rattle.scoping.specs.Changes.{inSymbols};
@@ -27,7 +35,7 @@ pub enum Item {
 
 // ---- what an item is
 
-// 18, with n children: a form 0 Function stays; a form 0 Class with a symbol keeps its name.
+// A default export with n children, by the first: a Function declaration stays; a Class declaration with a symbol keeps its name.
 fn default_item(r: Row, n: u16) -> Item
     ensures { λ o. ⌜ o ≡ defaultItemF r n ⌝ }
 {
@@ -35,17 +43,17 @@ fn default_item(r: Row, n: u16) -> Item
         return Item::Kept;
     }
     let tag = r.tag;
-    if r.a != 0 {
+    if r.a != form::DECLARATION {
         return Item::DefaultValue;
     }
     match tag {
-        13 => Item::Kept,
-        15 => default_class(r.c),
+        tag::FUNCTION => Item::Kept,
+        tag::CLASS => default_class(r.c),
         _ => Item::DefaultValue,
     }
 }
 
-// A form 0 Class that is exported by default, by its symbol.
+// A Class declaration that is exported by default, by its symbol.
 fn default_class(symbol: u16) -> Item
     ensures { λ o. ⌜ o ≡ defaultClassItemF symbol ⌝ }
 {
@@ -55,7 +63,7 @@ fn default_class(symbol: u16) -> Item
     Item::DefaultClass
 }
 
-// 19, with n children: a Function stays.
+// An exported declaration with n children, by the tag of the first: a Function stays.
 fn exported_item(tag: u16, n: u16) -> Item
     ensures { λ o. ⌜ o ≡ exportedItemF tag n ⌝ }
 {
@@ -63,8 +71,8 @@ fn exported_item(tag: u16, n: u16) -> Item
         return Item::Kept;
     }
     match tag {
-        5 => Item::ExportedDeclaration,
-        15 => Item::ExportedClass,
+        tag::DECLARATION => Item::ExportedDeclaration,
+        tag::CLASS => Item::ExportedClass,
         _ => Item::Kept,
     }
 }
@@ -77,12 +85,12 @@ pub fn item_after(records: &[u16], after: RecordId) -> Item
     let child = tables::row_after(records, RecordId(tables::plus(after.0, 1)));
     let tag = r.tag;
     match tag {
-        5 => Item::Declared,
-        13 => Item::Kept,
-        15 => Item::Class,
-        17 => Item::Kept,
-        18 => default_item(child, r.n),
-        19 => exported_item(child.tag, r.n),
+        tag::DECLARATION => Item::Declared,
+        tag::FUNCTION => Item::Kept,
+        tag::CLASS => Item::Class,
+        tag::MODULE_LINE => Item::Kept,
+        tag::DEFAULT_EXPORT => default_item(child, r.n),
+        tag::EXPORTED_DECLARATION => exported_item(child.tag, r.n),
         _ => Item::Moved,
     }
 }
@@ -107,7 +115,7 @@ fn is_name(records: &[u16], s: Names) -> bool
     if s.children == 0 {
         return false;
     }
-    tables::column(records, RecordId(s.at), 0) == 26
+    tables::column(records, RecordId(s.at), record::TAG) == tag::NAME
 }
 
 // The next row is passed.
@@ -133,7 +141,7 @@ fn next_name(records: &[u16], s: Names) -> Names
         };
     }
     let declarators = tables::minus(s.declarators, 1);
-    if r.tag == 6 {
+    if r.tag == tag::DECLARATOR {
         return Names {
             at,
             declarators,
@@ -149,6 +157,7 @@ fn next_name(records: &[u16], s: Names) -> Names
     }
 }
 
+// No row of the Declaration is left.
 fn names_done(s: Names) -> bool
     ensures { λ o. ⌜ o ≡ namesDoneF s ⌝ }
 {
@@ -161,18 +170,20 @@ fn names_done(s: Names) -> bool
     s.below == 0
 }
 
+// 1 for true.
 fn number_if(b: bool) -> u16
     ensures { λ o. ⌜ o ≡ (if b then 1 else 0) ⌝ }
 {
     if b { 1 } else { 0 }
 }
 
-// How many names there were.
+// Where the names stand, and how many there were.
 pub struct Counted {
     pub names: Names,
     pub sum: u16,
 }
 
+// The next row is counted if it is such a name.
 fn count_name(records: &[u16], s: Counted) -> Counted
     ensures { λ o. ⌜ o ≡ countNameF (now (records .entry)) s ⌝ }
 {
@@ -183,6 +194,7 @@ fn count_name(records: &[u16], s: Counted) -> Counted
     }
 }
 
+// All names are counted.
 fn all_counted(s: Counted) -> bool
     ensures { λ o. ⌜ o ≡ namesDoneF (s .names) ⌝ }
 {
@@ -203,7 +215,7 @@ pub fn count_names(records: &[u16], after: u16, n: u16) -> u16
         sum: 0,
     };
     let mut k: u16 = 0;
-    while k < 65535 {
+    while k < tables::LARGEST {
         if all_counted(s) {
             break;
         }
@@ -213,21 +225,21 @@ pub fn count_names(records: &[u16], after: u16, n: u16) -> u16
     s.sum
 }
 
-// The next row's symbol gets flags 1 if it is such a name.
+// The next row's symbol becomes function-scoped if the row is such a name.
 fn flag_name(records: &[u16], symbols: &mut [u16], ctx: Ctx, s: Names) -> Names
     ensures { λ o. ⌜ flagging (now (symbols .exit)) o ≡ flagNameF (now (records .entry)) ctx (flagging (now (symbols .entry)) s) ⌝ }
 {
     let next = next_name(records, s);
     if is_name(records, s) {
-        let y = SymbolId(tables::column(records, RecordId(s.at), 1));
-        scoping::set_symbol_flags(symbols, ctx, y, 1);
+        let y = SymbolId(tables::column(records, RecordId(s.at), record::A));
+        scoping::set_symbol_flags(symbols, ctx, y, symbol_flag::FUNCTION_SCOPED);
         next
     } else {
         next
     }
 }
 
-// The flags of the names of n Declarators after a row become 1.
+// The names of n Declarators after a row become function-scoped.
 fn flag_names(records: &[u16], symbols: &mut [u16], ctx: Ctx, after: u16, n: u16)
     ensures { λ _. ⌜ now (symbols .exit) ≡ flagNamesF (now (records .entry)) (inSymbols (now (symbols .entry)) ctx) after n ⌝ }
 {
@@ -238,7 +250,7 @@ fn flag_names(records: &[u16], symbols: &mut [u16], ctx: Ctx, after: u16, n: u16
         below: 0,
     };
     let mut k: u16 = 0;
-    while k < 65535 {
+    while k < tables::LARGEST {
         if names_done(s) {
             break;
         }
@@ -247,7 +259,7 @@ fn flag_names(records: &[u16], symbols: &mut [u16], ctx: Ctx, after: u16, n: u16
     }
 }
 
-// Specifiers on their way, and the names still to come.
+// Rows while Specifiers are written, and the names still to come.
 pub struct Specifying {
     pub at: Cursor,
     pub names: Names,
@@ -261,10 +273,10 @@ fn write_specifier(records: &mut [u16], symbols: &[u16], ctx: Ctx, s: Specifying
     let names = s.names;
     let next = next_name(records, names);
     if is_name(records, names) {
-        let y = tables::column(records, RecordId(names.at), 1);
-        let name = scoping::symbol_number(symbols, ctx.symbols, SymbolId(y), 0);
+        let y = tables::column(records, RecordId(names.at), record::A);
+        let name = scoping::symbol_number(symbols, ctx.symbols, SymbolId(y), symbol::NAME);
         Specifying {
-            at: tables::emit(records, q, tables::made(20, y, name, 0, 0)),
+            at: tables::emit(records, q, tables::made(tag::SPECIFIER, y, name, 0, 0)),
             names: next,
         }
     } else {
@@ -272,19 +284,20 @@ fn write_specifier(records: &mut [u16], symbols: &[u16], ctx: Ctx, s: Specifying
     }
 }
 
+// All names are exported.
 fn all_specified(s: Specifying) -> bool
     ensures { λ o. ⌜ o ≡ namesDoneF (s .names) ⌝ }
 {
     names_done(s.names)
 }
 
-// All that are still to come.
+// Exports all names that are still to come.
 fn write_all(records: &mut [u16], symbols: &[u16], ctx: Ctx, start: Specifying) -> Specifying
     ensures { λ o. ⌜ specifying (now (records .exit)) o ≡ specifyAllF (inSymbols (now (symbols .entry)) ctx) (specifying (now (records .entry)) start) ⌝ }
 {
     let mut s = start;
     let mut k: u16 = 0;
-    while k < 65535 {
+    while k < tables::LARGEST {
         if all_specified(s) {
             break;
         }
@@ -294,7 +307,7 @@ fn write_all(records: &mut [u16], symbols: &[u16], ctx: Ctx, start: Specifying) 
     s
 }
 
-// The names of n Declarators, two rows from the cursor on.
+// Exports the names of n Declarators, two rows from the cursor on.
 fn write_specifiers(records: &mut [u16], symbols: &[u16], ctx: Ctx, at: Cursor, n: u16) -> Cursor
     ensures { λ o. ⌜ buf (now (records .exit)) o ≡ specifiersF (inSymbols (now (symbols .entry)) ctx) n (buf (now (records .entry)) at) ⌝ }
 {
@@ -326,15 +339,15 @@ fn drop_row(records: &mut [u16], q: Cursor) -> Cursor
 fn write_export(records: &mut [u16], q: Cursor, y: u16, name: u16) -> Cursor
     ensures { λ o. ⌜ buf (now (records .exit)) o ≡ exportRowsF y name (buf (now (records .entry)) q) ⌝ }
 {
-    let q1 = tables::emit(records, q, tables::made(17, 2, 0, 0, 1));
-    tables::emit(records, q1, tables::made(20, y, name, 0, 0))
+    let q1 = tables::emit(records, q, tables::made(tag::MODULE_LINE, line_form::EXPORT_NAMED, 0, 0, 1));
+    tables::emit(records, q1, tables::made(tag::SPECIFIER, y, name, 0, 0))
 }
 
 // `var y = ` and the next record, with another row.
 fn write_value(records: &mut [u16], q: Cursor, y: SymbolId, row: Row) -> Cursor
     ensures { λ o. ⌜ buf (now (records .exit)) o ≡ valueRowsF (y .0) row (buf (now (records .entry)) q) ⌝ }
 {
-    let q1 = statements::declare(records, q, 0, y);
+    let q1 = statements::declare(records, q, kind::VAR, y);
     let q2 = tables::pass_as(records, q1, row);
     tables::copy(records, q2, row.n)
 }
@@ -344,16 +357,16 @@ fn preserve_class_expression_name(symbols: &mut [u16], ctx: Ctx, r: Row) -> Ctx
     ensures { λ o. ⌜ inSymbols (now (symbols .exit)) o ≡ preserveNameF (inSymbols (now (symbols .entry)) ctx) r ⌝ }
 {
     let y = SymbolId(r.c);
-    let name = scoping::symbol_number(symbols, ctx.symbols, y, 0);
-    let made = scoping::symbol_number(symbols, ctx.symbols, y, 3);
-    let x = scoping::create_symbol(symbols, ctx, name, 8, ScopeId(r.b), made);
-    scoping::set_symbol_flags(symbols, x, y, 1);
+    let name = scoping::symbol_number(symbols, ctx.symbols, y, symbol::NAME);
+    let made = scoping::symbol_number(symbols, ctx.symbols, y, symbol::MADE);
+    let x = scoping::create_symbol(symbols, ctx, name, symbol_flag::CLASS, ScopeId(r.b), made);
+    scoping::set_symbol_flags(symbols, x, y, symbol_flag::FUNCTION_SCOPED);
     x
 }
 
 // ---- items
 
-// Items on their way, and the counters.
+// Items while they are rewritten, and the counters.
 pub struct Passing {
     pub at: Cursor,
     pub ctx: Ctx,
@@ -370,7 +383,7 @@ fn transform_class_decl(records: &mut [u16], symbols: &mut [u16], s: Passing) ->
         records,
         q,
         SymbolId(r.c),
-        tables::made(15, 1, r.b, ctx.symbols, r.n),
+        tables::made(tag::CLASS, form::EXPRESSION, r.b, ctx.symbols, r.n),
     );
     Passing { at, ctx }
 }
@@ -388,13 +401,14 @@ fn top_level_declaration(records: &mut [u16], symbols: &mut [u16], s: Passing) -
     Passing { at, ctx }
 }
 
+// A Declaration as var; a using keeps its kind as a mark.
 fn recorded(r: Row) -> Row
     ensures { λ o. ⌜ o ≡ recordedF r ⌝ }
 {
     if statements::is_using(r) {
-        tables::made(5, 0, r.a, 0, r.n)
+        tables::made(tag::DECLARATION, kind::VAR, r.a, 0, r.n)
     } else {
-        tables::made(5, 0, 0, 0, r.n)
+        tables::made(tag::DECLARATION, kind::VAR, 0, 0, r.n)
     }
 }
 
@@ -404,8 +418,8 @@ fn exported_class(records: &mut [u16], symbols: &mut [u16], s: Passing) -> Passi
 {
     let ctx = s.ctx;
     let q = drop_row(records, s.at);
-    let y = tables::column(records, q.read, 3);
-    let name = scoping::symbol_number(symbols, ctx.symbols, SymbolId(y), 0);
+    let y = tables::column(records, q.read, record::C);
+    let name = scoping::symbol_number(symbols, ctx.symbols, SymbolId(y), symbol::NAME);
     let at = write_export(records, q, y, name);
     transform_class_decl(records, symbols, Passing { at, ctx })
 }
@@ -416,13 +430,13 @@ fn exported_declaration(records: &mut [u16], symbols: &mut [u16], s: Passing) ->
 {
     let ctx = s.ctx;
     let q = drop_row(records, s.at);
-    let n = tables::column(records, q.read, 4);
+    let n = tables::column(records, q.read, record::N);
     let list = tables::plus(q.read.0, 1);
     flag_names(records, symbols, ctx, list, n);
     let names = count_names(records, list, n);
-    let q1 = tables::emit(records, q, tables::made(17, 2, 0, 0, names));
+    let q1 = tables::emit(records, q, tables::made(tag::MODULE_LINE, line_form::EXPORT_NAMED, 0, 0, names));
     let q2 = write_specifiers(records, symbols, ctx, q1, n);
-    let q3 = tables::pass_as(records, q2, tables::made(5, 0, 0, 0, n));
+    let q3 = tables::pass_as(records, q2, tables::made(tag::DECLARATION, kind::VAR, 0, 0, n));
     let at = tables::copy(records, q3, n);
     Passing { at, ctx }
 }
@@ -433,15 +447,16 @@ fn default_export_class(records: &mut [u16], symbols: &mut [u16], s: Passing) ->
 {
     let ctx = s.ctx;
     let q = drop_row(records, s.at);
-    let at = write_export(records, q, tables::column(records, q.read, 3), 3);
+    let at = write_export(records, q, tables::column(records, q.read, record::C), known_name::DEFAULT);
     transform_class_decl(records, symbols, Passing { at, ctx })
 }
 
+// A Class as an expression; anything else as it is.
 fn as_expression(r: Row) -> Row
     ensures { λ o. ⌜ o ≡ asExpressionF r ⌝ }
 {
-    if r.tag == 15 {
-        tables::made(15, 1, r.b, r.c, r.n)
+    if r.tag == tag::CLASS {
+        tables::made(tag::CLASS, form::EXPRESSION, r.b, r.c, r.n)
     } else {
         tables::made(r.tag, r.a, r.b, r.c, r.n)
     }
@@ -451,10 +466,10 @@ fn as_expression(r: Row) -> Row
 fn default_value(records: &mut [u16], symbols: &mut [u16], s: Passing) -> Passing
     ensures { λ o. ⌜ passing (now (records .exit)) (now (symbols .exit)) o ≡ defaultValueF (passing (now (records .entry)) (now (symbols .entry)) s) ⌝ }
 {
-    let ctx = scoping::create_symbol(symbols, s.ctx, 4, 1, ScopeId(1), 0);
+    let ctx = scoping::create_symbol(symbols, s.ctx, known_name::DEFAULT_VALUE, symbol_flag::FUNCTION_SCOPED, ScopeId(scoping::ROOT), 0);
     let q = drop_row(records, s.at);
     let r = tables::row_after(records, q.read);
-    let q1 = write_export(records, q, ctx.symbols, 3);
+    let q1 = write_export(records, q, ctx.symbols, known_name::DEFAULT);
     let at = write_value(records, q1, SymbolId(ctx.symbols), as_expression(r));
     Passing { at, ctx }
 }

@@ -1,6 +1,7 @@
-// Rows put in the places that they carry, in linear time and with no memory besides. While rows are rearranged, column 5 of each is the
+// Rows put in the places that they carry, in linear time and with no memory besides. While rows are rearranged, the column UP of each is the
 // number of rows that must stand before it; else it is 0, since none of them is open.
 use meaning::RecordId;
+use tables::record;
 ghost use mathlib.Core.Path.{_≡_};
 ghost use Rattle.placing.specs.Placing.{rowsAt, exchangeF, placeOneF, placeF, clearPlacesF, numberRowsF};
 
@@ -18,7 +19,7 @@ fn exchange(records: &mut [u16], i: u16, j: u16)
 fn place_one(records: &mut [u16], i: u16) -> u16
     ensures { λ r. ⌜ rowsAt (now (records .exit)) r ≡ placeOneF (rowsAt (now (records .entry)) i) ⌝ }
 {
-    let p = tables::column(records, RecordId(i), 5);
+    let p = tables::column(records, RecordId(i), record::UP);
     if p == i {
         tables::plus(i, 1)
     } else {
@@ -27,6 +28,9 @@ fn place_one(records: &mut [u16], i: u16) -> u16
     }
 }
 
+// Two turns for each row of the largest table.
+const TURNS: u32 = 131070;
+
 // The rows after `from` up to `to` come to stand in their places. Each turn passes a row or puts one in its place, so that two for each row
 // are enough; the count ends the loop for any numbers.
 pub fn place(records: &mut [u16], from: u16, to: u16)
@@ -34,7 +38,7 @@ pub fn place(records: &mut [u16], from: u16, to: u16)
 {
     let mut at = from;
     let mut k: u32 = 0;
-    while k < 131070 {
+    while k < TURNS {
         if to <= at {
             break;
         }
@@ -51,7 +55,7 @@ pub fn number_rows(records: &mut [u16], from: u16, n: u16, first: u16)
     let mut next = first;
     let mut k: u16 = 0;
     while k < n {
-        tables::put_column(records, RecordId(at), 5, next);
+        tables::put_column(records, RecordId(at), record::UP, next);
         at = tables::plus(at, 1);
         next = tables::plus(next, 1);
         k += 1;
@@ -65,7 +69,7 @@ pub fn clear_places(records: &mut [u16], from: u16, n: u16)
     let mut at = from;
     let mut k: u16 = 0;
     while k < n {
-        tables::put_column(records, RecordId(at), 5, 0);
+        tables::put_column(records, RecordId(at), record::UP, 0);
         at = tables::plus(at, 1);
         k += 1;
     }

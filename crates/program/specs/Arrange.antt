@@ -2,7 +2,9 @@
 -- Assumes nothing.
 use mathlib.Core.List.{List, [], _∷_}
 use Prim.Native.Nat.{ℕ, _-_}
+use Rattle.meaning.specs.Numbers.Tag
 use Rattle.meaning.specs.Tree.{if_then_else_, oneOf}
+use Rattle.tables.specs.Columns.RecordTable
 use Rattle.tables.specs.Loops.{turns}
 use Rattle.tables.specs.Table.{capped, columnF, endF}
 use Rattle.statements.specs.Plan.{counting}
@@ -10,11 +12,15 @@ use Rattle.statements.specs.declared.Counting.{Counting}
 use Rattle.placing.specs.Placing.{placeF, clearPlacesF, numberRowsF}
 use Rattle.program.specs.declared.Numbering.{Numbering}
 
+-- functions, imports and exports
+abbrev pub staying : List ℕ
+staying = Tag.Function ∷ Tag.ModuleLine ∷ Tag.DefaultExport ∷ Tag.ExportedDeclaration ∷ []
+
 -- the rows of an item are counted if it stays
 unfoldable pub keptRowsOneF : List ℕ → Counting → Counting
 keptRowsOneF t s =
     let end = endF t (s .at .0) 1 in
-    if oneOf (13 ∷ 17 ∷ 18 ∷ 19 ∷ []) (columnF t (s .at .0) 0) then counting end (capped (s .sum) (end - s .at .0))
+    if oneOf staying (columnF t (s .at .0) RecordTable.Tag) then counting end (capped (s .sum) (end - s .at .0))
     else counting end (s .sum)
 
 unfoldable pub keptRowsF : List ℕ → ℕ → ℕ → ℕ
@@ -37,7 +43,7 @@ unfoldable pub numberItemF : NumberingF → NumberingF
 numberItemF s =
     let end = endF (s .t) (s .at) 1 in
     let n = end - s .at in
-    if oneOf (13 ∷ 17 ∷ 18 ∷ 19 ∷ []) (columnF (s .t) (s .at) 0) then
+    if oneOf staying (columnF (s .t) (s .at) RecordTable.Tag) then
     numberingF (numberRowsF (s .t) (s .at) n (s .kept)) end (capped (s .kept) n) (s .moved)
     else numberingF (numberRowsF (s .t) (s .at) n (s .moved)) end (s .kept) (capped (s .moved) n)
 

@@ -2,6 +2,7 @@
 -- Assumes nothing.
 use mathlib.Core.List.{List}
 use Prim.Native.Nat.{ℕ}
+use Rattle.tables.specs.Columns.RecordTable
 use Rattle.tables.specs.Loops.{turns}
 use Rattle.tables.specs.Table.{capped, columnF, endF}
 use Rattle.items.specs.Kinds.{itemF}
@@ -21,7 +22,7 @@ use Rattle.program.specs.declared.Plan.{Plan}
 
 -- the names that the child of the item after a row declares
 unfoldable pub childNamesF : List ℕ → ℕ → ℕ
-childNamesF t after = countNamesF t (capped after 2) (columnF t (capped after 1) 4)
+childNamesF t after = countNamesF t (capped after 2) (columnF t (capped after 1) RecordTable.N)
 
 -- those of an exported Declaration
 unfoldable pub exportedNamesF : List ℕ → Item → ℕ → ℕ
@@ -34,15 +35,22 @@ exportedNamesF t DefaultValue after = 0
 exportedNamesF t ExportedClass after = 0
 exportedNamesF t ExportedDeclaration after = childNamesF t after
 
+-- the rows of a var: Declaration, Declarator and Name; where it takes the place of an export's row, a Module line and a Specifier besides
+abbrev pub varRows : ℕ
+varRows = 3
+
+abbrev pub exportedVarRows : ℕ
+exportedVarRows = 4
+
 -- the rows that an item adds
 unfoldable pub addedF : Item → ℕ → ℕ
 addedF Kept names = 0
 addedF Moved names = 0
 addedF Declared names = 0
-addedF Class names = 3
-addedF DefaultClass names = 4
-addedF DefaultValue names = 4
-addedF ExportedClass names = 4
+addedF Class names = varRows
+addedF DefaultClass names = exportedVarRows
+addedF DefaultValue names = exportedVarRows
+addedF ExportedClass names = exportedVarRows
 addedF ExportedDeclaration names = names
 
 -- how many items it leaves where they were, and how many in the Block

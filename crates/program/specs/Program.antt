@@ -2,6 +2,7 @@
 -- Assumes nothing.
 use mathlib.Core.List.{List}
 use Prim.Native.Nat.{ℕ}
+use Rattle.meaning.specs.Numbers.Tag
 use Rattle.tables.specs.Loops.{turns}
 use Rattle.tables.specs.Table.{capped, rowF, madeF}
 use Rattle.tables.specs.Stream.{emitF, passAsF}
@@ -32,7 +33,7 @@ unfoldable pub rewriteItemsF : ℕ → Plan → PassingF → Rewriting
 rewriteItemsF n plan start =
     let after = start .buf .written in
     let s = transformItemsF n start in
-    let b = emitF (s .buf) (madeF 2 (capped (s .ctx .scopes) 1) 0 0 (plan .moved)) in
+    let b = emitF (s .buf) (madeF Tag.Block (capped (s .ctx .scopes) 1) 0 0 (plan .moved)) in
     let items = capped (plan .kept) (plan .moved) in
     let rows = keptRowsF (b .t) after items in
     record {
@@ -42,13 +43,17 @@ rewriteItemsF n plan start =
       block = capped (capped after rows) 1;
     }
 
+-- the Block that takes what moves
+abbrev pub blockRows : ℕ
+blockRows = 1
+
 unfoldable pub enterProgramF : Tables → Tables
 enterProgramF q =
     let w = q .walk in
     let read = w .gap .0 in
     let r = rowF (q .records) read in
     let plan = planProgramF (q .records) (capped read 1) (r .n) in
-    let v = chargedF w (capped (plan .added) 1) in
+    let v = chargedF w (capped (plan .added) blockRows) in
     let b =
     passAsF (record { t = q .records; read = read; written = v .gap .0 })
     (madeF (r .tag) (r .a) (r .b) (r .c) (capped (plan .kept) 1))

@@ -3,17 +3,18 @@ use items::Item;
 use items::Passing;
 use meaning::RecordId;
 use meaning::ScopeId;
+use meaning::tag;
 use path::Walk;
 use scoping::Ctx;
 use statements::Counting;
 use tables::Cursor;
+use tables::record;
 ghost use mathlib.Core.Path.{_≡_};
-ghost use mathlib.Core.List.{[], _∷_};
 ghost use Rattle.meaning.specs.Tree.{oneOf};
 ghost use Rattle.items.specs.Items.{passing};
 ghost use Rattle.path.specs.Path.{tables};
 ghost use Rattle.program.specs.Plan.{childNamesF, exportedNamesF, addedF, keptF, movedF, planItemF, planProgramF};
-ghost use Rattle.program.specs.Arrange.{keptRowsOneF, keptRowsF, numbering, numberItemF, numberItemsF, arrangeF};
+ghost use Rattle.program.specs.Arrange.{staying, keptRowsOneF, keptRowsF, numbering, numberItemF, numberItemsF, arrangeF};
 ghost use Rattle.program.specs.Program.{transformItemsF, rewriting, rewriteItemsF, enterProgramF};
 
 // The last row looked at, the rows that the items add, and how many items stay and move.
@@ -30,11 +31,11 @@ pub struct Plan {
 fn child_names(records: &[u16], after: RecordId) -> u16
     ensures { λ o. ⌜ o ≡ childNamesF (now (records .entry)) (after .0) ⌝ }
 {
-    let n = tables::column(records, RecordId(tables::plus(after.0, 1)), 4);
+    let n = tables::column(records, RecordId(tables::plus(after.0, 1)), record::N);
     items::count_names(records, tables::plus(after.0, 2), n)
 }
 
-// Those of an exported Declaration.
+// The names that an item exports, if it is an exported Declaration.
 fn exported_names(records: &[u16], item: Item, after: RecordId) -> u16
     ensures { λ o. ⌜ o ≡ exportedNamesF (now (records .entry)) item (after .0) ⌝ }
 {
@@ -50,6 +51,10 @@ fn exported_names(records: &[u16], item: Item, after: RecordId) -> u16
     }
 }
 
+// The rows of a var: Declaration, Declarator and Name. Where it takes the place of an export's row: a Module line and a Specifier besides.
+const VAR_ROWS: u16 = 3;
+const EXPORTED_VAR_ROWS: u16 = 4;
+
 // The rows that an item adds, with so many names.
 fn added(item: Item, names: u16) -> u16
     ensures { λ o. ⌜ o ≡ addedF item names ⌝ }
@@ -58,15 +63,15 @@ fn added(item: Item, names: u16) -> u16
         Item::Kept => 0,
         Item::Moved => 0,
         Item::Declared => 0,
-        Item::Class => 3,
-        Item::DefaultClass => 4,
-        Item::DefaultValue => 4,
-        Item::ExportedClass => 4,
+        Item::Class => VAR_ROWS,
+        Item::DefaultClass => EXPORTED_VAR_ROWS,
+        Item::DefaultValue => EXPORTED_VAR_ROWS,
+        Item::ExportedClass => EXPORTED_VAR_ROWS,
         Item::ExportedDeclaration => names,
     }
 }
 
-// How many items it leaves where they were, and how many in the Block.
+// How many items it leaves where they were.
 fn kept(item: Item) -> u16
     ensures { λ o. ⌜ o ≡ keptF item ⌝ }
 {
@@ -82,6 +87,7 @@ fn kept(item: Item) -> u16
     }
 }
 
+// How many items it leaves in the Block.
 fn moved(item: Item) -> u16
     ensures { λ o. ⌜ o ≡ movedF item ⌝ }
 {
@@ -97,6 +103,7 @@ fn moved(item: Item) -> u16
     }
 }
 
+// One item more.
 fn plan_item(records: &[u16], p: Plan) -> Plan
     ensures { λ o. ⌜ o ≡ planItemF (now (records .entry)) p ⌝ }
 {
@@ -110,7 +117,7 @@ fn plan_item(records: &[u16], p: Plan) -> Plan
     }
 }
 
-// Of n items after a row.
+// What n items after a row come to.
 fn plan_program(records: &[u16], after: RecordId, n: u16) -> Plan
     ensures { λ o. ⌜ o ≡ planProgramF (now (records .entry)) (after .0) n ⌝ }
 {
@@ -130,14 +137,15 @@ fn plan_program(records: &[u16], after: RecordId, n: u16) -> Plan
 
 // ---- those that stay first
 
+// Functions, imports and exports.
 fn stays(tag: u16) -> bool
-    ensures { λ o. ⌜ o ≡ oneOf (13 ∷ 17 ∷ 18 ∷ 19 ∷ []) tag ⌝ }
+    ensures { λ o. ⌜ o ≡ oneOf staying tag ⌝ }
 {
     match tag {
-        13 => true,
-        17 => true,
-        18 => true,
-        19 => true,
+        tag::FUNCTION => true,
+        tag::MODULE_LINE => true,
+        tag::DEFAULT_EXPORT => true,
+        tag::EXPORTED_DECLARATION => true,
         _ => false,
     }
 }
@@ -148,7 +156,7 @@ fn kept_rows_one(records: &[u16], s: Counting) -> Counting
 {
     let at = s.at.0;
     let end = tables::end_after(records, RecordId(at), 1);
-    if stays(tables::column(records, RecordId(at), 0)) {
+    if stays(tables::column(records, RecordId(at), record::TAG)) {
         return Counting {
             at: end,
             sum: tables::plus(s.sum, tables::minus(end.0, at)),
@@ -160,6 +168,7 @@ fn kept_rows_one(records: &[u16], s: Counting) -> Counting
     }
 }
 
+// The rows of those among n items that stay.
 fn kept_rows(records: &[u16], after: u16, n: u16) -> u16
     ensures { λ o. ⌜ o ≡ keptRowsF (now (records .entry)) after n ⌝ }
 {
@@ -182,13 +191,14 @@ pub struct Numbering {
     pub moved: u16,
 }
 
+// The rows of the next item get their places.
 fn number_item(records: &mut [u16], s: Numbering) -> Numbering
     ensures { λ o. ⌜ numbering (now (records .exit)) o ≡ numberItemF (numbering (now (records .entry)) s) ⌝ }
 {
     let at = s.at;
     let end = tables::end_after(records, RecordId(at), 1);
     let n = tables::minus(end.0, at);
-    if stays(tables::column(records, RecordId(at), 0)) {
+    if stays(tables::column(records, RecordId(at), record::TAG)) {
         placing::number_rows(records, at, n, s.kept);
         Numbering {
             at: end.0,
@@ -205,6 +215,7 @@ fn number_item(records: &mut [u16], s: Numbering) -> Numbering
     }
 }
 
+// The rows of n items get their places.
 fn number_items(records: &mut [u16], start: Numbering, n: u16) -> Numbering
     ensures { λ o. ⌜ numbering (now (records .exit)) o ≡ numberItemsF n (numbering (now (records .entry)) start) ⌝ }
 {
@@ -236,6 +247,7 @@ fn arrange(records: &mut [u16], after: u16, n: u16, rows: u16)
 
 // ---- the Program
 
+// The next n items.
 fn transform_items(records: &mut [u16], symbols: &mut [u16], start: Passing, n: u16) -> Passing
     ensures { λ o. ⌜ passing (now (records .exit)) (now (symbols .exit)) o ≡ transformItemsF n (passing (now (records .entry)) (now (symbols .entry)) start) ⌝ }
 {
@@ -271,7 +283,7 @@ fn rewrite_items(
     tables::emit(
         records,
         s.at,
-        tables::made(2, tables::plus(ctx.scopes, 1), 0, 0, plan.moved),
+        tables::made(tag::BLOCK, tables::plus(ctx.scopes, 1), 0, 0, plan.moved),
     );
     let items = tables::plus(plan.kept, plan.moved);
     let rows = kept_rows(records, after, items);
@@ -282,6 +294,9 @@ fn rewrite_items(
     }
 }
 
+// The Block that takes what moves.
+const BLOCK_ROWS: u16 = 1;
+
 // `enter_program`, for a Program with a direct using.
 pub fn enter_program(records: &mut [u16], scopes: &mut [u16], symbols: &mut [u16], w: Walk) -> Walk
     ensures { λ r. ⌜ tables (now (records .exit)) (now (scopes .exit)) (now (symbols .exit)) r ≡ enterProgramF (tables (now (records .entry)) (now (scopes .entry)) (now (symbols .entry)) w) ⌝ }
@@ -289,7 +304,7 @@ pub fn enter_program(records: &mut [u16], scopes: &mut [u16], symbols: &mut [u16
     let read = w.gap;
     let r = tables::row_after(records, read);
     let plan = plan_program(records, RecordId(tables::plus(read.0, 1)), r.n);
-    let v = w.charge(tables::plus(plan.added, 1));
+    let v = w.charge(tables::plus(plan.added, BLOCK_ROWS));
     let written = v.gap;
     let at = tables::pass_as(
         records,

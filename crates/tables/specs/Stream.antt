@@ -4,8 +4,9 @@ use mathlib.Core.List.{List}
 use mathlib.Core.Bool.{Bool}
 use Prim.Native.Nat.{ℕ, _+_, _-_}
 use lib.Dec.{eqb}
+use Rattle.tables.specs.Columns.RecordTable
 use Rattle.tables.specs.Loops.{turns, until}
-use Rattle.tables.specs.Table.{capped, columnF, rowF, setRowF, moveRowF}
+use Rattle.tables.specs.Table.{largest, capped, columnF, rowF, setRowF, moveRowF}
 use Rattle.tables.specs.declared.Row.{Row}
 use Rattle.tables.specs.declared.Cursor.{Cursor}
 
@@ -45,10 +46,10 @@ abbrev pub copied : Copying → Bool
 copied s = eqb (s .pending) 0
 
 unfoldable pub copyOne : Copying → Copying
-copyOne s = copying (passF (s .buf)) (s .pending - 1 + columnF (s .buf .t) (s .buf .read) 4)
+copyOne s = copying (passF (s .buf)) (s .pending - 1 + columnF (s .buf .t) (s .buf .read) RecordTable.N)
 
 unfoldable pub copyF : Buf → ℕ → Buf
-copyF b c = until (65535 - b .read) copied copyOne (copying b c) .buf
+copyF b c = until (largest - b .read) copied copyOne (copying b c) .buf
 
 -- the last row written goes behind the gap again; the last n of them
 unfoldable pub backF : Buf → Buf
