@@ -4,8 +4,8 @@ use Prim.Native.Nat.{ℕ, _-_}
 use Rattle.meaning.specs.Numbers.Parts as TryParts
 use Rattle.meaning.specs.Numbers.Tag
 use Rattle.tables.specs.Columns.RecordTable
-use Rattle.tables.specs.Table.{capped, columnF, rowF, madeF}
-use Rattle.tables.specs.Stream.{Buf, emitF, passAsF}
+use Rattle.tables.specs.Table.{capped, columnF, rowF, closedRowF}
+use Rattle.tables.specs.Stream.{Buf, emitF, replaceRowF}
 use Rattle.tables.specs.declared.Row.{Row}
 use Rattle.statements.specs.Try.{contextRows, wrappedContextRows, openTryF, transformListF}
 use Rattle.statements.specs.declared.Parts.{Parts}
@@ -29,8 +29,8 @@ hoistIn q = hoistScopeF (q .records) (q .walk .inner .0) (q .walk .visited .0)
 unfoldable pub blockRowsF : Parts → Buf → Buf
 blockRowsF p b =
     let r = rowF (b .t) (b .read) in
-    let b₁ = emitF b (madeF Tag.Try TryParts.Both 0 0 3) in
-    let b₂ = passAsF b₁ (madeF Tag.Block (r .a) 0 0 (capped (r .n) 1)) in
+    let b₁ = emitF b (closedRowF Tag.Try TryParts.Both 0 0 3) in
+    let b₂ = replaceRowF b₁ (closedRowF Tag.Block (r .a) 0 0 (capped (r .n) 1)) in
     transformListF (r .n) p b₂
 
 unfoldable pub transformBlockStatementF : Plan → Tables → Tables
@@ -45,7 +45,7 @@ transformBlockStatementF plan q =
 unfoldable pub wrappedRowsF : Row → ℕ → Parts → Buf → Buf
 wrappedRowsF row scope p b =
     let n = columnF (b .t) (b .read) RecordTable.N in
-    let b₁ = passAsF b row in
+    let b₁ = replaceRowF b row in
     let b₂ = openTryF scope (capped n 1) b₁ in
     transformListF n p b₂
 
@@ -59,7 +59,7 @@ enterFunctionBodyF plan q =
     in
     let v = chargedF w (capped (plan .wraps) wrappedContextRows) in
     let p = c .created .parts in
-    let b = wrappedRowsF (madeF Tag.Body 0 0 0 1) (listScope p) p (record { t = q .records; read = w .gap .0; written = v .gap .0 }) in
+    let b = wrappedRowsF (closedRowF Tag.Body 0 0 0 1) (listScope p) p (record { t = q .records; read = w .gap .0; written = v .gap .0 }) in
     tables (b .t) (c .scopes) (c .symbols) (withCtxF v (c .created .ctx))
 
 unfoldable pub exitStaticBlockF : Plan → Tables → Tables
@@ -69,6 +69,6 @@ exitStaticBlockF plan q =
     let c = forStaticBlockF (inRows (q .scopes) (q .symbols) (w .ctx)) old (plan .awaits) in
     let p = c .created .parts in
     let b =
-    wrappedRowsF (madeF Tag.StaticBlock (listScope p) 0 0 1) old p (record { t = q .records; read = w .gap .0; written = w .visited .0 })
+    wrappedRowsF (closedRowF Tag.StaticBlock (listScope p) 0 0 1) old p (record { t = q .records; read = w .gap .0; written = w .visited .0 })
     in
     tables (b .t) (c .scopes) (c .symbols) (withCtxF (withCursorF w (b .read) (b .written)) (c .created .ctx))

@@ -8,8 +8,8 @@ use Rattle.meaning.specs.Numbers.Tag
 use Rattle.meaning.specs.Tree.{if_then_else_}
 use Rattle.tables.specs.Columns.RecordTable
 use Rattle.tables.specs.Loops.{turns}
-use Rattle.tables.specs.Table.{capped, columnF, rowF, madeF, endF}
-use Rattle.tables.specs.Stream.{Buf, buf, passF, copyF}
+use Rattle.tables.specs.Table.{capped, columnF, rowF, closedRowF, endF}
+use Rattle.tables.specs.Stream.{Buf, buf, copyRowF, copyF}
 use Rattle.tables.specs.declared.Row.{Row}
 use Rattle.scoping.specs.Changes.{inSymbols, moveBindingF}
 use Rattle.scoping.specs.declared.Ctx.{Ctx}
@@ -43,7 +43,7 @@ transformTryBlockF cur hoist awaits s =
     let old = columnF (s .buf .t) (s .buf .read) RecordTable.A in
     let c = forTryPartF (inRows (s .scopes) (s .symbols) (s .ctx)) cur hoist old awaits in
     let p = c .created .parts in
-    partingF (wrappedRowsF (madeF Tag.Block (listScope p) 0 0 1) old p (s .buf)) (c .scopes) (c .symbols) (c .created .ctx)
+    partingF (wrappedRowsF (closedRowF Tag.Block (listScope p) 0 0 1) old p (s .buf)) (c .scopes) (c .symbols) (c .created .ctx)
 
 -- a Block with a using directly in it, by the plan of its list
 unfoldable pub isPartF : Row → Plan → Bool
@@ -116,7 +116,7 @@ transformHandlerF cur hoist s =
     let n = columnF (s .buf .t) (s .buf .read) RecordTable.N in
     let added = planPartsF (s .buf .t) (capped (s .buf .read) 1) n in
     let list = capped (s .buf .written) 1 in
-    let o = transformPartsF cur hoist n (partingF (passF (s .buf)) (s .scopes) (s .symbols) (s .ctx)) in
+    let o = transformPartsF cur hoist n (partingF (copyRowF (s .buf)) (s .scopes) (s .symbols) (s .ctx)) in
     let ys = moveNamesF (o .buf .t) (o .ctx) (lastBlockScopeF (o .buf .t) list n) list n (o .symbols) in
     if eqb added 0 then o else partingF (o .buf) (o .scopes) ys (o .ctx)
 
@@ -134,6 +134,6 @@ enterTryStatementF added q =
     let w = q .walk in
     let n = columnF (q .records) (w .gap .0) RecordTable.N in
     let v = chargedF w added in
-    let b = passF (record { t = q .records; read = w .gap .0; written = v .gap .0 }) in
+    let b = copyRowF (record { t = q .records; read = w .gap .0; written = v .gap .0 }) in
     let o = transformChildrenF (currentIn q) (hoistIn q) n (partingF b (q .scopes) (q .symbols) (w .ctx)) in
     tables (o .buf .t) (o .scopes) (o .symbols) (withCtxF v (o .ctx))

@@ -32,11 +32,11 @@ fn write_block(records: &mut [u16], q: Cursor, p: Parts) -> Cursor
     ensures { λ o. ⌜ buf (now (records .exit)) o ≡ blockRowsF p (buf (now (records .entry)) q) ⌝ }
 {
     let r = tables::row_after(records, q.read);
-    let q1 = tables::emit(records, q, tables::made(tag::TRY, parts::BOTH, 0, 0, 3));
-    let q2 = tables::pass_as(
+    let q1 = tables::emit(records, q, tables::closed_row(tag::TRY, parts::BOTH, 0, 0, 3));
+    let q2 = tables::replace_row(
         records,
         q1,
-        tables::made(tag::BLOCK, r.a, 0, 0, tables::plus(r.n, 1)),
+        tables::closed_row(tag::BLOCK, r.a, 0, 0, tables::plus(r.n, 1)),
     );
     statements::transform_list(records, q2, r.n, p)
 }
@@ -66,7 +66,7 @@ fn write_wrapped(records: &mut [u16], q: Cursor, row: Row, scope: ScopeId, p: Pa
     ensures { λ o. ⌜ buf (now (records .exit)) o ≡ wrappedRowsF row (scope .0) p (buf (now (records .entry)) q) ⌝ }
 {
     let n = tables::column(records, q.read, record::N);
-    let q1 = tables::pass_as(records, q, row);
+    let q1 = tables::replace_row(records, q, row);
     let q2 = statements::open_try(records, q1, scope, tables::plus(n, 1));
     statements::transform_list(records, q2, n, p)
 }
@@ -81,28 +81,15 @@ pub fn enter_function_body(
 ) -> Walk
     ensures { λ r. ⌜ tables (now (records .exit)) (now (scopes .exit)) (now (symbols .exit)) r ≡ enterFunctionBodyF plan (tables (now (records .entry)) (now (scopes .entry)) (now (symbols .entry)) w) ⌝ }
 {
-    let cur = path::current_scope(records, w.inner, w.visited.0);
-    let hoist = path::hoist_scope(records, w.inner, w.visited.0);
     let read = w.gap;
     let n = tables::column(records, read, record::N);
-    let list = RecordId(tables::plus(read.0, 1));
-    let c = creation::for_body(
-        records,
-        scopes,
-        symbols,
-        w.ctx,
-        cur,
-        hoist,
-        list,
-        n,
-        plan.awaits,
-    );
+    let c = creation::for_body(records, scopes, symbols, w, n, plan.awaits);
     let v = w.charge(tables::plus(plan.wraps, statements::WRAPPED_CONTEXT_ROWS));
     let written = v.gap;
     write_wrapped(
         records,
         Cursor { read, written },
-        tables::made(tag::BODY, 0, 0, 0, 1),
+        tables::closed_row(tag::BODY, 0, 0, 0, 1),
         list_scope(c.parts),
         c.parts,
     );
@@ -127,7 +114,7 @@ pub fn exit_static_block(
     let q = write_wrapped(
         records,
         Cursor { read, written },
-        tables::made(tag::STATIC_BLOCK, scope.0, 0, 0, 1),
+        tables::closed_row(tag::STATIC_BLOCK, scope.0, 0, 0, 1),
         old,
         c.parts,
     );
@@ -159,7 +146,7 @@ fn transform_try_block(
     let old = ScopeId(tables::column(records, q.read, record::A));
     let c = creation::for_try_part(scopes, symbols, s.ctx, cur, hoist, old, awaits);
     let scope = list_scope(c.parts);
-    let at = write_wrapped(records, q, tables::made(tag::BLOCK, scope.0, 0, 0, 1), old, c.parts);
+    let at = write_wrapped(records, q, tables::closed_row(tag::BLOCK, scope.0, 0, 0, 1), old, c.parts);
     let ctx = c.ctx;
     Parting { at, ctx }
 }
@@ -307,7 +294,7 @@ fn transform_handler(
     let n = tables::column(records, q.read, record::N);
     let added = plan_parts(records, RecordId(tables::plus(q.read.0, 1)), n);
     let start = q.written;
-    let at = tables::pass(records, q);
+    let at = tables::copy_row(records, q);
     let ctx = s.ctx;
     let o = transform_parts(records, scopes, symbols, Parting { at, ctx }, cur, hoist, n);
     if added == 0 {
@@ -381,7 +368,7 @@ pub fn enter_try_statement(
     let n = tables::column(records, read, record::N);
     let v = w.charge(added);
     let written = v.gap;
-    let at = tables::pass(records, Cursor { read, written });
+    let at = tables::copy_row(records, Cursor { read, written });
     let ctx = w.ctx;
     let o = transform_children(records, scopes, symbols, Parting { at, ctx }, cur, hoist, n);
     v.with_ctx(o.ctx)

@@ -5,11 +5,14 @@ use meaning::SymbolId;
 use meaning::known_name;
 use meaning::scope_flag;
 use meaning::symbol_flag;
+use path::Walk;
 use scoping::Ctx;
 use statements::Parts;
 ghost use mathlib.Core.Path.{_≡_};
+ghost use Rattle.tables.specs.Table.{capped};
+ghost use Rattle.path.specs.Path.{currentScopeF, hoistScopeF};
 ghost use Rattle.scoping.specs.Changes.{inScopes, inSymbols};
-ghost use Rattle.creation.specs.Scopes.{passing, moveScopeF, isPassedF, moveScopesF, insertScopeBelowF};
+ghost use Rattle.creation.specs.Scopes.{scopeMove, moveScopeF, isPassedF, moveScopesF, insertScopeBelowF};
 ghost use Rattle.creation.specs.Creation.{inRows, transforming, creating, makeContextF, loadContextF, transformStatementsF, withCtxF, createCatchClauseF, createTryStmtF};
 ghost use Rattle.creation.specs.Kinds.{forBlockF, forBodyF, forStaticBlockF, forTryPartF, forLoopF, forSwitchF};
 
@@ -38,7 +41,7 @@ pub struct Created {
 }
 
 // The last row looked at, how many records beside each other are still to be looked at, and how many to be passed over before.
-pub struct Passing {
+pub struct ScopeMove {
     pub at: u16,
     pub pending: u16,
     pub skip: u16,
@@ -47,13 +50,13 @@ pub struct Passing {
 // ---- scopes
 
 // The next record: its scope gets the parent, and its children are passed over; a record without a scope is entered.
-fn move_scope(records: &[u16], scopes: &mut [u16], ctx: Ctx, s: Passing, parent: ScopeId) -> Passing
-    ensures { λ r. ⌜ passing (now (scopes .exit)) r ≡ moveScopeF (now (records .entry)) ctx (parent .0) (passing (now (scopes .entry)) s) ⌝ }
+fn move_scope(records: &[u16], scopes: &mut [u16], ctx: Ctx, s: ScopeMove, parent: ScopeId) -> ScopeMove
+    ensures { λ r. ⌜ scopeMove (now (scopes .exit)) r ≡ moveScopeF (now (records .entry)) ctx (parent .0) (scopeMove (now (scopes .entry)) s) ⌝ }
 {
     let r = tables::row_after(records, RecordId(s.at));
     let at = tables::plus(s.at, 1);
     if s.skip != 0 {
-        return Passing {
+        return ScopeMove {
             at,
             pending: s.pending,
             skip: tables::plus(tables::minus(s.skip, 1), r.n),
@@ -62,14 +65,14 @@ fn move_scope(records: &[u16], scopes: &mut [u16], ctx: Ctx, s: Passing, parent:
     let pending = tables::minus(s.pending, 1);
     let scope = path::scope_of(r);
     if scope.0 == 0 {
-        return Passing {
+        return ScopeMove {
             at,
             pending: tables::plus(pending, r.n),
             skip: 0,
         };
     }
     scoping::change_scope_parent(scopes, ctx, scope, parent);
-    Passing {
+    ScopeMove {
         at,
         pending,
         skip: r.n,
@@ -77,7 +80,7 @@ fn move_scope(records: &[u16], scopes: &mut [u16], ctx: Ctx, s: Passing, parent:
 }
 
 // No record is left to look at.
-fn is_passed(s: Passing) -> bool
+fn is_passed(s: ScopeMove) -> bool
     ensures { λ r. ⌜ r ≡ isPassedF s ⌝ }
 {
     if s.pending != 0 {
@@ -97,7 +100,7 @@ fn move_scopes(
 )
     ensures { λ _. ⌜ now (scopes .exit) ≡ moveScopesF (now (records .entry)) (inScopes (now (scopes .entry)) ctx) (after .0) n (parent .0) ⌝ }
 {
-    let mut s = Passing {
+    let mut s = ScopeMove {
         at: after.0,
         pending: n,
         skip: 0,
@@ -232,23 +235,23 @@ pub fn for_block(
     create_try_stmt(scopes, symbols, t, cur, awaits)
 }
 
-// A function body: a new scope below the function's takes the list, `n` records after a row, and what the function's scope binds block-scoped
+// The function body to enter: a new scope below the function's takes its list of `n` records, and what the function's scope binds block-scoped
 // or as a class.
 pub fn for_body(
     records: &[u16],
     scopes: &mut [u16],
     symbols: &mut [u16],
-    ctx: Ctx,
-    cur: ScopeId,
-    hoist: ScopeId,
-    after: RecordId,
+    w: Walk,
     n: u16,
     awaits: u16,
 ) -> Created
-    ensures { λ r. ⌜ creating (now (scopes .exit)) (now (symbols .exit)) r ≡ forBodyF (now (records .entry)) (inRows (now (scopes .entry)) (now (symbols .entry)) ctx) (cur .0) (hoist .0) (after .0) n awaits ⌝ }
+    ensures { λ r. ⌜ creating (now (scopes .exit)) (now (symbols .exit)) r ≡ forBodyF (now (records .entry)) (inRows (now (scopes .entry)) (now (symbols .entry)) (w .ctx)) (currentScopeF (now (records .entry)) (w .inner .0) (w .visited .0)) (hoistScopeF (now (records .entry)) (w .inner .0) (w .visited .0)) (capped (w .gap .0) 1) n awaits ⌝ }
 {
-    let t = transform_statements(scopes, symbols, ctx, cur, hoist);
-    let x = insert_scope_below(records, scopes, t.ctx, cur, after, n);
+    let cur = path::current_scope(records, w.inner, w.visited.0);
+    let hoist = path::hoist_scope(records, w.inner, w.visited.0);
+    let list = RecordId(tables::plus(w.gap.0, 1));
+    let t = transform_statements(scopes, symbols, w.ctx, cur, hoist);
+    let x = insert_scope_below(records, scopes, t.ctx, cur, list, n);
     scoping::move_block_scoped(symbols, x, cur, ScopeId(x.scopes));
     create_try_stmt(scopes, symbols, t.with_ctx(x), cur, awaits)
 }
@@ -290,21 +293,20 @@ pub fn for_try_part(
     c
 }
 
-// A For with its Labels, the record after a row: a new scope above it.
+// The For with its Labels to enter: a new scope above it.
 pub fn for_loop(
     records: &[u16],
     scopes: &mut [u16],
     symbols: &mut [u16],
-    ctx: Ctx,
-    cur: ScopeId,
-    hoist: ScopeId,
-    after: RecordId,
+    w: Walk,
     awaits: u16,
 ) -> Created
-    ensures { λ r. ⌜ creating (now (scopes .exit)) (now (symbols .exit)) r ≡ forLoopF (now (records .entry)) (inRows (now (scopes .entry)) (now (symbols .entry)) ctx) (cur .0) (hoist .0) (after .0) awaits ⌝ }
+    ensures { λ r. ⌜ creating (now (scopes .exit)) (now (symbols .exit)) r ≡ forLoopF (now (records .entry)) (inRows (now (scopes .entry)) (now (symbols .entry)) (w .ctx)) (currentScopeF (now (records .entry)) (w .inner .0) (w .visited .0)) (hoistScopeF (now (records .entry)) (w .inner .0) (w .visited .0)) (w .gap .0) awaits ⌝ }
 {
-    let made = make_context(symbols, ctx, hoist);
-    let x = insert_scope_below(records, scopes, made, cur, after, 1);
+    let cur = path::current_scope(records, w.inner, w.visited.0);
+    let hoist = path::hoist_scope(records, w.inner, w.visited.0);
+    let made = make_context(symbols, w.ctx, hoist);
+    let x = insert_scope_below(records, scopes, made, cur, w.gap, 1);
     let t = load_context(scopes, symbols, x, SymbolId(made.symbols), cur);
     create_try_stmt(scopes, symbols, t, cur, awaits)
 }

@@ -12,8 +12,8 @@ use Rattle.meaning.specs.Statements.{isUsing}
 use Rattle.meaning.specs.ForOf.{bindsName}
 use Rattle.tables.specs.Columns.RecordTable
 use Rattle.tables.specs.Columns.SymbolTable
-use Rattle.tables.specs.Table.{capped, columnF, rowF, madeF, headF, endF}
-use Rattle.tables.specs.Stream.{Buf, emitF, passAsF, passF, copyF}
+use Rattle.tables.specs.Table.{capped, columnF, rowF, closedRowF, headF, endF}
+use Rattle.tables.specs.Stream.{Buf, emitF, replaceRowF, copyRowF, copyF}
 use Rattle.tables.specs.declared.Row.{Row}
 use Rattle.scoping.specs.Rows.{symbolNumber, symbolsF}
 use Rattle.scoping.specs.Changes.{SymbolRows, inScopes, inSymbols, createSymbolF, moveBindingF}
@@ -67,30 +67,30 @@ makeTempF q y scope = createSymbolF q (symbolNumber (q .t) (q .ctx .symbols) y S
 -- the ForOf up to its body
 unfoldable pub leftRowsF : ℕ → Buf → Buf
 leftRowsF temp b =
-    let b₁ = passF b in
+    let b₁ = copyRowF b in
     let declarators = columnF (b₁ .t) (b₁ .read) RecordTable.N in
-    let b₂ = passAsF b₁ (madeF Tag.Declaration Kind.Const 0 0 declarators) in
+    let b₂ = replaceRowF b₁ (closedRowF Tag.Declaration Kind.Const 0 0 declarators) in
     let m = columnF (b₂ .t) (b₂ .read) RecordTable.N in
-    let b₃ = passF b₂ in
+    let b₃ = copyRowF b₂ in
     let below = columnF (b₃ .t) (b₃ .read) RecordTable.N in
-    let b₄ = passAsF b₃ (madeF Tag.Name temp 0 0 below) in
+    let b₄ = replaceRowF b₃ (closedRowF Tag.Name temp 0 0 below) in
     copyF b₄ (capped (capped below (m - 1)) declarators)
 
 -- `using x = _x`
 unfoldable pub usingRowsF : ℕ → ℕ → ℕ → Buf → Buf
-usingRowsF kind y temp b = emitF (declareF kind y b) (madeF Tag.Read temp 0 0 0)
+usingRowsF kind y temp b = emitF (declareF kind y b) (closedRowF Tag.Read temp 0 0 0)
 
 unfoldable pub insertRowsF : ℕ → ℕ → ℕ → Buf → Buf
 insertRowsF kind y temp b =
     let b₁ = leftRowsF temp b in
     let r = rowF (b₁ .t) (b₁ .read) in
-    let b₂ = passAsF b₁ (madeF (r .tag) (r .a) (r .b) (r .c) (capped (r .n) 1)) in
+    let b₂ = replaceRowF b₁ (closedRowF (r .tag) (r .a) (r .b) (r .c) (capped (r .n) 1)) in
     usingRowsF kind y temp b₂
 
 unfoldable pub wrapRowsF : ℕ → ℕ → ℕ → ℕ → Buf → Buf
 wrapRowsF kind y temp scope b =
     let b₁ = leftRowsF temp b in
-    let b₂ = emitF b₁ (madeF Tag.Block scope 0 0 2) in
+    let b₂ = emitF b₁ (closedRowF Tag.Block scope 0 0 2) in
     usingRowsF kind y temp b₂
 
 -- ---- the ForOf

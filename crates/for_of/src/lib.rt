@@ -99,13 +99,13 @@ fn make_temp(symbols: &mut [u16], ctx: Ctx, y: SymbolId, scope: ScopeId) -> Ctx
 fn write_left(records: &mut [u16], q: Cursor, temp: SymbolId) -> Cursor
     ensures { λ o. ⌜ buf (now (records .exit)) o ≡ leftRowsF (temp .0) (buf (now (records .entry)) q) ⌝ }
 {
-    let q1 = tables::pass(records, q);
+    let q1 = tables::copy_row(records, q);
     let declarators = tables::column(records, q1.read, record::N);
-    let q2 = tables::pass_as(records, q1, tables::made(tag::DECLARATION, kind::CONST, 0, 0, declarators));
+    let q2 = tables::replace_row(records, q1, tables::closed_row(tag::DECLARATION, kind::CONST, 0, 0, declarators));
     let m = tables::column(records, q2.read, record::N);
-    let q3 = tables::pass(records, q2);
+    let q3 = tables::copy_row(records, q2);
     let below = tables::column(records, q3.read, record::N);
-    let q4 = tables::pass_as(records, q3, tables::made(tag::NAME, temp.0, 0, 0, below));
+    let q4 = tables::replace_row(records, q3, tables::closed_row(tag::NAME, temp.0, 0, 0, below));
     let rest = tables::plus(tables::plus(below, tables::minus(m, 1)), declarators);
     tables::copy(records, q4, rest)
 }
@@ -115,7 +115,7 @@ fn write_using(records: &mut [u16], q: Cursor, kind: u16, y: SymbolId, temp: Sym
     ensures { λ o. ⌜ buf (now (records .exit)) o ≡ usingRowsF kind (y .0) (temp .0) (buf (now (records .entry)) q) ⌝ }
 {
     let q1 = statements::declare(records, q, kind, y);
-    tables::emit(records, q1, tables::made(tag::READ, temp.0, 0, 0, 0))
+    tables::emit(records, q1, tables::closed_row(tag::READ, temp.0, 0, 0, 0))
 }
 
 // The using at index 0 of the body.
@@ -124,10 +124,10 @@ fn write_insert(records: &mut [u16], q: Cursor, kind: u16, y: SymbolId, temp: Sy
 {
     let q1 = write_left(records, q, temp);
     let r = tables::row_after(records, q1.read);
-    let q2 = tables::pass_as(
+    let q2 = tables::replace_row(
         records,
         q1,
-        tables::made(r.tag, r.a, r.b, r.c, tables::plus(r.n, 1)),
+        tables::closed_row(r.tag, r.a, r.b, r.c, tables::plus(r.n, 1)),
     );
     write_using(records, q2, kind, y, temp)
 }
@@ -144,7 +144,7 @@ fn write_wrap(
     ensures { λ o. ⌜ buf (now (records .exit)) o ≡ wrapRowsF kind (y .0) (temp .0) (scope .0) (buf (now (records .entry)) q) ⌝ }
 {
     let q1 = write_left(records, q, temp);
-    let q2 = tables::emit(records, q1, tables::made(tag::BLOCK, scope.0, 0, 0, 2));
+    let q2 = tables::emit(records, q1, tables::closed_row(tag::BLOCK, scope.0, 0, 0, 2));
     write_using(records, q2, kind, y, temp)
 }
 

@@ -9,7 +9,7 @@ use Rattle.meaning.specs.Tree.{if_then_else_}
 use Rattle.tables.specs.Columns.RecordTable
 use Rattle.tables.specs.Loops.{turns, until}
 use Rattle.tables.specs.Table.{largest, capped, columnF, rowF}
-use Rattle.tables.specs.Stream.{Buf, passF}
+use Rattle.tables.specs.Stream.{Buf, copyRowF}
 use Rattle.statements.specs.TakeUp.{takeUpF}
 use Rattle.statements.specs.Plan.{noPlan, planF}
 use Rattle.statements.specs.Try.{wrappedContextRows, declareContextF, handlersF, openTryF}
@@ -39,7 +39,7 @@ planForF t after =
     if eqb (r .tag) Tag.For then planF t (noPlan (capped at 1)) (r .n) else noPlan at
 
 unfoldable pub passRowsF : ℕ → Buf → Buf
-passRowsF n b = turns n passF b
+passRowsF n b = turns n copyRowF b
 
 unfoldable pub forRowsF : Parts → Buf → Buf
 forRowsF p b =
@@ -48,7 +48,7 @@ forRowsF p b =
     let b₂ = declareContextF p b₁ in
     let b₃ = passRowsF labels b₂ in
     let n = columnF (b₃ .t) (b₃ .read) RecordTable.N in
-    let b₄ = passF b₃ in
+    let b₄ = copyRowF b₃ in
     let b₅ = takeUpF n false (p .context .0) false b₄ in
     handlersF p b₅
 

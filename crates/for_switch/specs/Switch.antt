@@ -9,7 +9,7 @@ use Rattle.meaning.specs.Tree.{if_then_else_}
 use Rattle.tables.specs.Columns.RecordTable
 use Rattle.tables.specs.Loops.{turns}
 use Rattle.tables.specs.Table.{capped, columnF, rowF, endF}
-use Rattle.tables.specs.Stream.{Buf, buf, passF, copyF}
+use Rattle.tables.specs.Stream.{Buf, buf, copyRowF, copyF}
 use Rattle.statements.specs.TakeUp.{takeUpF}
 use Rattle.statements.specs.Plan.{plan, noPlan, planF}
 use Rattle.statements.specs.Try.{wrappedContextRows, declareContextF, handlersF, openTryF}
@@ -39,7 +39,7 @@ unfoldable pub takeUpCaseF : ℕ → CasingF → CasingF
 takeUpCaseF context s =
     let r = rowF (s .buf .t) (s .buf .read) in
     let p = planF (s .buf .t) (noPlan (capped (s .buf .read) 1)) (r .n) in
-    let b = takeUpF (r .n) true context (s .needs) (passF (s .buf)) in
+    let b = takeUpF (r .n) true context (s .needs) (copyRowF (s .buf)) in
     if eqb (r .tag) Tag.Case then casingF b (orAwaitsF (s .needs) (p .awaits)) else casingF (copyF (s .buf) 1) (s .needs)
 
 unfoldable pub takeUpCasesF : ℕ → ℕ → Buf → Buf
@@ -60,7 +60,7 @@ switchRowsF p b =
     let n = columnF (b .t) (b .read) RecordTable.N in
     let b₁ = openTryF (listScope p) 2 b in
     let b₂ = declareContextF p b₁ in
-    let b₃ = passF b₂ in
+    let b₃ = copyRowF b₂ in
     let b₄ = takeUpCasesF n (p .context .0) b₃ in
     handlersF p b₄
 

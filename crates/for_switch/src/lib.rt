@@ -63,7 +63,7 @@ fn pass_rows(records: &mut [u16], start: Cursor, n: u16) -> Cursor
     let mut q = start;
     let mut k: u16 = 0;
     while k < n {
-        q = tables::pass(records, q);
+        q = tables::copy_row(records, q);
         k += 1;
     }
     q
@@ -78,7 +78,7 @@ fn write_for(records: &mut [u16], q: Cursor, p: Parts) -> Cursor
     let q2 = statements::declare_context(records, q1, p);
     let q3 = pass_rows(records, q2, labels);
     let n = tables::column(records, q3.read, record::N);
-    let q4 = tables::pass(records, q3);
+    let q4 = tables::copy_row(records, q3);
     let q5 = statements::take_up(records, q4, n, p.context, false, false);
     statements::write_handlers(records, q5, p)
 }
@@ -93,19 +93,8 @@ pub fn transform_for_statement(
 ) -> Walk
     ensures { λ r. ⌜ tables (now (records .exit)) (now (scopes .exit)) (now (symbols .exit)) r ≡ transformForStatementF plan (tables (now (records .entry)) (now (scopes .entry)) (now (symbols .entry)) w) ⌝ }
 {
-    let cur = path::current_scope(records, w.inner, w.visited.0);
-    let hoist = path::hoist_scope(records, w.inner, w.visited.0);
     let read = w.gap;
-    let c = creation::for_loop(
-        records,
-        scopes,
-        symbols,
-        w.ctx,
-        cur,
-        hoist,
-        read,
-        plan.awaits,
-    );
+    let c = creation::for_loop(records, scopes, symbols, w, plan.awaits);
     let v = w.charge(tables::plus(plan.wraps, statements::WRAPPED_CONTEXT_ROWS));
     let written = v.gap;
     write_for(records, Cursor { read, written }, c.parts);
@@ -142,7 +131,7 @@ fn take_up_case(records: &mut [u16], s: Casing, p: Parts) -> Casing
             statements::no_plan(RecordId(tables::plus(q.read.0, 1))),
             r.n,
         );
-        let q1 = tables::pass(records, q);
+        let q1 = tables::copy_row(records, q);
         let at = statements::take_up(records, q1, r.n, p.context, true, s.needs);
         Casing {
             at,
@@ -213,7 +202,7 @@ fn write_switch(records: &mut [u16], q: Cursor, p: Parts) -> Cursor
     let n = tables::column(records, q.read, record::N);
     let q1 = statements::open_try(records, q, contexts::list_scope(p), 2);
     let q2 = statements::declare_context(records, q1, p);
-    let q3 = tables::pass(records, q2);
+    let q3 = tables::copy_row(records, q2);
     let q4 = take_up_cases(records, q3, n, p);
     statements::write_handlers(records, q4, p)
 }

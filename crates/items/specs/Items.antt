@@ -13,8 +13,8 @@ use Rattle.meaning.specs.Tree.{if_then_else_}
 use Rattle.meaning.specs.Statements.{isUsing}
 use Rattle.tables.specs.Columns.RecordTable
 use Rattle.tables.specs.Columns.SymbolTable
-use Rattle.tables.specs.Table.{capped, columnF, rowF, setRowF, madeF, headF}
-use Rattle.tables.specs.Stream.{Buf, buf, emitF, passAsF, copyF}
+use Rattle.tables.specs.Table.{capped, columnF, rowF, setRowF, closedRowF, headF}
+use Rattle.tables.specs.Stream.{Buf, buf, emitF, replaceRowF, copyF}
 use Rattle.tables.specs.declared.Row.{Row}
 use Rattle.scoping.specs.Rows.{rootScope, symbolNumber}
 use Rattle.scoping.specs.Changes.{SymbolRows, inSymbols, createSymbolF, setSymbolFlagsF}
@@ -39,15 +39,15 @@ use Rattle.items.specs.declared.Item.the-variants.{
 
 -- the next row is left out
 unfoldable pub dropF : Buf → Buf
-dropF b = record { t = setRowF (b .t) (b .read) (madeF 0 0 0 0 0); read = capped (b .read) 1; written = b .written }
+dropF b = record { t = setRowF (b .t) (b .read) (closedRowF 0 0 0 0 0); read = capped (b .read) 1; written = b .written }
 
 -- `export { y as name }`
 unfoldable pub exportRowsF : ℕ → ℕ → Buf → Buf
-exportRowsF y name b = emitF (emitF b (madeF Tag.ModuleLine LineForm.ExportNamed 0 0 1)) (madeF Tag.Specifier y name 0 0)
+exportRowsF y name b = emitF (emitF b (closedRowF Tag.ModuleLine LineForm.ExportNamed 0 0 1)) (closedRowF Tag.Specifier y name 0 0)
 
 -- `var y = ` and the next record, with another row
 unfoldable pub valueRowsF : ℕ → Row → Buf → Buf
-valueRowsF y row b = copyF (passAsF (declareF Kind.Var y b) row) (row .n)
+valueRowsF y row b = copyF (replaceRowF (declareF Kind.Var y b) row) (row .n)
 
 unfoldable pub preserveNameF : SymbolRows → Row → SymbolRows
 preserveNameF q r =
@@ -76,17 +76,17 @@ unfoldable pub classF : PassingF → PassingF
 classF s =
     let r = rowF (s .buf .t) (s .buf .read) in
     let y = preserveNameF (inSymbols (s .symbols) (s .ctx)) r in
-    passingF (valueRowsF (r .c) (madeF Tag.Class Form.Expression (r .b) (y .ctx .symbols) (r .n)) (s .buf)) (y .t) (y .ctx)
+    passingF (valueRowsF (r .c) (closedRowF Tag.Class Form.Expression (r .b) (y .ctx .symbols) (r .n)) (s .buf)) (y .t) (y .ctx)
 
 -- a Declaration becomes var; a using is recorded
 unfoldable pub recordedF : Row → Row
-recordedF r = if isUsing (headF r) then madeF Tag.Declaration Kind.Var (r .a) 0 (r .n) else madeF Tag.Declaration Kind.Var 0 0 (r .n)
+recordedF r = if isUsing (headF r) then closedRowF Tag.Declaration Kind.Var (r .a) 0 (r .n) else closedRowF Tag.Declaration Kind.Var 0 0 (r .n)
 
 unfoldable pub declaredF : PassingF → PassingF
 declaredF s =
     let r = rowF (s .buf .t) (s .buf .read) in
     let ys = flagNamesF (s .buf .t) (inSymbols (s .symbols) (s .ctx)) (capped (s .buf .read) 1) (r .n) in
-    passingF (copyF (passAsF (s .buf) (recordedF r)) (r .n)) ys (s .ctx)
+    passingF (copyF (replaceRowF (s .buf) (recordedF r)) (r .n)) ys (s .ctx)
 
 unfoldable pub exportedClassF : PassingF → PassingF
 exportedClassF s =
@@ -101,9 +101,9 @@ exportedDeclarationF s =
     let n = columnF (b .t) (b .read) RecordTable.N in
     let list = capped (b .read) 1 in
     let ys = flagNamesF (b .t) (inSymbols (s .symbols) (s .ctx)) list n in
-    let b₁ = emitF b (madeF Tag.ModuleLine LineForm.ExportNamed 0 0 (countNamesF (b .t) list n)) in
+    let b₁ = emitF b (closedRowF Tag.ModuleLine LineForm.ExportNamed 0 0 (countNamesF (b .t) list n)) in
     let b₂ = specifiersF (inSymbols ys (s .ctx)) n b₁ in
-    let b₃ = passAsF b₂ (madeF Tag.Declaration Kind.Var 0 0 n) in
+    let b₃ = replaceRowF b₂ (closedRowF Tag.Declaration Kind.Var 0 0 n) in
     passingF (copyF b₃ n) ys (s .ctx)
 
 unfoldable pub defaultClassF : PassingF → PassingF
@@ -112,7 +112,7 @@ defaultClassF s =
     classF (passingF (exportRowsF (columnF (b .t) (b .read) RecordTable.C) KnownName.Default b) (s .symbols) (s .ctx))
 
 unfoldable pub asExpressionF : Row → Row
-asExpressionF r = if eqb (r .tag) Tag.Class then madeF Tag.Class Form.Expression (r .b) (r .c) (r .n) else madeF (r .tag) (r .a) (r .b) (r .c) (r .n)
+asExpressionF r = if eqb (r .tag) Tag.Class then closedRowF Tag.Class Form.Expression (r .b) (r .c) (r .n) else closedRowF (r .tag) (r .a) (r .b) (r .c) (r .n)
 
 unfoldable pub defaultValueF : PassingF → PassingF
 defaultValueF s =

@@ -10,7 +10,7 @@ use Rattle.meaning.specs.Tree.{if_then_else_}
 use Rattle.tables.specs.Columns.RecordTable
 use Rattle.tables.specs.Columns.SymbolTable
 use Rattle.tables.specs.Loops.{until}
-use Rattle.tables.specs.Table.{largest, capped, columnF, rowF, madeF}
+use Rattle.tables.specs.Table.{largest, capped, columnF, rowF, closedRowF}
 use Rattle.tables.specs.Stream.{Buf, buf, emitF}
 use Rattle.scoping.specs.Rows.{symbolNumber}
 use Rattle.scoping.specs.Changes.{SymbolRows, inSymbols, setSymbolFlagsF}
@@ -96,7 +96,7 @@ specifying t s = specifyingF (buf t (s .at)) (s .names)
 unfoldable pub specifierF : SymbolRows → SpecifyingF → SpecifyingF
 specifierF q s =
     let y = columnF (s .buf .t) (s .names .at) RecordTable.A in
-    let r = madeF Tag.Specifier y (symbolNumber (q .t) (q .ctx .symbols) y SymbolTable.Name) 0 0 in
+    let r = closedRowF Tag.Specifier y (symbolNumber (q .t) (q .ctx .symbols) y SymbolTable.Name) 0 0 in
     let next = nextNameF (s .buf .t) (s .names) in
     if isNameF (s .buf .t) (s .names) then specifyingF (emitF (s .buf) r) next else specifyingF (s .buf) next
 

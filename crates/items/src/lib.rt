@@ -276,7 +276,7 @@ fn write_specifier(records: &mut [u16], symbols: &[u16], ctx: Ctx, s: Specifying
         let y = tables::column(records, RecordId(names.at), record::A);
         let name = scoping::symbol_number(symbols, ctx.symbols, SymbolId(y), symbol::NAME);
         Specifying {
-            at: tables::emit(records, q, tables::made(tag::SPECIFIER, y, name, 0, 0)),
+            at: tables::emit(records, q, tables::closed_row(tag::SPECIFIER, y, name, 0, 0)),
             names: next,
         }
     } else {
@@ -328,7 +328,7 @@ fn drop_row(records: &mut [u16], q: Cursor) -> Cursor
     ensures { λ o. ⌜ buf (now (records .exit)) o ≡ dropF (buf (now (records .entry)) q) ⌝ }
 {
     let written = q.written;
-    tables::put_row(records, q.read, tables::made(0, 0, 0, 0, 0));
+    tables::put_row(records, q.read, tables::closed_row(0, 0, 0, 0, 0));
     Cursor {
         read: RecordId(tables::plus(q.read.0, 1)),
         written,
@@ -339,8 +339,8 @@ fn drop_row(records: &mut [u16], q: Cursor) -> Cursor
 fn write_export(records: &mut [u16], q: Cursor, y: u16, name: u16) -> Cursor
     ensures { λ o. ⌜ buf (now (records .exit)) o ≡ exportRowsF y name (buf (now (records .entry)) q) ⌝ }
 {
-    let q1 = tables::emit(records, q, tables::made(tag::MODULE_LINE, line_form::EXPORT_NAMED, 0, 0, 1));
-    tables::emit(records, q1, tables::made(tag::SPECIFIER, y, name, 0, 0))
+    let q1 = tables::emit(records, q, tables::closed_row(tag::MODULE_LINE, line_form::EXPORT_NAMED, 0, 0, 1));
+    tables::emit(records, q1, tables::closed_row(tag::SPECIFIER, y, name, 0, 0))
 }
 
 // `var y = ` and the next record, with another row.
@@ -348,7 +348,7 @@ fn write_value(records: &mut [u16], q: Cursor, y: SymbolId, row: Row) -> Cursor
     ensures { λ o. ⌜ buf (now (records .exit)) o ≡ valueRowsF (y .0) row (buf (now (records .entry)) q) ⌝ }
 {
     let q1 = statements::declare(records, q, kind::VAR, y);
-    let q2 = tables::pass_as(records, q1, row);
+    let q2 = tables::replace_row(records, q1, row);
     tables::copy(records, q2, row.n)
 }
 
@@ -383,7 +383,7 @@ fn transform_class_decl(records: &mut [u16], symbols: &mut [u16], s: Passing) ->
         records,
         q,
         SymbolId(r.c),
-        tables::made(tag::CLASS, form::EXPRESSION, r.b, ctx.symbols, r.n),
+        tables::closed_row(tag::CLASS, form::EXPRESSION, r.b, ctx.symbols, r.n),
     );
     Passing { at, ctx }
 }
@@ -396,7 +396,7 @@ fn top_level_declaration(records: &mut [u16], symbols: &mut [u16], s: Passing) -
     let ctx = s.ctx;
     let r = tables::row_after(records, q.read);
     flag_names(records, symbols, ctx, tables::plus(q.read.0, 1), r.n);
-    let q1 = tables::pass_as(records, q, recorded(r));
+    let q1 = tables::replace_row(records, q, recorded(r));
     let at = tables::copy(records, q1, r.n);
     Passing { at, ctx }
 }
@@ -406,9 +406,9 @@ fn recorded(r: Row) -> Row
     ensures { λ o. ⌜ o ≡ recordedF r ⌝ }
 {
     if statements::is_using(r) {
-        tables::made(tag::DECLARATION, kind::VAR, r.a, 0, r.n)
+        tables::closed_row(tag::DECLARATION, kind::VAR, r.a, 0, r.n)
     } else {
-        tables::made(tag::DECLARATION, kind::VAR, 0, 0, r.n)
+        tables::closed_row(tag::DECLARATION, kind::VAR, 0, 0, r.n)
     }
 }
 
@@ -434,9 +434,9 @@ fn exported_declaration(records: &mut [u16], symbols: &mut [u16], s: Passing) ->
     let list = tables::plus(q.read.0, 1);
     flag_names(records, symbols, ctx, list, n);
     let names = count_names(records, list, n);
-    let q1 = tables::emit(records, q, tables::made(tag::MODULE_LINE, line_form::EXPORT_NAMED, 0, 0, names));
+    let q1 = tables::emit(records, q, tables::closed_row(tag::MODULE_LINE, line_form::EXPORT_NAMED, 0, 0, names));
     let q2 = write_specifiers(records, symbols, ctx, q1, n);
-    let q3 = tables::pass_as(records, q2, tables::made(tag::DECLARATION, kind::VAR, 0, 0, n));
+    let q3 = tables::replace_row(records, q2, tables::closed_row(tag::DECLARATION, kind::VAR, 0, 0, n));
     let at = tables::copy(records, q3, n);
     Passing { at, ctx }
 }
@@ -456,9 +456,9 @@ fn as_expression(r: Row) -> Row
     ensures { λ o. ⌜ o ≡ asExpressionF r ⌝ }
 {
     if r.tag == tag::CLASS {
-        tables::made(tag::CLASS, form::EXPRESSION, r.b, r.c, r.n)
+        tables::closed_row(tag::CLASS, form::EXPRESSION, r.b, r.c, r.n)
     } else {
-        tables::made(r.tag, r.a, r.b, r.c, r.n)
+        tables::closed_row(r.tag, r.a, r.b, r.c, r.n)
     }
 }
 

@@ -18,7 +18,7 @@ use Rattle.items.specs.declared.Item.the-variants.{
   ExportedClass,
   ExportedDeclaration,
 }
-use Rattle.program.specs.declared.Plan.{Plan}
+use Rattle.program.specs.declared.ProgramPlan.{ProgramPlan}
 
 -- the names that the child of the item after a row declares
 unfoldable pub childNamesF : List ℕ → ℕ → ℕ
@@ -74,10 +74,10 @@ movedF DefaultValue = 1
 movedF ExportedClass = 1
 movedF ExportedDeclaration = 1
 
-abbrev pub plan : ℕ → ℕ → ℕ → ℕ → Plan
+abbrev pub plan : ℕ → ℕ → ℕ → ℕ → ProgramPlan
 plan at added kept moved = record { at = record { 0 = at }; added = added; kept = kept; moved = moved }
 
-unfoldable pub planItemF : List ℕ → Plan → Plan
+unfoldable pub planItemF : List ℕ → ProgramPlan → ProgramPlan
 planItemF t p =
     let item = itemF t (p .at .0) in
     plan
@@ -86,5 +86,5 @@ planItemF t p =
     (capped (p .kept) (keptF item))
     (capped (p .moved) (movedF item))
 
-unfoldable pub planProgramF : List ℕ → ℕ → ℕ → Plan
+unfoldable pub planProgramF : List ℕ → ℕ → ℕ → ProgramPlan
 planProgramF t after n = turns n (planItemF t) (plan after 0 0 0)

@@ -4,8 +4,8 @@ use mathlib.Core.List.{List}
 use Prim.Native.Nat.{ℕ}
 use Rattle.meaning.specs.Numbers.Tag
 use Rattle.tables.specs.Loops.{turns}
-use Rattle.tables.specs.Table.{capped, rowF, madeF}
-use Rattle.tables.specs.Stream.{emitF, passAsF}
+use Rattle.tables.specs.Table.{capped, rowF, closedRowF}
+use Rattle.tables.specs.Stream.{emitF, replaceRowF}
 use Rattle.scoping.specs.Changes.{inScopes}
 use Rattle.scoping.specs.declared.Ctx.{Ctx}
 use Rattle.creation.specs.Scopes.{insertScopeBelowF}
@@ -13,7 +13,7 @@ use Rattle.path.specs.Path.{Tables, tables, chargedF, withCtxF}
 use Rattle.items.specs.Items.{PassingF, passingF, transformItemF}
 use Rattle.program.specs.Plan.{planProgramF}
 use Rattle.program.specs.Arrange.{keptRowsF, arrangeF}
-use Rattle.program.specs.declared.Plan.{Plan}
+use Rattle.program.specs.declared.ProgramPlan.{ProgramPlan}
 use Rattle.program.specs.declared.Rewritten.{Rewritten}
 
 unfoldable pub transformItemsF : ℕ → PassingF → PassingF
@@ -29,11 +29,11 @@ pub record Rewriting : Type 0 where
 abbrev pub rewriting : List ℕ → List ℕ → Rewritten → Rewriting
 rewriting t y o = record { records = t; symbols = y; ctx = o .ctx; block = o .block .0 }
 
-unfoldable pub rewriteItemsF : ℕ → Plan → PassingF → Rewriting
+unfoldable pub rewriteItemsF : ℕ → ProgramPlan → PassingF → Rewriting
 rewriteItemsF n plan start =
     let after = start .buf .written in
     let s = transformItemsF n start in
-    let b = emitF (s .buf) (madeF Tag.Block (capped (s .ctx .scopes) 1) 0 0 (plan .moved)) in
+    let b = emitF (s .buf) (closedRowF Tag.Block (capped (s .ctx .scopes) 1) 0 0 (plan .moved)) in
     let items = capped (plan .kept) (plan .moved) in
     let rows = keptRowsF (b .t) after items in
     record {
@@ -55,8 +55,8 @@ enterProgramF q =
     let plan = planProgramF (q .records) (capped read 1) (r .n) in
     let v = chargedF w (capped (plan .added) blockRows) in
     let b =
-    passAsF (record { t = q .records; read = read; written = v .gap .0 })
-    (madeF (r .tag) (r .a) (r .b) (r .c) (capped (plan .kept) 1))
+    replaceRowF (record { t = q .records; read = read; written = v .gap .0 })
+    (closedRowF (r .tag) (r .a) (r .b) (r .c) (capped (plan .kept) 1))
     in
     let o = rewriteItemsF (r .n) plan (passingF b (q .symbols) (w .ctx)) in
     let s = insertScopeBelowF (o .records) (inScopes (q .scopes) (o .ctx)) (r .a) (o .block) (plan .moved) in

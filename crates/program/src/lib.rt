@@ -18,7 +18,7 @@ ghost use Rattle.program.specs.Arrange.{staying, keptRowsOneF, keptRowsF
 ghost use Rattle.program.specs.Program.{transformItemsF, rewriting, rewriteItemsF, enterProgramF};
 
 // The last row looked at, the rows that the items add, and how many items stay and move.
-pub struct Plan {
+pub struct ProgramPlan {
     pub at: RecordId,
     pub added: u16,
     pub kept: u16,
@@ -104,12 +104,12 @@ fn moved(item: Item) -> u16
 }
 
 // One item more.
-fn plan_item(records: &[u16], p: Plan) -> Plan
+fn plan_item(records: &[u16], p: ProgramPlan) -> ProgramPlan
     ensures { λ o. ⌜ o ≡ planItemF (now (records .entry)) p ⌝ }
 {
     let item = items::item_after(records, p.at);
     let names = exported_names(records, item, p.at);
-    Plan {
+    ProgramPlan {
         at: tables::end_after(records, p.at, 1),
         added: tables::plus(p.added, added(item, names)),
         kept: tables::plus(p.kept, kept(item)),
@@ -118,10 +118,10 @@ fn plan_item(records: &[u16], p: Plan) -> Plan
 }
 
 // What n items after a row come to.
-fn plan_program(records: &[u16], after: RecordId, n: u16) -> Plan
+fn plan_program(records: &[u16], after: RecordId, n: u16) -> ProgramPlan
     ensures { λ o. ⌜ o ≡ planProgramF (now (records .entry)) (after .0) n ⌝ }
 {
-    let mut p = Plan {
+    let mut p = ProgramPlan {
         at: after,
         added: 0,
         kept: 0,
@@ -272,7 +272,7 @@ fn rewrite_items(
     symbols: &mut [u16],
     start: Passing,
     n: u16,
-    plan: Plan,
+    plan: ProgramPlan,
 ) -> Rewritten
     ensures { λ o. ⌜ rewriting (now (records .exit)) (now (symbols .exit)) o ≡ rewriteItemsF n plan (passing (now (records .entry)) (now (symbols .entry)) start) ⌝ }
 {
@@ -283,7 +283,7 @@ fn rewrite_items(
     tables::emit(
         records,
         s.at,
-        tables::made(tag::BLOCK, tables::plus(ctx.scopes, 1), 0, 0, plan.moved),
+        tables::closed_row(tag::BLOCK, tables::plus(ctx.scopes, 1), 0, 0, plan.moved),
     );
     let items = tables::plus(plan.kept, plan.moved);
     let rows = kept_rows(records, after, items);
@@ -306,10 +306,10 @@ pub fn enter_program(records: &mut [u16], scopes: &mut [u16], symbols: &mut [u16
     let plan = plan_program(records, RecordId(tables::plus(read.0, 1)), r.n);
     let v = w.charge(tables::plus(plan.added, BLOCK_ROWS));
     let written = v.gap;
-    let at = tables::pass_as(
+    let at = tables::replace_row(
         records,
         Cursor { read, written },
-        tables::made(r.tag, r.a, r.b, r.c, tables::plus(plan.kept, 1)),
+        tables::closed_row(r.tag, r.a, r.b, r.c, tables::plus(plan.kept, 1)),
     );
     let ctx = w.ctx;
     let o = rewrite_items(records, symbols, Passing { at, ctx }, r.n, plan);

@@ -120,10 +120,10 @@ fn take_up_declarator(records: &mut [u16], q: Cursor, letter: u16, context: Symb
     ensures { λ o. ⌜ buf (now (records .exit)) o ≡ takeUpDeclaratorF letter (context .0) (buf (now (records .entry)) q) ⌝ }
 {
     let r = tables::row_after(records, q.read);
-    let q1 = tables::pass(records, q);
+    let q1 = tables::copy_row(records, q);
     if has_initializer(r) {
         let q2 = tables::copy(records, q1, r.b);
-        let q3 = tables::emit(records, q2, tables::made(tag::CALL, letter, context.0, 0, 1));
+        let q3 = tables::emit(records, q2, tables::closed_row(tag::CALL, letter, context.0, 0, 1));
         tables::copy(records, q3, tables::minus(r.n, r.b))
     } else {
         tables::copy(records, q1, r.n)
@@ -154,9 +154,9 @@ fn as_const(r: Row) -> Row
     ensures { λ o. ⌜ o ≡ asConstF r ⌝ }
 {
     if r.b == 0 {
-        tables::made(tag::DECLARATION, kind::CONST, 0, 0, r.n)
+        tables::closed_row(tag::DECLARATION, kind::CONST, 0, 0, r.n)
     } else {
-        tables::made(tag::DECLARATION, kind::VAR, 0, 0, r.n)
+        tables::closed_row(tag::DECLARATION, kind::VAR, 0, 0, r.n)
     }
 }
 
@@ -166,7 +166,7 @@ fn take_up_item(records: &mut [u16], q: Cursor, letter: u16, context: SymbolId) 
 {
     let r = tables::row_after(records, q.read);
     if is_using(r) {
-        let q1 = tables::pass_as(records, q, as_const(r));
+        let q1 = tables::replace_row(records, q, as_const(r));
         take_up_declarators(records, q1, r.n, letter, context)
     } else {
         tables::copy(records, q, 1)
@@ -319,9 +319,9 @@ pub fn step_form(awaits: u16) -> u16
 pub fn declare(records: &mut [u16], q: Cursor, kind: u16, y: SymbolId) -> Cursor
     ensures { λ o. ⌜ buf (now (records .exit)) o ≡ declareF kind (y .0) (buf (now (records .entry)) q) ⌝ }
 {
-    let q1 = tables::emit(records, q, tables::made(tag::DECLARATION, kind, 0, 0, 1));
-    let q2 = tables::emit(records, q1, tables::made(tag::DECLARATOR, 0, 1, 0, 2));
-    tables::emit(records, q2, tables::made(tag::NAME, y.0, 0, 0, 0))
+    let q1 = tables::emit(records, q, tables::closed_row(tag::DECLARATION, kind, 0, 0, 1));
+    let q2 = tables::emit(records, q1, tables::closed_row(tag::DECLARATOR, 0, 1, 0, 2));
+    tables::emit(records, q2, tables::closed_row(tag::NAME, y.0, 0, 0, 0))
 }
 
 // `var _usingCtx = usingCtx();`
@@ -329,21 +329,21 @@ pub fn declare_context(records: &mut [u16], q: Cursor, p: Parts) -> Cursor
     ensures { λ o. ⌜ buf (now (records .exit)) o ≡ declareContextF p (buf (now (records .entry)) q) ⌝ }
 {
     let q1 = declare(records, q, kind::VAR, p.context);
-    tables::emit(records, q1, tables::made(tag::LOAD, p.form, p.load.0, 0, 0))
+    tables::emit(records, q1, tables::closed_row(tag::LOAD, p.form, p.load.0, 0, 0))
 }
 
 // `catch (_) { _usingCtx.e = _; }`
 fn write_catch_clause(records: &mut [u16], q: Cursor, p: Parts) -> Cursor
     ensures { λ o. ⌜ buf (now (records .exit)) o ≡ catchClauseF p (buf (now (records .entry)) q) ⌝ }
 {
-    let q1 = tables::emit(records, q, tables::made(tag::CATCH, p.scope.0, 1, 0, 2));
-    let q2 = tables::emit(records, q1, tables::made(tag::NAME, p.error.0, 0, 0, 0));
+    let q1 = tables::emit(records, q, tables::closed_row(tag::CATCH, p.scope.0, 1, 0, 2));
+    let q2 = tables::emit(records, q1, tables::closed_row(tag::NAME, p.error.0, 0, 0, 0));
     let q3 = tables::emit(
         records,
         q2,
-        tables::made(tag::BLOCK, tables::plus(p.scope.0, 1), 0, 0, 1),
+        tables::closed_row(tag::BLOCK, tables::plus(p.scope.0, 1), 0, 0, 1),
     );
-    tables::emit(records, q3, tables::made(tag::STEP, step_form::KEEP_ERROR, p.context.0, p.error.0, 0))
+    tables::emit(records, q3, tables::closed_row(tag::STEP, step_form::KEEP_ERROR, p.context.0, p.error.0, 0))
 }
 
 // `finally { _usingCtx.d(); }`
@@ -353,9 +353,9 @@ fn write_finally_block(records: &mut [u16], q: Cursor, p: Parts) -> Cursor
     let q1 = tables::emit(
         records,
         q,
-        tables::made(tag::BLOCK, tables::plus(p.scope.0, 2), 0, 0, 1),
+        tables::closed_row(tag::BLOCK, tables::plus(p.scope.0, 2), 0, 0, 1),
     );
-    tables::emit(records, q1, tables::made(tag::STEP, p.step, p.context.0, 0, 0))
+    tables::emit(records, q1, tables::closed_row(tag::STEP, p.step, p.context.0, 0, 0))
 }
 
 // The Catch and the last Block.
@@ -370,8 +370,8 @@ pub fn write_handlers(records: &mut [u16], q: Cursor, p: Parts) -> Cursor
 pub fn open_try(records: &mut [u16], q: Cursor, scope: ScopeId, n: u16) -> Cursor
     ensures { λ o. ⌜ buf (now (records .exit)) o ≡ openTryF (scope .0) n (buf (now (records .entry)) q) ⌝ }
 {
-    let q1 = tables::emit(records, q, tables::made(tag::TRY, parts::BOTH, 0, 0, 3));
-    tables::emit(records, q1, tables::made(tag::BLOCK, scope.0, 0, 0, n))
+    let q1 = tables::emit(records, q, tables::closed_row(tag::TRY, parts::BOTH, 0, 0, 3));
+    tables::emit(records, q1, tables::closed_row(tag::BLOCK, scope.0, 0, 0, n))
 }
 
 // What stands in a Try around a list of n items, from its first Block's row on: the context, the list taken up, the handlers.

@@ -49,18 +49,18 @@ setRowF t i r =
     setColumnF t₅ i RecordTable.Left (r .left)
 
 -- a row that is not open
-abbrev pub madeF : ℕ → ℕ → ℕ → ℕ → ℕ → Row
-madeF t a b c n = record { tag = t; a = a; b = b; c = c; n = n; up = 0; left = 0 }
+abbrev pub closedRowF : ℕ → ℕ → ℕ → ℕ → ℕ → Row
+closedRowF t a b c n = record { tag = t; a = a; b = b; c = c; n = n; up = 0; left = 0 }
 
 abbrev pub headF : Row → Head
 headF r = hd (r .tag) (r .a) (r .b) (r .c)
 
 -- one place is cleared, and a row is stored at another
 unfoldable pub moveRowF : List ℕ → ℕ → ℕ → Row → List ℕ
-moveRowF t from to r = setRowF (setRowF t from (madeF 0 0 0 0 0)) to r
+moveRowF t from to r = setRowF (setRowF t from (closedRowF 0 0 0 0 0)) to r
 
 pub moved : (t t₁ t₂ : List ℕ) (from to : ℕ) (r : Row)
-    → t₁ ≡ setRowF t from (madeF 0 0 0 0 0) → t₂ ≡ setRowF t₁ to r → t₂ ≡ moveRowF t from to r
+    → t₁ ≡ setRowF t from (closedRowF 0 0 0 0 0) → t₂ ≡ setRowF t₁ to r → t₂ ≡ moveRowF t from to r
 unfolding moveRowF
 moved t t₁ t₂ from to r e f = rw e at f
 

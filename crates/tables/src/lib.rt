@@ -13,8 +13,8 @@ use meaning::RecordId;
 ghost use mathlib.Core.Path.{_≡_};
 ghost use Prim.Native.Nat.{_-_};
 ghost use lib.ListN.{getD, set};
-ghost use Rattle.tables.specs.Table.{capped, columnF, rowF, setColumnF, setRowF, madeF, moveRowF, endF};
-ghost use Rattle.tables.specs.Stream.{buf, emitF, passAsF, passF, copyF, backF, takeBackF};
+ghost use Rattle.tables.specs.Table.{capped, columnF, rowF, setColumnF, setRowF, closedRowF, moveRowF, endF};
+ghost use Rattle.tables.specs.Stream.{buf, emitF, replaceRowF, copyRowF, copyF, unreadRowF, takeBackF};
 
 // The largest number of a table, and the most rows that it can have.
 pub const LARGEST: u16 = 65535;
@@ -158,8 +158,8 @@ pub fn put_row(records: &mut [u16], after: RecordId, r: Row)
 }
 
 // A row that is not open.
-pub fn made(tag: u16, a: u16, b: u16, c: u16, n: u16) -> Row
-    ensures { λ r. ⌜ r ≡ madeF tag a b c n ⌝ }
+pub fn closed_row(tag: u16, a: u16, b: u16, c: u16, n: u16) -> Row
+    ensures { λ r. ⌜ r ≡ closedRowF tag a b c n ⌝ }
 {
     Row {
         tag,
@@ -174,14 +174,14 @@ pub fn made(tag: u16, a: u16, b: u16, c: u16, n: u16) -> Row
 
 // Clears the row after another, where the table may end inside it.
 fn clear_by_column(records: &mut [u16], after: RecordId)
-    ensures { λ _. ⌜ now (records .exit) ≡ setRowF (now (records .entry)) (after .0) (madeF 0 0 0 0 0) ⌝ }
+    ensures { λ _. ⌜ now (records .exit) ≡ setRowF (now (records .entry)) (after .0) (closedRowF 0 0 0 0 0) ⌝ }
 {
-    put_by_column(records, after, made(0, 0, 0, 0, 0));
+    put_by_column(records, after, closed_row(0, 0, 0, 0, 0));
 }
 
 // Clears the row after another: a free row's numbers are 0.
 pub fn clear_row(records: &mut [u16], after: RecordId)
-    ensures { λ _. ⌜ now (records .exit) ≡ setRowF (now (records .entry)) (after .0) (madeF 0 0 0 0 0) ⌝ }
+    ensures { λ _. ⌜ now (records .exit) ≡ setRowF (now (records .entry)) (after .0) (closedRowF 0 0 0 0 0) ⌝ }
 {
     let at = (after.0 as usize) * record::NUMBERS;
     if records.len() < at + record::NUMBERS {
@@ -236,8 +236,8 @@ pub fn emit(records: &mut [u16], q: Cursor, r: Row) -> Cursor
 }
 
 // Writes a row in the place of the next one.
-pub fn pass_as(records: &mut [u16], q: Cursor, r: Row) -> Cursor
-    ensures { λ o. ⌜ buf (now (records .exit)) o ≡ passAsF (buf (now (records .entry)) q) r ⌝ }
+pub fn replace_row(records: &mut [u16], q: Cursor, r: Row) -> Cursor
+    ensures { λ o. ⌜ buf (now (records .exit)) o ≡ replaceRowF (buf (now (records .entry)) q) r ⌝ }
 {
     move_row(records, q.read, q.written, r);
     Cursor {
@@ -247,11 +247,11 @@ pub fn pass_as(records: &mut [u16], q: Cursor, r: Row) -> Cursor
 }
 
 // Copies the next row.
-pub fn pass(records: &mut [u16], q: Cursor) -> Cursor
-    ensures { λ o. ⌜ buf (now (records .exit)) o ≡ passF (buf (now (records .entry)) q) ⌝ }
+pub fn copy_row(records: &mut [u16], q: Cursor) -> Cursor
+    ensures { λ o. ⌜ buf (now (records .exit)) o ≡ copyRowF (buf (now (records .entry)) q) ⌝ }
 {
     let r = row_after(records, q.read);
-    pass_as(records, q, r)
+    replace_row(records, q, r)
 }
 
 // Copies `count` whole subtrees.
@@ -279,8 +279,8 @@ pub fn copy(records: &mut [u16], q: Cursor, count: u16) -> Cursor
 }
 
 // The last row written goes behind the free rows again.
-pub fn back(records: &mut [u16], q: Cursor) -> Cursor
-    ensures { λ o. ⌜ buf (now (records .exit)) o ≡ backF (buf (now (records .entry)) q) ⌝ }
+pub fn unread_row(records: &mut [u16], q: Cursor) -> Cursor
+    ensures { λ o. ⌜ buf (now (records .exit)) o ≡ unreadRowF (buf (now (records .entry)) q) ⌝ }
 {
     let from = RecordId(minus(q.written.0, 1));
     let to = RecordId(minus(q.read.0, 1));
@@ -299,7 +299,7 @@ pub fn take_back(records: &mut [u16], start: Cursor, n: u16) -> Cursor
     let mut q = start;
     let mut k: u16 = 0;
     while k < n {
-        q = back(records, q);
+        q = unread_row(records, q);
         k += 1;
     }
     q

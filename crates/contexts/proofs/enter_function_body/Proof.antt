@@ -25,18 +25,15 @@ returns c =
     let at-with-ctx = c in
     let at-write-wrapped = at-with-ctx .before .before .before in
     let at-list-scope = at-write-wrapped .before in
-    let at-made = at-list-scope .before in
-    let at-charge = at-made .before .before .before in
-    let at-plus2 = at-charge .before in
-    let at-for-body = at-plus2 .before .before .before .before .before in
-    let at-plus = at-for-body .before .before .before .before in
-    let at-column = at-plus .before in
-    let at-hoist-scope = at-column .before .before .before in
-    let at-current-scope = at-hoist-scope .before .before in
-    rw (← at-current-scope .current-scope .ensures, ← at-hoist-scope .hoist-scope .ensures, ← at-column .column .ensures, ← at-plus .plus .ensures, ← at-for-body .for-body .ensures, ← at-plus2 .plus2 .ensures, ← at-charge .charge .ensures, ← at-made .made .ensures, ← at-list-scope .list-scope .ensures, ← at-write-wrapped .write-wrapped .ensures, ← at-with-ctx .with-ctx .ensures)
+    let at-closed-row = at-list-scope .before in
+    let at-charge = at-closed-row .before .before .before in
+    let at-plus = at-charge .before in
+    let at-for-body = at-plus .before .before .before .before .before in
+    let at-column = at-for-body .before .before .before .before in
+    rw (← at-column .column .ensures, ← at-for-body .for-body .ensures, ← at-plus .plus .ensures, ← at-charge .charge .ensures, ← at-closed-row .closed-row .ensures, ← at-list-scope .list-scope .ensures, ← at-write-wrapped .write-wrapped .ensures, ← at-with-ctx .with-ctx .ensures)
 
 pub enter-function-body-spec : {M : Type 1} → statement M
 enter-function-body-spec =
     tie.close
     (tie.spec
-    (λ c κs. search needs) (λ c κs. search needs) (λ c κs. search needs) (λ c κs. search needs) (λ c κs. search needs) (λ c κs. search needs) (λ c κs. search needs) (λ c κs. search needs) (λ c κs. search needs) (λ c κs. search needs) (λ c κs. search needs) same-length same-length-2 same-length-3 returns)
+    (λ c κs. search needs) (λ c κs. search needs) (λ c κs. search needs) (λ c κs. search needs) (λ c κs. search needs) (λ c κs. search needs) (λ c κs. search needs) (λ c κs. search needs) same-length same-length-2 same-length-3 returns)

@@ -25,11 +25,11 @@ returns c =
     let at-with-ctx = c in
     let at-with-cursor = at-with-ctx .before in
     let at-write-wrapped = at-with-cursor .before .before .before in
-    let at-made = at-write-wrapped .before in
-    let at-list-scope = at-made .before .before in
+    let at-closed-row = at-write-wrapped .before in
+    let at-list-scope = at-closed-row .before .before in
     let at-for-static-block = at-list-scope .before .before .before .before .before in
     let at-column = at-for-static-block .before .before .before in
-    rw (← at-column .column .ensures, ← at-for-static-block .for-static-block .ensures, ← at-list-scope .list-scope .ensures, ← at-made .made .ensures, ← at-write-wrapped .write-wrapped .ensures, ← at-with-cursor .with-cursor .ensures, ← at-with-ctx .with-ctx .ensures)
+    rw (← at-column .column .ensures, ← at-for-static-block .for-static-block .ensures, ← at-list-scope .list-scope .ensures, ← at-closed-row .closed-row .ensures, ← at-write-wrapped .write-wrapped .ensures, ← at-with-cursor .with-cursor .ensures, ← at-with-ctx .with-ctx .ensures)
 
 pub exit-static-block-spec : {M : Type 1} → statement M
 exit-static-block-spec =

@@ -9,8 +9,8 @@ use Rattle.contexts.proofs.transform_handler.Tie as tie
 same-length : tie.Need-same-length
 same-length c =
     let at-transform-parts = c .before .before .before .before .before .before .before in
-    let at-pass = at-transform-parts .before .before .before .before .before .before .before in
-    at-transform-parts .transform-parts .kept .0 ∙ at-pass .pass .kept .0
+    let at-copy-row = at-transform-parts .before .before .before .before .before .before .before in
+    at-transform-parts .transform-parts .kept .0 ∙ at-copy-row .copy-row .kept .0
 
 same-length-2 : tie.Need-same-length-2
 same-length-2 c =
@@ -27,17 +27,17 @@ unfolding transformHandlerF
 returns c =
     let at-if1 = c in
     let at-transform-parts = at-if1 .before .before .before .before .before .before .before in
-    let at-pass = at-transform-parts .before .before .before .before .before .before .before in
-    let at-plan-parts = at-pass .before .before .before in
+    let at-copy-row = at-transform-parts .before .before .before .before .before .before .before in
+    let at-plan-parts = at-copy-row .before .before .before in
     let at-plus = at-plan-parts .before in
     let at-column = at-plus .before .before in
-    rw (← at-column .column .ensures, ← at-plus .plus .ensures, ← at-plan-parts .plan-parts .ensures, ← at-pass .pass .ensures, ← at-transform-parts .transform-parts .ensures, eq-eqb _ _ (at-if1 .if1 .taken))
+    rw (← at-column .column .ensures, ← at-plus .plus .ensures, ← at-plan-parts .plan-parts .ensures, ← at-copy-row .copy-row .ensures, ← at-transform-parts .transform-parts .ensures, eq-eqb _ _ (at-if1 .if1 .taken))
 
 same-length-4 : tie.Need-same-length-4
 same-length-4 c =
     let at-transform-parts = c .before .before .before .before .before .before .before .before .before .before .before .before .before .before in
-    let at-pass = at-transform-parts .before .before .before .before .before .before .before in
-    at-transform-parts .transform-parts .kept .0 ∙ at-pass .pass .kept .0
+    let at-copy-row = at-transform-parts .before .before .before .before .before .before .before in
+    at-transform-parts .transform-parts .kept .0 ∙ at-copy-row .copy-row .kept .0
 
 same-length-5 : tie.Need-same-length-5
 same-length-5 c =
@@ -58,11 +58,11 @@ returns-2 c =
     let at-plus2 = at-last-block-scope .before .before .before in
     let at-if1 = at-plus2 .before in
     let at-transform-parts = at-if1 .before .before .before .before .before .before .before in
-    let at-pass = at-transform-parts .before .before .before .before .before .before .before in
-    let at-plan-parts = at-pass .before .before .before in
+    let at-copy-row = at-transform-parts .before .before .before .before .before .before .before in
+    let at-plan-parts = at-copy-row .before .before .before in
     let at-plus = at-plan-parts .before in
     let at-column = at-plus .before .before in
-    rw (← at-column .column .ensures, ← at-plus .plus .ensures, ← at-plan-parts .plan-parts .ensures, ← at-pass .pass .ensures, ← at-transform-parts .transform-parts .ensures, ne-eqb _ _ (at-if1 .if1 .left), ← at-plus2 .plus2 .ensures, ← at-last-block-scope .last-block-scope .ensures, ← at-move-names .move-names .ensures)
+    rw (← at-column .column .ensures, ← at-plus .plus .ensures, ← at-plan-parts .plan-parts .ensures, ← at-copy-row .copy-row .ensures, ← at-transform-parts .transform-parts .ensures, ne-eqb _ _ (at-if1 .if1 .left), ← at-plus2 .plus2 .ensures, ← at-last-block-scope .last-block-scope .ensures, ← at-move-names .move-names .ensures)
 
 pub transform-handler-spec : {M : Type 1} → statement M
 transform-handler-spec =

@@ -23,11 +23,11 @@ returns : tie.Need-returns
 unfolding transformTryBlockF
 returns c =
     let at-write-wrapped = c .before .before .before in
-    let at-made = at-write-wrapped .before in
-    let at-list-scope = at-made .before .before in
+    let at-closed-row = at-write-wrapped .before in
+    let at-list-scope = at-closed-row .before .before in
     let at-for-try-part = at-list-scope .before .before .before .before .before in
     let at-column = at-for-try-part .before .before .before in
-    rw (← at-column .column .ensures, ← at-for-try-part .for-try-part .ensures, ← at-list-scope .list-scope .ensures, ← at-made .made .ensures, ← at-write-wrapped .write-wrapped .ensures)
+    rw (← at-column .column .ensures, ← at-for-try-part .for-try-part .ensures, ← at-list-scope .list-scope .ensures, ← at-closed-row .closed-row .ensures, ← at-write-wrapped .write-wrapped .ensures)
 
 pub transform-try-block-spec : {M : Type 1} → statement M
 transform-try-block-spec =

@@ -9,8 +9,8 @@ same-length : tie.Need-same-length
 same-length c =
     let at-transform-list = c .before .before in
     let at-open-try = at-transform-list .before .before .before .before in
-    let at-pass-as = at-open-try .before .before .before .before .before in
-    at-transform-list .transform-list .kept .0 ∙ at-open-try .open-try .kept .0 ∙ at-pass-as .pass-as .kept .0
+    let at-replace-row = at-open-try .before .before .before .before .before in
+    at-transform-list .transform-list .kept .0 ∙ at-open-try .open-try .kept .0 ∙ at-replace-row .replace-row .kept .0
 
 returns : tie.Need-returns
 unfolding wrappedRowsF
@@ -18,9 +18,9 @@ returns c =
     let at-transform-list = c .before .before in
     let at-open-try = at-transform-list .before .before .before .before in
     let at-plus = at-open-try .before in
-    let at-pass-as = at-plus .before .before .before .before in
-    let at-column = at-pass-as .before .before in
-    rw (← at-column .column .ensures, ← at-pass-as .pass-as .ensures, ← at-plus .plus .ensures, ← at-open-try .open-try .ensures, ← at-transform-list .transform-list .ensures)
+    let at-replace-row = at-plus .before .before .before .before in
+    let at-column = at-replace-row .before .before in
+    rw (← at-column .column .ensures, ← at-replace-row .replace-row .ensures, ← at-plus .plus .ensures, ← at-open-try .open-try .ensures, ← at-transform-list .transform-list .ensures)
 
 pub write-wrapped-spec : {M : Type 1} → statement M
 write-wrapped-spec =

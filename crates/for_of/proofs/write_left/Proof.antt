@@ -8,11 +8,11 @@ use Rattle.for_of.proofs.write_left.Tie as tie
 same-length : tie.Need-same-length
 same-length c =
     let at-copy = c .before .before in
-    let at-pass-as2 = at-copy .before .before .before .before .before .before .before in
-    let at-pass2 = at-pass-as2 .before .before .before .before .before .before .before in
-    let at-pass-as = at-pass2 .before .before .before .before .before .before in
-    let at-pass = at-pass-as .before .before .before .before .before .before .before in
-    at-copy .copy .kept .0 ∙ at-pass-as2 .pass-as2 .kept .0 ∙ at-pass2 .pass2 .kept .0 ∙ at-pass-as .pass-as .kept .0 ∙ at-pass .pass .kept .0
+    let at-replace-row2 = at-copy .before .before .before .before .before .before .before in
+    let at-copy-row2 = at-replace-row2 .before .before .before .before .before .before .before in
+    let at-replace-row = at-copy-row2 .before .before .before .before .before .before in
+    let at-copy-row = at-replace-row .before .before .before .before .before .before .before in
+    at-copy .copy .kept .0 ∙ at-replace-row2 .replace-row2 .kept .0 ∙ at-copy-row2 .copy-row2 .kept .0 ∙ at-replace-row .replace-row .kept .0 ∙ at-copy-row .copy-row .kept .0
 
 returns : tie.Need-returns
 unfolding leftRowsF
@@ -21,16 +21,16 @@ returns c =
     let at-plus2 = at-copy .before .before in
     let at-plus = at-plus2 .before in
     let at-minus = at-plus .before in
-    let at-pass-as2 = at-minus .before .before .before in
-    let at-made2 = at-pass-as2 .before in
-    let at-column3 = at-made2 .before .before in
-    let at-pass2 = at-column3 .before .before .before .before in
-    let at-column2 = at-pass2 .before .before in
-    let at-pass-as = at-column2 .before .before .before .before in
-    let at-made = at-pass-as .before in
-    let at-column = at-made .before .before in
-    let at-pass = at-column .before .before .before .before in
-    rw (← at-pass .pass .ensures, ← at-column .column .ensures, ← at-made .made .ensures, ← at-pass-as .pass-as .ensures, ← at-column2 .column2 .ensures, ← at-pass2 .pass2 .ensures, ← at-column3 .column3 .ensures, ← at-made2 .made2 .ensures, ← at-pass-as2 .pass-as2 .ensures, ← at-minus .minus .ensures, ← at-plus .plus .ensures, ← at-plus2 .plus2 .ensures, ← at-copy .copy .ensures)
+    let at-replace-row2 = at-minus .before .before .before in
+    let at-closed-row2 = at-replace-row2 .before in
+    let at-column3 = at-closed-row2 .before .before in
+    let at-copy-row2 = at-column3 .before .before .before .before in
+    let at-column2 = at-copy-row2 .before .before in
+    let at-replace-row = at-column2 .before .before .before .before in
+    let at-closed-row = at-replace-row .before in
+    let at-column = at-closed-row .before .before in
+    let at-copy-row = at-column .before .before .before .before in
+    rw (← at-copy-row .copy-row .ensures, ← at-column .column .ensures, ← at-closed-row .closed-row .ensures, ← at-replace-row .replace-row .ensures, ← at-column2 .column2 .ensures, ← at-copy-row2 .copy-row2 .ensures, ← at-column3 .column3 .ensures, ← at-closed-row2 .closed-row2 .ensures, ← at-replace-row2 .replace-row2 .ensures, ← at-minus .minus .ensures, ← at-plus .plus .ensures, ← at-plus2 .plus2 .ensures, ← at-copy .copy .ensures)
 
 pub write-left-spec : {M : Type 1} → statement M
 write-left-spec =

@@ -17,9 +17,9 @@ unfolding wrapRowsF
 returns c =
     let at-write-using = c .before .before in
     let at-emit = at-write-using .before .before .before .before in
-    let at-made = at-emit .before in
-    let at-write-left = at-made .before .before .before .before in
-    rw (← at-write-left .write-left .ensures, ← at-made .made .ensures, ← at-emit .emit .ensures, ← at-write-using .write-using .ensures)
+    let at-closed-row = at-emit .before in
+    let at-write-left = at-closed-row .before .before .before .before in
+    rw (← at-write-left .write-left .ensures, ← at-closed-row .closed-row .ensures, ← at-emit .emit .ensures, ← at-write-using .write-using .ensures)
 
 pub write-wrap-spec : {M : Type 1} → statement M
 write-wrap-spec =

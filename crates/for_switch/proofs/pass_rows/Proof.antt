@@ -4,7 +4,7 @@ use Prim.Native.Nat.{_-_, _≤_}
 use native.Mathlib.Nat.{sub-zero}
 use lib.ListN.{length}
 use Rattle.tables.specs.Loops.{turns, next-turn, last-turn}
-use Rattle.tables.specs.Stream.{buf, passF}
+use Rattle.tables.specs.Stream.{buf, copyRowF}
 use Rattle.for_switch.specs.For.{passRowsF}
 use borrow.Author.Needs.{needs}
 use Rattle.for_switch.proofs.pass_rows.Statement.{statement}
@@ -12,7 +12,7 @@ use Rattle.for_switch.proofs.pass_rows.Tie as tie
 
 abbrev Inv-loop : tie.InvT-loop
 Inv-loop records₀ n q₀ k₀ records q k =
-    (k ≤ n) × (length records ≡ length records₀) × (turns n passF (buf records₀ q₀) ≡ turns (n - k) passF (buf records q))
+    (k ≤ n) × (length records ≡ length records₀) × (turns n copyRowF (buf records₀ q₀) ≡ turns (n - k) copyRowF (buf records q))
 
 abbrev μ-loop : tie.MeasureT-loop
 μ-loop records₀ n q₀ k₀ records q k = n - k
@@ -22,10 +22,10 @@ loop-holds c = (search needs, refl, rw sub-zero)
 
 loop-again : tie.Need-loop-again Inv-loop μ-loop
 loop-again c =
-    let at-pass = c .before .before in
-    let at-loop-test = at-pass .before .before in
+    let at-copy-row = c .before .before in
+    let at-loop-test = at-copy-row .before .before in
     let at-loop = at-loop-test .before in
-    (search needs, at-pass .pass .kept .0 ∙ at-loop .loop .inv .1, rw (at-pass .pass .ensures) (next-turn _ _ _ _ _ (at-loop .loop .inv .2) (at-loop-test .loop-test .taken)))
+    (search needs, at-copy-row .copy-row .kept .0 ∙ at-loop .loop .inv .1, rw (at-copy-row .copy-row .ensures) (next-turn _ _ _ _ _ (at-loop .loop .inv .2) (at-loop-test .loop-test .taken)))
 
 returns : tie.Need-returns Inv-loop μ-loop
 unfolding passRowsF

@@ -27,12 +27,10 @@ returns c =
     let at-charge = at-write-for .before .before .before in
     let at-plus = at-charge .before in
     let at-for-loop = at-plus .before .before .before .before .before in
-    let at-hoist-scope = at-for-loop .before .before .before .before .before in
-    let at-current-scope = at-hoist-scope .before .before in
-    rw (← at-current-scope .current-scope .ensures, ← at-hoist-scope .hoist-scope .ensures, ← at-for-loop .for-loop .ensures, ← at-plus .plus .ensures, ← at-charge .charge .ensures, ← at-write-for .write-for .ensures, ← at-with-ctx .with-ctx .ensures)
+    rw (← at-for-loop .for-loop .ensures, ← at-plus .plus .ensures, ← at-charge .charge .ensures, ← at-write-for .write-for .ensures, ← at-with-ctx .with-ctx .ensures)
 
 pub transform-for-statement-spec : {M : Type 1} → statement M
 transform-for-statement-spec =
     tie.close
     (tie.spec
-    (λ c κs. search needs) (λ c κs. search needs) (λ c κs. search needs) (λ c κs. search needs) (λ c κs. search needs) (λ c κs. search needs) (λ c κs. search needs) same-length same-length-2 same-length-3 returns)
+    (λ c κs. search needs) (λ c κs. search needs) (λ c κs. search needs) (λ c κs. search needs) (λ c κs. search needs) same-length same-length-2 same-length-3 returns)

@@ -9,22 +9,22 @@ same-length : tie.Need-same-length
 same-length c =
     let at-write-handlers = c .before .before in
     let at-take-up-cases = at-write-handlers .before .before .before .before in
-    let at-pass = at-take-up-cases .before .before .before .before in
-    let at-declare-context = at-pass .before .before .before .before in
+    let at-copy-row = at-take-up-cases .before .before .before .before in
+    let at-declare-context = at-copy-row .before .before .before .before in
     let at-open-try = at-declare-context .before .before .before .before in
-    at-write-handlers .write-handlers .kept .0 ∙ at-take-up-cases .take-up-cases .kept .0 ∙ at-pass .pass .kept .0 ∙ at-declare-context .declare-context .kept .0 ∙ at-open-try .open-try .kept .0
+    at-write-handlers .write-handlers .kept .0 ∙ at-take-up-cases .take-up-cases .kept .0 ∙ at-copy-row .copy-row .kept .0 ∙ at-declare-context .declare-context .kept .0 ∙ at-open-try .open-try .kept .0
 
 returns : tie.Need-returns
 unfolding switchRowsF
 returns c =
     let at-write-handlers = c .before .before in
     let at-take-up-cases = at-write-handlers .before .before .before .before in
-    let at-pass = at-take-up-cases .before .before .before .before in
-    let at-declare-context = at-pass .before .before .before .before in
+    let at-copy-row = at-take-up-cases .before .before .before .before in
+    let at-declare-context = at-copy-row .before .before .before .before in
     let at-open-try = at-declare-context .before .before .before .before in
     let at-list-scope = at-open-try .before in
     let at-column = at-list-scope .before .before in
-    rw (← at-column .column .ensures, ← at-list-scope .list-scope .ensures, ← at-open-try .open-try .ensures, ← at-declare-context .declare-context .ensures, ← at-pass .pass .ensures, ← at-take-up-cases .take-up-cases .ensures, ← at-write-handlers .write-handlers .ensures)
+    rw (← at-column .column .ensures, ← at-list-scope .list-scope .ensures, ← at-open-try .open-try .ensures, ← at-declare-context .declare-context .ensures, ← at-copy-row .copy-row .ensures, ← at-take-up-cases .take-up-cases .ensures, ← at-write-handlers .write-handlers .ensures)
 
 pub write-switch-spec : {M : Type 1} → statement M
 write-switch-spec =

@@ -14,8 +14,8 @@ unfolding dropF
 returns c =
     let at-plus = c in
     let at-put-row = at-plus .before .before .before in
-    let at-made = at-put-row .before in
-    rw (← at-made .made .ensures, ← at-put-row .put-row .ensures, ← at-plus .plus .ensures)
+    let at-closed-row = at-put-row .before in
+    rw (← at-closed-row .closed-row .ensures, ← at-put-row .put-row .ensures, ← at-plus .plus .ensures)
 
 pub drop-row-spec : {M : Type 1} → statement M
 drop-row-spec =

@@ -8,11 +8,11 @@ use Rattle.items.proofs.exported_declaration.Tie as tie
 same-length : tie.Need-same-length
 same-length c =
     let at-copy = c .before .before in
-    let at-pass-as = at-copy .before .before .before .before in
-    let at-write-specifiers = at-pass-as .before .before .before .before .before in
+    let at-replace-row = at-copy .before .before .before .before in
+    let at-write-specifiers = at-replace-row .before .before .before .before .before in
     let at-emit = at-write-specifiers .before .before .before .before .before in
     let at-drop-row = at-emit .before .before .before .before .before .before .before .before .before .before .before .before .before .before .before in
-    at-copy .copy .kept .0 ∙ at-pass-as .pass-as .kept .0 ∙ at-write-specifiers .write-specifiers .kept .0 ∙ at-emit .emit .kept .0 ∙ at-drop-row .drop-row .kept .0
+    at-copy .copy .kept .0 ∙ at-replace-row .replace-row .kept .0 ∙ at-write-specifiers .write-specifiers .kept .0 ∙ at-emit .emit .kept .0 ∙ at-drop-row .drop-row .kept .0
 
 same-length-2 : tie.Need-same-length-2
 same-length-2 c =
@@ -23,17 +23,17 @@ returns : tie.Need-returns
 unfolding exportedDeclarationF
 returns c =
     let at-copy = c .before .before in
-    let at-pass-as = at-copy .before .before .before .before in
-    let at-made2 = at-pass-as .before in
-    let at-write-specifiers = at-made2 .before .before .before .before in
+    let at-replace-row = at-copy .before .before .before .before in
+    let at-closed-row2 = at-replace-row .before in
+    let at-write-specifiers = at-closed-row2 .before .before .before .before in
     let at-emit = at-write-specifiers .before .before .before .before .before in
-    let at-made = at-emit .before in
-    let at-count-names = at-made .before .before in
+    let at-closed-row = at-emit .before in
+    let at-count-names = at-closed-row .before .before in
     let at-flag-names = at-count-names .before .before .before .before in
     let at-plus = at-flag-names .before .before .before in
     let at-column = at-plus .before in
     let at-drop-row = at-column .before .before .before .before in
-    rw (← at-drop-row .drop-row .ensures, ← at-column .column .ensures, ← at-plus .plus .ensures, ← at-flag-names .flag-names .ensures, ← at-count-names .count-names .ensures, ← at-made .made .ensures, ← at-emit .emit .ensures, ← at-write-specifiers .write-specifiers .ensures, ← at-made2 .made2 .ensures, ← at-pass-as .pass-as .ensures, ← at-copy .copy .ensures)
+    rw (← at-drop-row .drop-row .ensures, ← at-column .column .ensures, ← at-plus .plus .ensures, ← at-flag-names .flag-names .ensures, ← at-count-names .count-names .ensures, ← at-closed-row .closed-row .ensures, ← at-emit .emit .ensures, ← at-write-specifiers .write-specifiers .ensures, ← at-closed-row2 .closed-row2 .ensures, ← at-replace-row .replace-row .ensures, ← at-copy .copy .ensures)
 
 pub exported-declaration-spec : {M : Type 1} → statement M
 exported-declaration-spec =

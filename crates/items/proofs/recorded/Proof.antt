@@ -7,18 +7,18 @@ use Rattle.items.proofs.recorded.Tie as tie
 returns : tie.Need-returns
 unfolding recordedF
 returns c =
-    let at-made = c in
-    let at-if1 = at-made .before in
+    let at-closed-row = c in
+    let at-if1 = at-closed-row .before in
     let at-is-using = at-if1 .before in
-    rw (← at-is-using .is-using .ensures, at-if1 .if1 .taken, ← at-made .made .ensures)
+    rw (← at-is-using .is-using .ensures, at-if1 .if1 .taken, ← at-closed-row .closed-row .ensures)
 
 returns-2 : tie.Need-returns-2
 unfolding recordedF
 returns-2 c =
-    let at-made2 = c in
-    let at-if1 = at-made2 .before in
+    let at-closed-row2 = c in
+    let at-if1 = at-closed-row2 .before in
     let at-is-using = at-if1 .before in
-    rw (← at-is-using .is-using .ensures, at-if1 .if1 .left, ← at-made2 .made2 .ensures)
+    rw (← at-is-using .is-using .ensures, at-if1 .if1 .left, ← at-closed-row2 .closed-row2 .ensures)
 
 pub recorded-spec : {M : Type 1} → statement M
 recorded-spec =

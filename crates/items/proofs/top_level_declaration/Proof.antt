@@ -8,8 +8,8 @@ use Rattle.items.proofs.top_level_declaration.Tie as tie
 same-length : tie.Need-same-length
 same-length c =
     let at-copy = c .before .before in
-    let at-pass-as = at-copy .before .before .before .before in
-    at-copy .copy .kept .0 ∙ at-pass-as .pass-as .kept .0
+    let at-replace-row = at-copy .before .before .before .before in
+    at-copy .copy .kept .0 ∙ at-replace-row .replace-row .kept .0
 
 same-length-2 : tie.Need-same-length-2
 same-length-2 c =
@@ -20,12 +20,12 @@ returns : tie.Need-returns
 unfolding declaredF
 returns c =
     let at-copy = c .before .before in
-    let at-pass-as = at-copy .before .before .before .before in
-    let at-recorded = at-pass-as .before in
+    let at-replace-row = at-copy .before .before .before .before in
+    let at-recorded = at-replace-row .before in
     let at-flag-names = at-recorded .before .before .before .before in
     let at-plus = at-flag-names .before in
     let at-row-after = at-plus .before .before .before in
-    rw (← at-row-after .row-after .ensures, ← at-plus .plus .ensures, ← at-flag-names .flag-names .ensures, ← at-recorded .recorded .ensures, ← at-pass-as .pass-as .ensures, ← at-copy .copy .ensures)
+    rw (← at-row-after .row-after .ensures, ← at-plus .plus .ensures, ← at-flag-names .flag-names .ensures, ← at-recorded .recorded .ensures, ← at-replace-row .replace-row .ensures, ← at-copy .copy .ensures)
 
 pub top-level-declaration-spec : {M : Type 1} → statement M
 top-level-declaration-spec =

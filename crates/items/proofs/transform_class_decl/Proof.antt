@@ -18,10 +18,10 @@ returns : tie.Need-returns
 unfolding classF
 returns c =
     let at-write-value = c .before .before in
-    let at-made = at-write-value .before in
-    let at-preserve-class-expression-name = at-made .before .before .before .before in
+    let at-closed-row = at-write-value .before in
+    let at-preserve-class-expression-name = at-closed-row .before .before .before .before in
     let at-row-after = at-preserve-class-expression-name .before .before in
-    rw (← at-row-after .row-after .ensures, ← at-preserve-class-expression-name .preserve-class-expression-name .ensures, ← at-made .made .ensures, ← at-write-value .write-value .ensures)
+    rw (← at-row-after .row-after .ensures, ← at-preserve-class-expression-name .preserve-class-expression-name .ensures, ← at-closed-row .closed-row .ensures, ← at-write-value .write-value .ensures)
 
 pub transform-class-decl-spec : {M : Type 1} → statement M
 transform-class-decl-spec =

@@ -13,13 +13,13 @@ returns : tie.Need-returns
 unfolding specifierF
 returns c =
     let at-emit = c .before .before in
-    let at-made = at-emit .before in
-    let at-symbol-number = at-made .before .before in
+    let at-closed-row = at-emit .before in
+    let at-symbol-number = at-closed-row .before .before in
     let at-column = at-symbol-number .before in
     let at-if1 = at-column .before .before in
     let at-is-name = at-if1 .before in
     let at-next-name = at-is-name .before .before in
-    rw (← at-next-name .next-name .ensures, ← at-is-name .is-name .ensures, at-if1 .if1 .taken, ← at-column .column .ensures, ← at-symbol-number .symbol-number .ensures, ← at-made .made .ensures, ← at-emit .emit .ensures)
+    rw (← at-next-name .next-name .ensures, ← at-is-name .is-name .ensures, at-if1 .if1 .taken, ← at-column .column .ensures, ← at-symbol-number .symbol-number .ensures, ← at-closed-row .closed-row .ensures, ← at-emit .emit .ensures)
 
 returns-2 : tie.Need-returns-2
 unfolding specifierF

@@ -8,17 +8,17 @@ use Rattle.items.proofs.write_value.Tie as tie
 same-length : tie.Need-same-length
 same-length c =
     let at-copy = c .before .before in
-    let at-pass-as = at-copy .before .before .before .before in
-    let at-declare = at-pass-as .before .before .before .before in
-    at-copy .copy .kept .0 ∙ at-pass-as .pass-as .kept .0 ∙ at-declare .declare .kept .0
+    let at-replace-row = at-copy .before .before .before .before in
+    let at-declare = at-replace-row .before .before .before .before in
+    at-copy .copy .kept .0 ∙ at-replace-row .replace-row .kept .0 ∙ at-declare .declare .kept .0
 
 returns : tie.Need-returns
 unfolding valueRowsF
 returns c =
     let at-copy = c .before .before in
-    let at-pass-as = at-copy .before .before .before .before in
-    let at-declare = at-pass-as .before .before .before .before in
-    rw (← at-declare .declare .ensures, ← at-pass-as .pass-as .ensures, ← at-copy .copy .ensures)
+    let at-replace-row = at-copy .before .before .before .before in
+    let at-declare = at-replace-row .before .before .before .before in
+    rw (← at-declare .declare .ensures, ← at-replace-row .replace-row .ensures, ← at-copy .copy .ensures)
 
 pub write-value-spec : {M : Type 1} → statement M
 write-value-spec =

@@ -26,10 +26,10 @@ returns c =
     let at-kept-rows = at-arrange .before .before in
     let at-plus2 = at-kept-rows .before .before in
     let at-emit = at-plus2 .before .before .before in
-    let at-made = at-emit .before in
-    let at-plus = at-made .before in
+    let at-closed-row = at-emit .before in
+    let at-plus = at-closed-row .before in
     let at-transform-items = at-plus .before .before .before .before .before .before .before in
-    rw (← at-transform-items .transform-items .ensures, ← at-plus .plus .ensures, ← at-made .made .ensures, ← at-emit .emit .ensures, ← at-plus2 .plus2 .ensures, ← at-kept-rows .kept-rows .ensures, ← at-arrange .arrange .ensures, ← at-plus3 .plus3 .ensures, ← at-plus4 .plus4 .ensures)
+    rw (← at-transform-items .transform-items .ensures, ← at-plus .plus .ensures, ← at-closed-row .closed-row .ensures, ← at-emit .emit .ensures, ← at-plus2 .plus2 .ensures, ← at-kept-rows .kept-rows .ensures, ← at-arrange .arrange .ensures, ← at-plus3 .plus3 .ensures, ← at-plus4 .plus4 .ensures)
 
 pub rewrite-items-spec : {M : Type 1} → statement M
 rewrite-items-spec =

@@ -18,7 +18,7 @@ use Rattle.meaning.specs.Program.{
   asExpression,
   defaultValue,
 }
-use Rattle.tables.specs.Table.{madeF}
+use Rattle.tables.specs.Table.{closedRowF}
 use Rattle.tables.specs.declared.Row.{Row}
 use Rattle.representation.specs.Gap.Cells.{line, rowsOf, gapped}
 use Rattle.representation.specs.Gap.Rows.{next-gapped}
@@ -125,7 +125,7 @@ module _ (z : List ℕ) where
     unfolding asExpressionF asExpression
     expression-row = by (eqb (h .tag) 15)
       where
-        by : (c : Bool) → (if c then madeF 15 1 (h .b) (h .c) (count k) else line h (count k))
+        by : (c : Bool) → (if c then closedRowF 15 1 (h .b) (h .c) (count k) else line h (count k))
             ≡ line (if c then hd 15 1 (h .b) (h .c) else h) (count k)
         by true = refl
         by false = refl

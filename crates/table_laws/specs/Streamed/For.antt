@@ -16,7 +16,7 @@ use Rattle.spec_laws.specs.Tags.{clash}
 use Rattle.charge_laws.specs.Counts.TakenUp.{Labelled}
 use Rattle.tables.specs.Loops.{turns, go-on, stopped}
 use Rattle.tables.specs.Table.{capped, columnF, rowF}
-use Rattle.tables.specs.Stream.{Buf, passF}
+use Rattle.tables.specs.Stream.{Buf, copyRowF}
 use Rattle.tables.specs.declared.Row.{Row}
 use Rattle.representation.specs.Gap.Cells.{table, free, line, rowsOf, gapped}
 use Rattle.representation.specs.Gap.Rows.{length-snoc, pass-gapped}
@@ -142,7 +142,7 @@ size-for (more h k r) ctx u = omega (arith, size-by (eqb (h .tag) 4) (eqb (h .ta
 abbrev loopRows : ℕ → ℕ → Buf → Buf
 loopRows n ctx b =
     let b₁ = passRowsF n b in
-    takeUpF (columnF (b₁ .t) (b₁ .read) 4) false ctx false (passF b₁)
+    takeUpF (columnF (b₁ .t) (b₁ .read) 4) false ctx false (copyRowF b₁)
 
 module _ (z : List ℕ) where
   loop-by : (b c : Bool) (ctx : ℕ) (h : Head) (k : Forest) (a : List Row) (g : ℕ) (v : List Row)
