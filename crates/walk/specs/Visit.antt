@@ -14,12 +14,12 @@ use Rattle.statements.specs.Plan.{noPlan, planF}
 use Rattle.statements.specs.declared.Plan.{Plan}
 use Rattle.path.specs.Path.{Tables, tables, onRecords, openRows, withCursorF, withInnerF, closeF, settleF, enterF}
 use Rattle.path.specs.declared.Walk.{Walk}
-use Rattle.contexts.specs.Lists.{transformBlockStatementF, enterFunctionBodyF, exitStaticBlockF}
-use Rattle.contexts.specs.Tries.{planTryF, enterTryStatementF}
-use Rattle.for_switch.specs.For.{planForF, transformForStatementF}
-use Rattle.for_switch.specs.Switch.{planCasesF, transformSwitchStatementF}
-use Rattle.for_of.specs.ForOf.{takesUsingF, insertsF, insertUsingF, wrapBodyF}
-use Rattle.program.specs.Program.{enterProgramF}
+use Rattle.rewrite_contexts.specs.Lists.{transformBlockStatementF, enterFunctionBodyF, exitStaticBlockF}
+use Rattle.rewrite_contexts.specs.Tries.{planTryF, enterTryStatementF}
+use Rattle.rewrite_for_switch.specs.For.{planForF, transformForStatementF}
+use Rattle.rewrite_for_switch.specs.Switch.{planCasesF, transformSwitchStatementF}
+use Rattle.rewrite_for_of.specs.ForOf.{takesUsingF, insertsF, insertUsingF, wrapBodyF}
+use Rattle.rewrite_program.specs.Program.{enterProgramF}
 
 -- ---- what entering a record rewrites
 

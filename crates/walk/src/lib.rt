@@ -34,7 +34,7 @@ fn rewrite_program(records: &mut [u16], scopes: &mut [u16], symbols: &mut [u16],
     if plan.usings == 0 {
         w
     } else {
-        program::enter_program(records, scopes, symbols, w)
+        rewrite_program::enter_program(records, scopes, symbols, w)
     }
 }
 
@@ -46,7 +46,7 @@ fn rewrite_block(records: &mut [u16], scopes: &mut [u16], symbols: &mut [u16], w
     if plan.usings == 0 {
         w
     } else {
-        contexts::transform_block_statement(records, scopes, symbols, w, plan)
+        rewrite_contexts::transform_block_statement(records, scopes, symbols, w, plan)
     }
 }
 
@@ -58,7 +58,7 @@ fn rewrite_body(records: &mut [u16], scopes: &mut [u16], symbols: &mut [u16], w:
     if plan.usings == 0 {
         w
     } else {
-        contexts::enter_function_body(records, scopes, symbols, w, plan)
+        rewrite_contexts::enter_function_body(records, scopes, symbols, w, plan)
     }
 }
 
@@ -66,11 +66,11 @@ fn rewrite_body(records: &mut [u16], scopes: &mut [u16], symbols: &mut [u16], w:
 fn rewrite_for(records: &mut [u16], scopes: &mut [u16], symbols: &mut [u16], w: Walk) -> Walk
     ensures { λ r. ⌜ tables (now (records .exit)) (now (scopes .exit)) (now (symbols .exit)) r ≡ rewriteForF (tables (now (records .entry)) (now (scopes .entry)) (now (symbols .entry)) w) ⌝ }
 {
-    let plan = for_switch::plan_for(records, w.gap);
+    let plan = rewrite_for_switch::plan_for(records, w.gap);
     if plan.usings == 0 {
         w
     } else {
-        for_switch::transform_for_statement(records, scopes, symbols, w, plan)
+        rewrite_for_switch::transform_for_statement(records, scopes, symbols, w, plan)
     }
 }
 
@@ -80,11 +80,11 @@ fn rewrite_switch(records: &mut [u16], scopes: &mut [u16], symbols: &mut [u16], 
 {
     let gap = w.gap;
     let n = tables::column(records, gap, record::N);
-    let plan = for_switch::plan_cases(records, RecordId(tables::plus(gap.0, 1)), n);
+    let plan = rewrite_for_switch::plan_cases(records, RecordId(tables::plus(gap.0, 1)), n);
     if plan.usings == 0 {
         w
     } else {
-        for_switch::transform_switch_statement(records, scopes, symbols, w, plan)
+        rewrite_for_switch::transform_switch_statement(records, scopes, symbols, w, plan)
     }
 }
 
@@ -94,11 +94,11 @@ fn rewrite_try(records: &mut [u16], scopes: &mut [u16], symbols: &mut [u16], w: 
 {
     let gap = w.gap;
     let n = tables::column(records, gap, record::N);
-    let added = contexts::plan_try(records, RecordId(tables::plus(gap.0, 1)), n);
+    let added = rewrite_contexts::plan_try(records, RecordId(tables::plus(gap.0, 1)), n);
     if added == 0 {
         w
     } else {
-        contexts::enter_try_statement(records, scopes, symbols, w, added)
+        rewrite_contexts::enter_try_statement(records, scopes, symbols, w, added)
     }
 }
 
@@ -106,11 +106,11 @@ fn rewrite_try(records: &mut [u16], scopes: &mut [u16], symbols: &mut [u16], w: 
 fn rewrite_for_of(records: &mut [u16], scopes: &mut [u16], symbols: &mut [u16], w: Walk) -> Walk
     ensures { λ r. ⌜ tables (now (records .exit)) (now (scopes .exit)) (now (symbols .exit)) r ≡ rewriteForOfF (tables (now (records .entry)) (now (scopes .entry)) (now (symbols .entry)) w) ⌝ }
 {
-    if for_of::takes_using(records, w.gap) {
-        if for_of::inserts(records, symbols, w.ctx, w.gap) {
-            for_of::insert_using(records, scopes, symbols, w)
+    if rewrite_for_of::takes_using(records, w.gap) {
+        if rewrite_for_of::inserts(records, symbols, w.ctx, w.gap) {
+            rewrite_for_of::insert_using(records, scopes, symbols, w)
         } else {
-            for_of::wrap_body(records, scopes, symbols, w)
+            rewrite_for_of::wrap_body(records, scopes, symbols, w)
         }
     } else {
         w
@@ -151,7 +151,7 @@ fn leave_block(records: &mut [u16], scopes: &mut [u16], symbols: &mut [u16], w: 
     let written = w.visited;
     let rows = tables::minus(tables::plus(written.0, 1), inner.0);
     let q = tables::take_back(records, Cursor { read, written }, rows);
-    contexts::exit_static_block(records, scopes, symbols, w.with_cursor(q), plan)
+    rewrite_contexts::exit_static_block(records, scopes, symbols, w.with_cursor(q), plan)
 }
 
 // The innermost open record is left.

@@ -28,7 +28,7 @@ use Rattle.representation.specs.Store.Held.{symbolCells, symbolsHeld}
 use Rattle.representation.specs.Store.Symbols.{name-is, made-is, symbol-flags-set, symbol-flags-ctx, symbol-number, symbol-made}
 use Rattle.representation.specs.Store.Agreed.{Agreed, agrees-length, symbol-agreed, symbol-flags-agreed}
 use Rattle.scoping_laws.specs.Created.Held.{freeSymbols}
-use Rattle.items.specs.Items.{
+use Rattle.rewrite_items.specs.Items.{
   dropF,
   exportRowsF,
   preserveNameF,

@@ -21,8 +21,8 @@ use Rattle.representation.specs.Gap.Rows.{next-gapped, emit-gapped, length-snoc
 use Rattle.scoping.specs.declared.Ctx.{Ctx}
 use Rattle.representation.specs.Store.Held.{symbolCells, ctxOf, symbolsHeld}
 use Rattle.representation.specs.Store.Symbols.{symbol-flags-ctx}
-use Rattle.items.specs.Names.{countNamesF, flagNamesF}
-use Rattle.items.specs.Items.{recordedF, declaredF, exportedDeclarationF}
+use Rattle.rewrite_items.specs.Names.{countNamesF, flagNamesF}
+use Rattle.rewrite_items.specs.Items.{recordedF, declaredF, exportedDeclarationF}
 use Rattle.scoping_laws.specs.Itemized.Rows.{table-behind, length-behind, next-behind, next-n, drop-gapped, pass-record}
 use Rattle.scoping_laws.specs.Itemized.Held.{held, Becomes}
 use Rattle.scoping_laws.specs.Itemized.Names.{count-names-law, flag-names-law, specifiers-law}

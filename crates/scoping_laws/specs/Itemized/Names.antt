@@ -25,7 +25,7 @@ use Rattle.scoping.specs.declared.Ctx.{Ctx}
 use Rattle.representation.specs.Store.Held.{symbolCells, ctxOf, symbolsHeld}
 use Rattle.representation.specs.Store.Symbols.{name-is, symbol-flags-set, symbol-flags-ctx}
 use Rattle.table_laws.specs.Lists.Plan.{cap-sum}
-use Rattle.items.specs.Names.{
+use Rattle.rewrite_items.specs.Names.{
   isNameF,
   nextNameF,
   firstNames,
@@ -45,8 +45,8 @@ use Rattle.items.specs.Names.{
   specifyAllF,
   specifiersF,
 }
-use Rattle.items.specs.declared.Names.{Names}
-use Rattle.items.specs.declared.Counted.{Counted}
+use Rattle.rewrite_items.specs.declared.Names.{Names}
+use Rattle.rewrite_items.specs.declared.Counted.{Counted}
 use Rattle.scoping_laws.specs.Itemized.Rows.{table-behind, length-behind}
 use Rattle.scoping_laws.specs.Itemized.Visits.{visited, Visiting, visits-all}
 

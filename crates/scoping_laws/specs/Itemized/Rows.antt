@@ -14,7 +14,7 @@ use Rattle.representation.specs.Gap.Cells.{table, zeros, free, line, rowsOf, ga
 use Rattle.representation.specs.Gap.Rows.{set-row, row-at, cap-one, length-snoc, emit-gapped, pass-as-gapped, next-gapped}
 use Rattle.representation.specs.Gap.Streams.{copy-all}
 use Rattle.table_laws.specs.Lists.Try.{declare-law}
-use Rattle.items.specs.Items.{dropF, exportRowsF, valueRowsF}
+use Rattle.rewrite_items.specs.Items.{dropF, exportRowsF, valueRowsF}
 
 -- ---- the rows behind the gap, after the first of them
 

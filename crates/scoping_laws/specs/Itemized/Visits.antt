@@ -18,8 +18,8 @@ use Rattle.tables.specs.declared.Row.{Row}
 use Rattle.representation.specs.Gap.Cells.{table, line, rowsOf, length-rows, count-size}
 use Rattle.representation.specs.Gap.Rows.{row-at, length-snoc, cap-one}
 use Rattle.table_laws.specs.Lists.Plan.{cap-sum}
-use Rattle.items.specs.Names.{names, firstNames, isNameF, nextNameF, namesDoneF}
-use Rattle.items.specs.declared.Names.{Names}
+use Rattle.rewrite_items.specs.Names.{names, firstNames, isNameF, nextNameF, namesDoneF}
+use Rattle.rewrite_items.specs.declared.Names.{Names}
 
 -- what names make of a state, one after another
 abbrev pub visited : {A : Type 0} → (ℕ → A → A) → List ℕ → A → A

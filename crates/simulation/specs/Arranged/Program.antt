@@ -28,8 +28,8 @@ use Rattle.scoping_laws.specs.Created.Scopes.{below-symbols, insert-below-law}
 use Rattle.table_laws.specs.Streamed.Places.{one-row}
 use Rattle.scoping_laws.specs.Itemized.Items.{itemsRows, itemsSymbols}
 use Rattle.scoping_laws.specs.Itemized.Program.{items-store}
-use Rattle.program.specs.Plan.{plan, planProgramF}
-use Rattle.program.specs.Program.{enterProgramF}
+use Rattle.rewrite_program.specs.Plan.{plan, planProgramF}
+use Rattle.rewrite_program.specs.Program.{enterProgramF}
 use Rattle.simulation.specs.Rewritten.Standing.{before, behind, toList, row-is, list-here}
 use Rattle.simulation.specs.Rewritten.Replaced.{withFree, rewritten, start-law, start-room, replaced-law}
 use Rattle.simulation.specs.Arranged.Plan.{items-size, plan-program-law}

@@ -18,13 +18,13 @@ use Rattle.representation.specs.Store.Held.{symbolCells, ctxOf}
 use Rattle.representation.specs.Store.Agreed.{Agreed}
 use Rattle.table_laws.specs.Lists.Plan.{cap-sum}
 use Rattle.scoping_laws.specs.Created.Held.{freeSymbols}
-use Rattle.items.specs.Items.{PassingF}
+use Rattle.rewrite_items.specs.Items.{PassingF}
 use Rattle.scoping_laws.specs.Itemized.Held.{held}
 use Rattle.scoping_laws.specs.Itemized.Items.{itemsRows, itemsSymbols}
 use Rattle.scoping_laws.specs.Itemized.Program.{mixed, items-law}
-use Rattle.program.specs.Plan.{plan}
-use Rattle.program.specs.Arrange.{keptRowsF, arrangeF}
-use Rattle.program.specs.Program.{transformItemsF, rewriteItemsF}
+use Rattle.rewrite_program.specs.Plan.{plan}
+use Rattle.rewrite_program.specs.Arrange.{keptRowsF, arrangeF}
+use Rattle.rewrite_program.specs.Program.{transformItemsF, rewriteItemsF}
 use Rattle.simulation.specs.Arranged.Mix.{mix-length}
 use Rattle.simulation.specs.Arranged.Arrange.{items-mix, kept-rows-law, arrange-law}
 use Rattle.simulation.specs.Arranged.Plan.{items-size}

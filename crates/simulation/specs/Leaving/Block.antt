@@ -33,7 +33,7 @@ use Rattle.table_laws.specs.Lists.TakeUp.{size-taken}
 use Rattle.table_laws.specs.Lists.Plan.{usings, awaits, any-usings, cap-sum}
 use Rattle.scoping_laws.specs.Created.Held.{freeScopes, freeSymbols, Room}
 use Rattle.scoping_laws.specs.Created.Parts.{staticParts, static-held, static-node, static-room}
-use Rattle.contexts.specs.Lists.{listScope, wrappedRowsF, exitStaticBlockF}
+use Rattle.rewrite_contexts.specs.Lists.{listScope, wrappedRowsF, exitStaticBlockF}
 use Rattle.table_laws.specs.Streamed.Places.{one-row, plan-below}
 use Rattle.table_laws.specs.Streamed.Lists.{wrapped-rows-law}
 use Rattle.simulation.specs.Rewritten.Replaced.{withFree}

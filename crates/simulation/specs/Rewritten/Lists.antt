@@ -22,7 +22,7 @@ use Rattle.table_laws.specs.Lists.Plan.{awaits, cap-sum}
 use Rattle.creation.specs.Kinds.{forBlockF, forBodyF}
 use Rattle.scoping_laws.specs.Created.Held.{Room}
 use Rattle.scoping_laws.specs.Created.Lists.{blockParts, block-held, block-node, block-room, bodyParts, body-held, body-node, body-room}
-use Rattle.contexts.specs.Lists.{listScope, blockRowsF, wrappedRowsF, transformBlockStatementF, enterFunctionBodyF}
+use Rattle.rewrite_contexts.specs.Lists.{listScope, blockRowsF, wrappedRowsF, transformBlockStatementF, enterFunctionBodyF}
 use Rattle.table_laws.specs.Streamed.Lists.{block-rows-law, wrapped-rows-law}
 use Rattle.simulation.specs.Rewritten.Standing.{toList, behind, listPlan, n-is, list-here, list-plan}
 use Rattle.simulation.specs.Rewritten.Replaced.{withFree, rewritten}

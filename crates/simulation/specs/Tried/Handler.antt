@@ -21,7 +21,7 @@ use Rattle.representation.specs.Store.Held.{ctxOf}
 use Rattle.representation.specs.Store.Symbols.{bindings-ctx}
 use Rattle.representation.specs.Store.Agreed.{Agreed, bindings-agreed}
 use Rattle.scoping_laws.specs.Created.Held.{freeScopes, freeSymbols}
-use Rattle.contexts.specs.Tries.{PartingF, partingF, transformPartsF, planPartsF, lastBlockScopeF, moveNamesF, transformHandlerF}
+use Rattle.rewrite_contexts.specs.Tries.{PartingF, partingF, transformPartsF, planPartsF, lastBlockScopeF, moveNamesF, transformHandlerF}
 use Rattle.table_laws.specs.Streamed.Places.{one-row, below-here, rows-below, length-left, n-gapped}
 use Rattle.table_laws.specs.Streamed.Parts.{partRows, any-parts, plan-parts-law, last-block-law}
 use Rattle.simulation.specs.Tried.Passing.{beside, passing, newScopes, newSymbols, Rewrites}

@@ -26,8 +26,8 @@ use Rattle.representation.specs.Store.Agreed.{Agreed}
 use Rattle.table_laws.specs.Lists.Plan.{awaits, any-usings}
 use Rattle.scoping_laws.specs.Created.Held.{freeScopes, freeSymbols, Room}
 use Rattle.scoping_laws.specs.Created.Parts.{partParts, part-held, part-node, part-room, part-agreed}
-use Rattle.contexts.specs.Lists.{listScope, wrappedRowsF}
-use Rattle.contexts.specs.Tries.{partingF, transformTryBlockF, isPartF, transformPartF}
+use Rattle.rewrite_contexts.specs.Lists.{listScope, wrappedRowsF}
+use Rattle.rewrite_contexts.specs.Tries.{partingF, transformTryBlockF, isPartF, transformPartF}
 use Rattle.table_laws.specs.Streamed.Places.{one-row, plan-gapped}
 use Rattle.table_laws.specs.Streamed.Lists.{wrapped-rows-law}
 use Rattle.table_laws.specs.Streamed.Parts.{ownRows}

@@ -20,8 +20,8 @@ use Rattle.representation.specs.Store.Agreed.{Agreed}
 use Rattle.representation.specs.Spots.Spots.{visitedAt, restAt, Rest, held}
 use Rattle.creation.specs.Creation.{InRows}
 use Rattle.scoping_laws.specs.Created.Held.{Room}
-use Rattle.contexts.specs.Lists.{currentIn, hoistIn}
-use Rattle.contexts.specs.Tries.{PartingF, partingF, transformChildrenF, planTryF, enterTryStatementF}
+use Rattle.rewrite_contexts.specs.Lists.{currentIn, hoistIn}
+use Rattle.rewrite_contexts.specs.Tries.{PartingF, partingF, transformChildrenF, planTryF, enterTryStatementF}
 use Rattle.table_laws.specs.Streamed.Places.{one-row}
 use Rattle.table_laws.specs.Streamed.Parts.{tryRows, Catches, plan-try-law}
 use Rattle.simulation.specs.Rewritten.Standing.{before, toList, behind, n-is, store-is, current-is, hoist-is, list-here}

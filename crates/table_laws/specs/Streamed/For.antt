@@ -27,8 +27,8 @@ use Rattle.statements.specs.declared.Plan.{Plan}
 use Rattle.table_laws.specs.Lists.TakeUp.{size-taken, count-taken, take-up-law}
 use Rattle.table_laws.specs.Lists.Plan.{usings, awaits, parted, row-here}
 use Rattle.table_laws.specs.Lists.Try.{contextOf, handlersOf}
-use Rattle.contexts.specs.Lists.{listScope}
-use Rattle.for_switch.specs.For.{isLoopF, nextRow, labelsEndF, planForF, passRowsF, forRowsF}
+use Rattle.rewrite_contexts.specs.Lists.{listScope}
+use Rattle.rewrite_for_switch.specs.For.{isLoopF, nextRow, labelsEndF, planForF, passRowsF, forRowsF}
 use Rattle.table_laws.specs.Streamed.Places.{one-row, tag-here, rows-below, plan-below, length-left, n-gapped}
 use Rattle.table_laws.specs.Streamed.Frame.{frame-law}
 

@@ -17,7 +17,7 @@ use Rattle.representation.specs.Gap.Rows.{length-snoc, next-gapped, pass-gapped
 use Rattle.representation.specs.Gap.Streams.{copy-all}
 use Rattle.table_laws.specs.Lists.Plan.{cap-sum}
 use Rattle.table_laws.specs.Lists.Try.{declare-law}
-use Rattle.for_of.specs.ForOf.{leftRowsF, usingRowsF, insertRowsF, wrapRowsF}
+use Rattle.rewrite_for_of.specs.ForOf.{leftRowsF, usingRowsF, insertRowsF, wrapRowsF}
 use Rattle.table_laws.specs.Streamed.Places.{cap-count, next-rows, more-rows, n-gapped}
 use Rattle.table_laws.specs.Streamed.Sides.{sides-rows}
 

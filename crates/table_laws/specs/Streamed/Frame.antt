@@ -14,7 +14,7 @@ use Rattle.representation.specs.Gap.Cells.{rowsOf, gapped, length-rows, rows-&}
 use Rattle.statements.specs.Try.{declareContextF, handlersF, openTryF}
 use Rattle.statements.specs.declared.Parts.{Parts}
 use Rattle.table_laws.specs.Lists.Try.{contextOf, handlersOf, declare-context-law, handlers-law, open-try-law}
-use Rattle.contexts.specs.Lists.{listScope}
+use Rattle.rewrite_contexts.specs.Lists.{listScope}
 use Rattle.table_laws.specs.Streamed.Lists.{try-rows}
 
 context-length : (p : Parts) → length (rowsOf (contextOf p)) ≡ 4

@@ -17,7 +17,7 @@ use Rattle.representation.specs.Gap.Rows.{length-snoc, next-gapped, emit-gapped
 use Rattle.statements.specs.declared.Parts.{Parts}
 use Rattle.table_laws.specs.Lists.TakeUp.{count-taken}
 use Rattle.table_laws.specs.Lists.Try.{contextOf, handlersOf, transform-list-law, try-rows-law}
-use Rattle.contexts.specs.Lists.{blockRowsF, wrappedRowsF}
+use Rattle.rewrite_contexts.specs.Lists.{blockRowsF, wrappedRowsF}
 use Rattle.table_laws.specs.Streamed.Places.{cap-count, one-row, n-gapped}
 
 -- a Try of a first Block and two others

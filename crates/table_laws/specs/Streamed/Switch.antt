@@ -24,8 +24,8 @@ use Rattle.statements.specs.declared.Parts.{Parts}
 use Rattle.table_laws.specs.Lists.TakeUp.{size-taken, count-taken, length-line, take-up-law}
 use Rattle.table_laws.specs.Lists.Plan.{awaits, any-awaits}
 use Rattle.table_laws.specs.Lists.Try.{contextOf, handlersOf}
-use Rattle.contexts.specs.Lists.{listScope}
-use Rattle.for_switch.specs.Switch.{CasingF, casingF, orAwaitsF, takeUpCaseF, takeUpCasesF, switchRowsF}
+use Rattle.rewrite_contexts.specs.Lists.{listScope}
+use Rattle.rewrite_for_switch.specs.Switch.{CasingF, casingF, orAwaitsF, takeUpCaseF, takeUpCasesF, switchRowsF}
 use Rattle.table_laws.specs.Streamed.Places.{one-row, next-rows, n-gapped, plan-gapped}
 use Rattle.table_laws.specs.Streamed.Cases.{inCase}
 use Rattle.table_laws.specs.Streamed.Frame.{frame-law}
