@@ -50,7 +50,13 @@ pub struct ScopeMove {
 // ---- scopes
 
 // The next record: its scope gets the parent, and its children are passed over; a record without a scope is entered.
-fn move_scope(records: &[u16], scopes: &mut [u16], ctx: Ctx, s: ScopeMove, parent: ScopeId) -> ScopeMove
+fn move_scope(
+    records: &[u16],
+    scopes: &mut [u16],
+    ctx: Ctx,
+    s: ScopeMove,
+    parent: ScopeId,
+) -> ScopeMove
     ensures { λ r. ⌜ scopeMove (now (scopes .exit)) r ≡ moveScopeF (now (records .entry)) ctx (parent .0) (scopeMove (now (scopes .entry)) s) ⌝ }
 {
     let r = tables::row_after(records, RecordId(s.at));
@@ -137,7 +143,14 @@ pub fn insert_scope_below(
 pub fn make_context(symbols: &mut [u16], ctx: Ctx, scope: ScopeId) -> Ctx
     ensures { λ r. ⌜ inSymbols (now (symbols .exit)) r ≡ makeContextF (inSymbols (now (symbols .entry)) ctx) (scope .0) ⌝ }
 {
-    let made = scoping::create_symbol(symbols, ctx, known_name::USING_CTX, symbol_flag::FUNCTION_SCOPED, scope, 1);
+    let made = scoping::create_symbol(
+        symbols,
+        ctx,
+        known_name::USING_CTX,
+        symbol_flag::FUNCTION_SCOPED,
+        scope,
+        1,
+    );
     made.new_context()
 }
 
@@ -187,7 +200,14 @@ fn create_catch_clause(scopes: &mut [u16], symbols: &mut [u16], ctx: Ctx, parent
 {
     let caught = scoping::create_child_scope(scopes, ctx, parent, scope_flag::CATCH);
     let body = scoping::create_child_scope(scopes, caught, ScopeId(caught.scopes), 0);
-    scoping::create_symbol(symbols, body, known_name::UNDERSCORE, ERROR_FLAGS, ScopeId(body.scopes), 0)
+    scoping::create_symbol(
+        symbols,
+        body,
+        known_name::UNDERSCORE,
+        ERROR_FLAGS,
+        ScopeId(body.scopes),
+        0,
+    )
 }
 
 // `create_try_stmt`: the Catch and the last Block below the scope `parent`.

@@ -20,7 +20,11 @@ pub struct Loaded {
 fn helper_flags(esm: u16) -> u16
     ensures { λ r. ⌜ r ≡ helperFlags esm ⌝ }
 {
-    if esm == 1 { symbol_flag::IMPORT } else { symbol_flag::FUNCTION_SCOPED }
+    if esm == 1 {
+        symbol_flag::IMPORT
+    } else {
+        symbol_flag::FUNCTION_SCOPED
+    }
 }
 
 // One symbol on `usingCtx` in scope 1.
@@ -28,7 +32,14 @@ fn make_helper(symbols: &mut [u16], ctx: Ctx) -> Ctx
     ensures { λ r. ⌜ inSymbols (now (symbols .exit)) r ≡ makeHelperF (inSymbols (now (symbols .entry)) ctx) ⌝ }
 {
     let flags = helper_flags(ctx.esm);
-    let made = scoping::create_symbol(symbols, ctx, known_name::USING_CTX, flags, ScopeId(scoping::ROOT), 1);
+    let made = scoping::create_symbol(
+        symbols,
+        ctx,
+        known_name::USING_CTX,
+        flags,
+        ScopeId(scoping::ROOT),
+        1,
+    );
     made.with_helper(SymbolId(made.symbols))
 }
 

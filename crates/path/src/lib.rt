@@ -235,7 +235,12 @@ fn count_down(records: &mut [u16], at: u16)
 {
     if at != 0 {
         let left = tables::column(records, RecordId(at - 1), record::LEFT);
-        tables::put_column(records, RecordId(at - 1), record::LEFT, tables::minus(left, 1));
+        tables::put_column(
+            records,
+            RecordId(at - 1),
+            record::LEFT,
+            tables::minus(left, 1),
+        );
     }
 }
 

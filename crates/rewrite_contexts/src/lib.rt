@@ -32,7 +32,11 @@ fn write_block(records: &mut [u16], q: Cursor, p: Parts) -> Cursor
     ensures { λ o. ⌜ buf (now (records .exit)) o ≡ blockRowsF p (buf (now (records .entry)) q) ⌝ }
 {
     let r = tables::row_after(records, q.read);
-    let q1 = tables::emit(records, q, tables::closed_row(tag::TRY, parts::BOTH, 0, 0, 3));
+    let q1 = tables::emit(
+        records,
+        q,
+        tables::closed_row(tag::TRY, parts::BOTH, 0, 0, 3),
+    );
     let q2 = tables::replace_row(
         records,
         q1,
@@ -146,7 +150,13 @@ fn transform_try_block(
     let old = ScopeId(tables::column(records, q.read, record::A));
     let c = creation::for_try_part(scopes, symbols, s.ctx, cur, hoist, old, awaits);
     let scope = list_scope(c.parts);
-    let at = write_wrapped(records, q, tables::closed_row(tag::BLOCK, scope.0, 0, 0, 1), old, c.parts);
+    let at = write_wrapped(
+        records,
+        q,
+        tables::closed_row(tag::BLOCK, scope.0, 0, 0, 1),
+        old,
+        c.parts,
+    );
     let ctx = c.ctx;
     Parting { at, ctx }
 }

@@ -85,6 +85,7 @@ const TEMP_FLAGS: u16 = symbol_flag::BLOCK_SCOPED + symbol_flag::CONST;
 
 // The rows of a using in the body: Declaration, Declarator, Name and Read; and with a Block around the body.
 const USING_ROWS: u16 = 4;
+
 const WRAPPED_USING_ROWS: u16 = 5;
 
 // A new symbol for the using's name in the ForOf's scope.
@@ -101,11 +102,19 @@ fn write_left(records: &mut [u16], q: Cursor, temp: SymbolId) -> Cursor
 {
     let q1 = tables::copy_row(records, q);
     let declarators = tables::column(records, q1.read, record::N);
-    let q2 = tables::replace_row(records, q1, tables::closed_row(tag::DECLARATION, kind::CONST, 0, 0, declarators));
+    let q2 = tables::replace_row(
+        records,
+        q1,
+        tables::closed_row(tag::DECLARATION, kind::CONST, 0, 0, declarators),
+    );
     let m = tables::column(records, q2.read, record::N);
     let q3 = tables::copy_row(records, q2);
     let below = tables::column(records, q3.read, record::N);
-    let q4 = tables::replace_row(records, q3, tables::closed_row(tag::NAME, temp.0, 0, 0, below));
+    let q4 = tables::replace_row(
+        records,
+        q3,
+        tables::closed_row(tag::NAME, temp.0, 0, 0, below),
+    );
     let rest = tables::plus(tables::plus(below, tables::minus(m, 1)), declarators);
     tables::copy(records, q4, rest)
 }
@@ -144,7 +153,11 @@ fn write_wrap(
     ensures { λ o. ⌜ buf (now (records .exit)) o ≡ wrapRowsF kind (y .0) (temp .0) (scope .0) (buf (now (records .entry)) q) ⌝ }
 {
     let q1 = write_left(records, q, temp);
-    let q2 = tables::emit(records, q1, tables::closed_row(tag::BLOCK, scope.0, 0, 0, 2));
+    let q2 = tables::emit(
+        records,
+        q1,
+        tables::closed_row(tag::BLOCK, scope.0, 0, 0, 2),
+    );
     write_using(records, q2, kind, y, temp)
 }
 
@@ -157,9 +170,19 @@ pub fn insert_using(records: &mut [u16], scopes: &[u16], symbols: &mut [u16], w:
     let read = w.gap;
     let y = using_symbol(records, read);
     let kind = tables::column(records, RecordId(tables::plus(read.0, 1)), record::A);
-    let x = make_temp(symbols, w.ctx, y, ScopeId(tables::column(records, read, record::A)));
+    let x = make_temp(
+        symbols,
+        w.ctx,
+        y,
+        ScopeId(tables::column(records, read, record::A)),
+    );
     let body = body_after(records, read);
-    scoping::move_binding(symbols, x, y, ScopeId(tables::column(records, body, record::A)));
+    scoping::move_binding(
+        symbols,
+        x,
+        y,
+        ScopeId(tables::column(records, body, record::A)),
+    );
     let v = w.charge(USING_ROWS);
     let written = v.gap;
     write_insert(

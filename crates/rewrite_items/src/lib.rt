@@ -276,7 +276,11 @@ fn write_specifier(records: &mut [u16], symbols: &[u16], ctx: Ctx, s: Specifying
         let y = tables::column(records, RecordId(names.at), record::A);
         let name = scoping::symbol_number(symbols, ctx.symbols, SymbolId(y), symbol::NAME);
         Specifying {
-            at: tables::emit(records, q, tables::closed_row(tag::SPECIFIER, y, name, 0, 0)),
+            at: tables::emit(
+                records,
+                q,
+                tables::closed_row(tag::SPECIFIER, y, name, 0, 0),
+            ),
             names: next,
         }
     } else {
@@ -339,8 +343,16 @@ fn drop_row(records: &mut [u16], q: Cursor) -> Cursor
 fn write_export(records: &mut [u16], q: Cursor, y: u16, name: u16) -> Cursor
     ensures { λ o. ⌜ buf (now (records .exit)) o ≡ exportRowsF y name (buf (now (records .entry)) q) ⌝ }
 {
-    let q1 = tables::emit(records, q, tables::closed_row(tag::MODULE_LINE, line_form::EXPORT_NAMED, 0, 0, 1));
-    tables::emit(records, q1, tables::closed_row(tag::SPECIFIER, y, name, 0, 0))
+    let q1 = tables::emit(
+        records,
+        q,
+        tables::closed_row(tag::MODULE_LINE, line_form::EXPORT_NAMED, 0, 0, 1),
+    );
+    tables::emit(
+        records,
+        q1,
+        tables::closed_row(tag::SPECIFIER, y, name, 0, 0),
+    )
 }
 
 // `var y = ` and the next record, with another row.
@@ -434,9 +446,17 @@ fn exported_declaration(records: &mut [u16], symbols: &mut [u16], s: Passing) ->
     let list = tables::plus(q.read.0, 1);
     flag_names(records, symbols, ctx, list, n);
     let names = count_names(records, list, n);
-    let q1 = tables::emit(records, q, tables::closed_row(tag::MODULE_LINE, line_form::EXPORT_NAMED, 0, 0, names));
+    let q1 = tables::emit(
+        records,
+        q,
+        tables::closed_row(tag::MODULE_LINE, line_form::EXPORT_NAMED, 0, 0, names),
+    );
     let q2 = write_specifiers(records, symbols, ctx, q1, n);
-    let q3 = tables::replace_row(records, q2, tables::closed_row(tag::DECLARATION, kind::VAR, 0, 0, n));
+    let q3 = tables::replace_row(
+        records,
+        q2,
+        tables::closed_row(tag::DECLARATION, kind::VAR, 0, 0, n),
+    );
     let at = tables::copy(records, q3, n);
     Passing { at, ctx }
 }
@@ -447,7 +467,12 @@ fn default_export_class(records: &mut [u16], symbols: &mut [u16], s: Passing) ->
 {
     let ctx = s.ctx;
     let q = drop_row(records, s.at);
-    let at = write_export(records, q, tables::column(records, q.read, record::C), known_name::DEFAULT);
+    let at = write_export(
+        records,
+        q,
+        tables::column(records, q.read, record::C),
+        known_name::DEFAULT,
+    );
     transform_class_decl(records, symbols, Passing { at, ctx })
 }
 
@@ -466,7 +491,14 @@ fn as_expression(r: Row) -> Row
 fn default_value(records: &mut [u16], symbols: &mut [u16], s: Passing) -> Passing
     ensures { λ o. ⌜ passing (now (records .exit)) (now (symbols .exit)) o ≡ defaultValueF (passing (now (records .entry)) (now (symbols .entry)) s) ⌝ }
 {
-    let ctx = scoping::create_symbol(symbols, s.ctx, known_name::DEFAULT_VALUE, symbol_flag::FUNCTION_SCOPED, ScopeId(scoping::ROOT), 0);
+    let ctx = scoping::create_symbol(
+        symbols,
+        s.ctx,
+        known_name::DEFAULT_VALUE,
+        symbol_flag::FUNCTION_SCOPED,
+        ScopeId(scoping::ROOT),
+        0,
+    );
     let q = drop_row(records, s.at);
     let r = tables::row_after(records, q.read);
     let q1 = write_export(records, q, ctx.symbols, known_name::DEFAULT);

@@ -1,11 +1,12 @@
 // `enter_program`: functions, imports and exports stay first, all else goes into a new Block.
 mod placing;
-use rewrite_items::Item;
-use rewrite_items::Passing;
+
 use meaning::RecordId;
 use meaning::ScopeId;
 use meaning::tag;
 use path::Walk;
+use rewrite_items::Item;
+use rewrite_items::Passing;
 use scoping::Ctx;
 use statements::Counting;
 use tables::Cursor;
@@ -54,6 +55,7 @@ fn exported_names(records: &[u16], item: Item, after: RecordId) -> u16
 
 // The rows of a var: Declaration, Declarator and Name. Where it takes the place of an export's row: a Module line and a Specifier besides.
 const VAR_ROWS: u16 = 3;
+
 const EXPORTED_VAR_ROWS: u16 = 4;
 
 // The rows that an item adds, with so many names.

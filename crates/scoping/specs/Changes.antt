@@ -53,7 +53,7 @@ insertScopeBetweenF q s flags =
 unfoldable pub createSymbolF : SymbolRows → ℕ → ℕ → ℕ → ℕ → SymbolRows
 createSymbolF q name flags scope made =
     let at = q .ctx .symbols * SymbolTable.Numbers in
-    inSymbols 
+    inSymbols
     (set
     (set (set (set (q .t) at name) (at + SymbolTable.Flags) flags) (at + SymbolTable.Scope) scope)
     (at + SymbolTable.Made) made)

@@ -69,8 +69,11 @@ impl Ctx {
 
 // The columns as places in a row.
 const SCOPE_FLAGS: usize = scope::FLAGS as usize;
+
 const FLAGS: usize = symbol::FLAGS as usize;
+
 const SCOPE: usize = symbol::SCOPE as usize;
+
 const MADE: usize = symbol::MADE as usize;
 
 // ---- numbers of rows
@@ -99,7 +102,11 @@ fn put_scope(scopes: &mut [u16], count: u16, s: ScopeId, f: u16, v: u16)
         return;
     }
     if n <= count {
-        tables::put(scopes, ((n - 1) as usize) * scope::NUMBERS + (f as usize), v);
+        tables::put(
+            scopes,
+            ((n - 1) as usize) * scope::NUMBERS + (f as usize),
+            v,
+        );
     }
 }
 
@@ -127,7 +134,11 @@ fn put_symbol(symbols: &mut [u16], count: u16, y: SymbolId, f: u16, v: u16)
         return;
     }
     if n <= count {
-        tables::put(symbols, ((n - 1) as usize) * symbol::NUMBERS + (f as usize), v);
+        tables::put(
+            symbols,
+            ((n - 1) as usize) * symbol::NUMBERS + (f as usize),
+            v,
+        );
     }
 }
 
@@ -207,7 +218,9 @@ pub fn set_symbol_flags(symbols: &mut [u16], ctx: Ctx, y: SymbolId, flags: u16)
 
 // The rows that are looked at in one go; those before the last of them, and the numbers of these.
 const AT_ONCE: u16 = 8;
+
 const BEFORE_LAST: u16 = 7;
+
 const NUMBERS_BEFORE_LAST: usize = 7 * symbol::NUMBERS;
 
 // The first of eight rows from row i on that has the number in column f, or the row behind them.

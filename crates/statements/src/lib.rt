@@ -123,7 +123,11 @@ fn take_up_declarator(records: &mut [u16], q: Cursor, letter: u16, context: Symb
     let q1 = tables::copy_row(records, q);
     if has_initializer(r) {
         let q2 = tables::copy(records, q1, r.b);
-        let q3 = tables::emit(records, q2, tables::closed_row(tag::CALL, letter, context.0, 0, 1));
+        let q3 = tables::emit(
+            records,
+            q2,
+            tables::closed_row(tag::CALL, letter, context.0, 0, 1),
+        );
         tables::copy(records, q3, tables::minus(r.n, r.b))
     } else {
         tables::copy(records, q1, r.n)
@@ -312,14 +316,22 @@ pub fn no_plan(after: RecordId) -> Plan
 pub fn step_form(awaits: u16) -> u16
     ensures { λ o. ⌜ o ≡ stepForm awaits ⌝ }
 {
-    if awaits == 0 { step_form::DISPOSE } else { step_form::AWAIT_DISPOSE }
+    if awaits == 0 {
+        step_form::DISPOSE
+    } else {
+        step_form::AWAIT_DISPOSE
+    }
 }
 
 // A Declaration of a name, up to its initializer.
 pub fn declare(records: &mut [u16], q: Cursor, kind: u16, y: SymbolId) -> Cursor
     ensures { λ o. ⌜ buf (now (records .exit)) o ≡ declareF kind (y .0) (buf (now (records .entry)) q) ⌝ }
 {
-    let q1 = tables::emit(records, q, tables::closed_row(tag::DECLARATION, kind, 0, 0, 1));
+    let q1 = tables::emit(
+        records,
+        q,
+        tables::closed_row(tag::DECLARATION, kind, 0, 0, 1),
+    );
     let q2 = tables::emit(records, q1, tables::closed_row(tag::DECLARATOR, 0, 1, 0, 2));
     tables::emit(records, q2, tables::closed_row(tag::NAME, y.0, 0, 0, 0))
 }
@@ -329,21 +341,37 @@ pub fn declare_context(records: &mut [u16], q: Cursor, p: Parts) -> Cursor
     ensures { λ o. ⌜ buf (now (records .exit)) o ≡ declareContextF p (buf (now (records .entry)) q) ⌝ }
 {
     let q1 = declare(records, q, kind::VAR, p.context);
-    tables::emit(records, q1, tables::closed_row(tag::LOAD, p.form, p.load.0, 0, 0))
+    tables::emit(
+        records,
+        q1,
+        tables::closed_row(tag::LOAD, p.form, p.load.0, 0, 0),
+    )
 }
 
 // `catch (_) { _usingCtx.e = _; }`
 fn write_catch_clause(records: &mut [u16], q: Cursor, p: Parts) -> Cursor
     ensures { λ o. ⌜ buf (now (records .exit)) o ≡ catchClauseF p (buf (now (records .entry)) q) ⌝ }
 {
-    let q1 = tables::emit(records, q, tables::closed_row(tag::CATCH, p.scope.0, 1, 0, 2));
-    let q2 = tables::emit(records, q1, tables::closed_row(tag::NAME, p.error.0, 0, 0, 0));
+    let q1 = tables::emit(
+        records,
+        q,
+        tables::closed_row(tag::CATCH, p.scope.0, 1, 0, 2),
+    );
+    let q2 = tables::emit(
+        records,
+        q1,
+        tables::closed_row(tag::NAME, p.error.0, 0, 0, 0),
+    );
     let q3 = tables::emit(
         records,
         q2,
         tables::closed_row(tag::BLOCK, tables::plus(p.scope.0, 1), 0, 0, 1),
     );
-    tables::emit(records, q3, tables::closed_row(tag::STEP, step_form::KEEP_ERROR, p.context.0, p.error.0, 0))
+    tables::emit(
+        records,
+        q3,
+        tables::closed_row(tag::STEP, step_form::KEEP_ERROR, p.context.0, p.error.0, 0),
+    )
 }
 
 // `finally { _usingCtx.d(); }`
@@ -355,7 +383,11 @@ fn write_finally_block(records: &mut [u16], q: Cursor, p: Parts) -> Cursor
         q,
         tables::closed_row(tag::BLOCK, tables::plus(p.scope.0, 2), 0, 0, 1),
     );
-    tables::emit(records, q1, tables::closed_row(tag::STEP, p.step, p.context.0, 0, 0))
+    tables::emit(
+        records,
+        q1,
+        tables::closed_row(tag::STEP, p.step, p.context.0, 0, 0),
+    )
 }
 
 // The Catch and the last Block.
@@ -370,8 +402,16 @@ pub fn write_handlers(records: &mut [u16], q: Cursor, p: Parts) -> Cursor
 pub fn open_try(records: &mut [u16], q: Cursor, scope: ScopeId, n: u16) -> Cursor
     ensures { λ o. ⌜ buf (now (records .exit)) o ≡ openTryF (scope .0) n (buf (now (records .entry)) q) ⌝ }
 {
-    let q1 = tables::emit(records, q, tables::closed_row(tag::TRY, parts::BOTH, 0, 0, 3));
-    tables::emit(records, q1, tables::closed_row(tag::BLOCK, scope.0, 0, 0, n))
+    let q1 = tables::emit(
+        records,
+        q,
+        tables::closed_row(tag::TRY, parts::BOTH, 0, 0, 3),
+    );
+    tables::emit(
+        records,
+        q1,
+        tables::closed_row(tag::BLOCK, scope.0, 0, 0, n),
+    )
 }
 
 // What stands in a Try around a list of n items, from its first Block's row on: the context, the list taken up, the handlers.

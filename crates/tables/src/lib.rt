@@ -9,6 +9,7 @@
 pub mod record;
 pub mod scope;
 pub mod symbol;
+
 use meaning::RecordId;
 ghost use mathlib.Core.Path.{_≡_};
 ghost use Prim.Native.Nat.{_-_};
@@ -72,10 +73,15 @@ pub fn minus(x: u16, k: u16) -> u16
 
 // The columns as places in a row.
 const A: usize = record::A as usize;
+
 const B: usize = record::B as usize;
+
 const C: usize = record::C as usize;
+
 const N: usize = record::N as usize;
+
 const UP: usize = record::UP as usize;
+
 const LEFT: usize = record::LEFT as usize;
 
 // The number in a column of the row after another.
@@ -89,7 +95,11 @@ pub fn column(records: &[u16], after: RecordId, f: u16) -> u16
 pub fn put_column(records: &mut [u16], after: RecordId, f: u16, v: u16)
     ensures { λ _. ⌜ now (records .exit) ≡ setColumnF (now (records .entry)) (after .0) f v ⌝ }
 {
-    put(records, (after.0 as usize) * record::NUMBERS + (f as usize), v);
+    put(
+        records,
+        (after.0 as usize) * record::NUMBERS + (f as usize),
+        v,
+    );
 }
 
 // The row after another, where the table may end inside it.
