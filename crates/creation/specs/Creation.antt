@@ -1,7 +1,10 @@
 -- The rows that a context makes.
 -- Assumes nothing.
 use mathlib.Core.List.{List}
-use Prim.Native.Nat.{ℕ}
+use Prim.Native.Nat.{ℕ, _+_}
+use Rattle.meaning.specs.Numbers.KnownName
+use Rattle.meaning.specs.Numbers.SymbolFlag
+use Rattle.meaning.specs.Numbers.ScopeFlag
 use Rattle.tables.specs.Table.{capped}
 use Rattle.scoping.specs.Rows.{withContext}
 use Rattle.scoping.specs.Changes.{SymbolRows, inScopes, inSymbols, createChildScopeF, createSymbolF}
@@ -40,7 +43,7 @@ creating s y c = record { scopes = s; symbols = y; created = c }
 -- ---- the context
 
 unfoldable pub makeContextF : SymbolRows → ℕ → SymbolRows
-makeContextF q scope = let q₁ = createSymbolF q 5 1 scope 1 in inSymbols (q₁ .t) (withContext (q₁ .ctx))
+makeContextF q scope = let q₁ = createSymbolF q KnownName.UsingCtx SymbolFlag.FunctionScoped scope 1 in inSymbols (q₁ .t) (withContext (q₁ .ctx))
 
 unfoldable pub loadContextF : List ℕ → SymbolRows → ℕ → ℕ → Transforming
 loadContextF ss q context cur =
@@ -56,11 +59,15 @@ withCtxF t x = record { ctx = x; context = t .context; form = t .form; load = t 
 
 -- ---- the Try
 
+-- the flags of `_` in a Catch
+abbrev pub errorFlags : ℕ
+errorFlags = SymbolFlag.FunctionScoped + SymbolFlag.Catch
+
 unfoldable pub createCatchClauseF : InRows → ℕ → InRows
 createCatchClauseF q parent =
-    let s₁ = createChildScopeF (inScopes (q .scopes) (q .ctx)) parent 2 in
+    let s₁ = createChildScopeF (inScopes (q .scopes) (q .ctx)) parent ScopeFlag.Catch in
     let s₂ = createChildScopeF s₁ (s₁ .ctx .scopes) 0 in
-    let y = createSymbolF (inSymbols (q .symbols) (s₂ .ctx)) 2 17 (s₂ .ctx .scopes) 0 in
+    let y = createSymbolF (inSymbols (q .symbols) (s₂ .ctx)) KnownName.Underscore errorFlags (s₂ .ctx .scopes) 0 in
     inRows (s₂ .t) (y .t) (y .ctx)
 
 unfoldable pub createTryStmtF : List ℕ → List ℕ → Transformed → ℕ → ℕ → Creating

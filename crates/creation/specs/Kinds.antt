@@ -2,6 +2,7 @@
 -- Assumes nothing.
 use mathlib.Core.List.{List}
 use Prim.Native.Nat.{ℕ}
+use Rattle.meaning.specs.Numbers.ScopeFlag
 use Rattle.scoping.specs.Changes.{
   inScopes,
   inSymbols,
@@ -39,9 +40,9 @@ forBodyF records q cur hoist after n awaits =
 unfoldable pub forStaticBlockF : InRows → ℕ → ℕ → Creating
 forStaticBlockF q old awaits =
     let t = transformStatementsF (q .scopes) (inSymbols (q .symbols) (q .ctx)) old old in
-    let s = insertScopeBetweenF (inScopes (q .scopes) (t .transformed .ctx)) old 4 in
+    let s = insertScopeBetweenF (inScopes (q .scopes) (t .transformed .ctx)) old ScopeFlag.StaticBlock in
     let ys = moveBindingF (inSymbols (t .symbols) (s .ctx)) (t .transformed .context .0) (s .ctx .scopes) in
-    let ss = setScopeFlagsF s old 1 in
+    let ss = setScopeFlagsF s old ScopeFlag.Strict in
     createTryStmtF ss ys (withCtxF (t .transformed) (s .ctx)) (s .ctx .scopes) awaits
 
 unfoldable pub forTryPartF : InRows → ℕ → ℕ → ℕ → ℕ → Creating

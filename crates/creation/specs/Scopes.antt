@@ -7,42 +7,42 @@ use lib.Dec.{eqb}
 use Rattle.meaning.specs.Tree.{if_then_else_}
 use Rattle.meaning.specs.Grammar.{scopeOf}
 use Rattle.tables.specs.Loops.{until}
-use Rattle.tables.specs.Table.{capped, rowF, headF}
+use Rattle.tables.specs.Table.{largest, capped, rowF, headF}
 use Rattle.scoping.specs.Changes.{ScopeRows, inScopes, createChildScopeF, changeScopeParentF}
 use Rattle.scoping.specs.declared.Ctx.{Ctx}
-use Rattle.creation.specs.declared.Passing.{Passing}
+use Rattle.creation.specs.declared.ScopeMove.{ScopeMove}
 
 -- the scope rows, and the records on the way
-pub record PassingF : Type 0 where
+pub record ScopeMoveF : Type 0 where
   pub t : List ℕ
   pub at : ℕ
   pub pending : ℕ
   pub skip : ℕ
 
-abbrev pub passingF : List ℕ → ℕ → ℕ → ℕ → PassingF
-passingF t at pending skip = record { t = t; at = at; pending = pending; skip = skip }
+abbrev pub scopeMoveF : List ℕ → ℕ → ℕ → ℕ → ScopeMoveF
+scopeMoveF t at pending skip = record { t = t; at = at; pending = pending; skip = skip }
 
-abbrev pub passing : List ℕ → Passing → PassingF
-passing t s = passingF t (s .at) (s .pending) (s .skip)
+abbrev pub scopeMove : List ℕ → ScopeMove → ScopeMoveF
+scopeMove t s = scopeMoveF t (s .at) (s .pending) (s .skip)
 
-unfoldable pub moveScopeF : List ℕ → Ctx → ℕ → PassingF → PassingF
+unfoldable pub moveScopeF : List ℕ → Ctx → ℕ → ScopeMoveF → ScopeMoveF
 moveScopeF records x parent s =
     let r = rowF records (s .at) in
     let next = capped (s .at) 1 in
     let scope = scopeOf (headF r) in
     let t = changeScopeParentF (inScopes (s .t) x) scope parent in
     if eqb (s .skip) 0 then (
-    if eqb scope 0 then passingF (s .t) next (capped (s .pending - 1) (r .n)) 0 else passingF t next (s .pending - 1) (r .n))
-    else passingF (s .t) next (s .pending) (capped (s .skip - 1) (r .n))
+    if eqb scope 0 then scopeMoveF (s .t) next (capped (s .pending - 1) (r .n)) 0 else scopeMoveF t next (s .pending - 1) (r .n))
+    else scopeMoveF (s .t) next (s .pending) (capped (s .skip - 1) (r .n))
 
-unfoldable pub isPassedF : Passing → Bool
+unfoldable pub isPassedF : ScopeMove → Bool
 isPassedF s = eqb (s .pending) 0 && eqb (s .skip) 0
 
-abbrev pub passed : PassingF → Bool
+abbrev pub passed : ScopeMoveF → Bool
 passed s = eqb (s .pending) 0 && eqb (s .skip) 0
 
 unfoldable pub moveScopesF : List ℕ → ScopeRows → ℕ → ℕ → ℕ → List ℕ
-moveScopesF records q after n parent = until 65535 passed (moveScopeF records (q .ctx) parent) (passingF (q .t) after n 0) .t
+moveScopesF records q after n parent = until largest passed (moveScopeF records (q .ctx) parent) (scopeMoveF (q .t) after n 0) .t
 
 unfoldable pub insertScopeBelowF : List ℕ → ScopeRows → ℕ → ℕ → ℕ → ScopeRows
 insertScopeBelowF records q scope after n =

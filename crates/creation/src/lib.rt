@@ -2,11 +2,17 @@
 use meaning::RecordId;
 use meaning::ScopeId;
 use meaning::SymbolId;
+use meaning::known_name;
+use meaning::scope_flag;
+use meaning::symbol_flag;
+use path::Walk;
 use scoping::Ctx;
 use statements::Parts;
 ghost use mathlib.Core.Path.{_≡_};
+ghost use Rattle.tables.specs.Table.{capped};
+ghost use Rattle.path.specs.Path.{currentScopeF, hoistScopeF};
 ghost use Rattle.scoping.specs.Changes.{inScopes, inSymbols};
-ghost use Rattle.creation.specs.Scopes.{passing, moveScopeF, isPassedF, moveScopesF, insertScopeBelowF};
+ghost use Rattle.creation.specs.Scopes.{scopeMove, moveScopeF, isPassedF, moveScopesF, insertScopeBelowF};
 ghost use Rattle.creation.specs.Creation.{inRows, transforming, creating, makeContextF, loadContextF, transformStatementsF, withCtxF, createCatchClauseF, createTryStmtF};
 ghost use Rattle.creation.specs.Kinds.{forBlockF, forBodyF, forStaticBlockF, forTryPartF, forLoopF, forSwitchF};
 
@@ -19,6 +25,7 @@ pub struct Transformed {
 }
 
 impl Transformed {
+    // With other counters.
     pub fn with_ctx(mut self, ctx: Ctx) -> Self
         ensures { λ r. ⌜ r ≡ withCtxF self ctx ⌝ }
     {
@@ -34,7 +41,7 @@ pub struct Created {
 }
 
 // The last row looked at, how many records beside each other are still to be looked at, and how many to be passed over before.
-pub struct Passing {
+pub struct ScopeMove {
     pub at: u16,
     pub pending: u16,
     pub skip: u16,
@@ -43,13 +50,19 @@ pub struct Passing {
 // ---- scopes
 
 // The next record: its scope gets the parent, and its children are passed over; a record without a scope is entered.
-fn move_scope(records: &[u16], scopes: &mut [u16], ctx: Ctx, s: Passing, parent: ScopeId) -> Passing
-    ensures { λ r. ⌜ passing (now (scopes .exit)) r ≡ moveScopeF (now (records .entry)) ctx (parent .0) (passing (now (scopes .entry)) s) ⌝ }
+fn move_scope(
+    records: &[u16],
+    scopes: &mut [u16],
+    ctx: Ctx,
+    s: ScopeMove,
+    parent: ScopeId,
+) -> ScopeMove
+    ensures { λ r. ⌜ scopeMove (now (scopes .exit)) r ≡ moveScopeF (now (records .entry)) ctx (parent .0) (scopeMove (now (scopes .entry)) s) ⌝ }
 {
     let r = tables::row_after(records, RecordId(s.at));
     let at = tables::plus(s.at, 1);
     if s.skip != 0 {
-        return Passing {
+        return ScopeMove {
             at,
             pending: s.pending,
             skip: tables::plus(tables::minus(s.skip, 1), r.n),
@@ -58,21 +71,22 @@ fn move_scope(records: &[u16], scopes: &mut [u16], ctx: Ctx, s: Passing, parent:
     let pending = tables::minus(s.pending, 1);
     let scope = path::scope_of(r);
     if scope.0 == 0 {
-        return Passing {
+        return ScopeMove {
             at,
             pending: tables::plus(pending, r.n),
             skip: 0,
         };
     }
     scoping::change_scope_parent(scopes, ctx, scope, parent);
-    Passing {
+    ScopeMove {
         at,
         pending,
         skip: r.n,
     }
 }
 
-fn is_passed(s: Passing) -> bool
+// No record is left to look at.
+fn is_passed(s: ScopeMove) -> bool
     ensures { λ r. ⌜ r ≡ isPassedF s ⌝ }
 {
     if s.pending != 0 {
@@ -92,13 +106,13 @@ fn move_scopes(
 )
     ensures { λ _. ⌜ now (scopes .exit) ≡ moveScopesF (now (records .entry)) (inScopes (now (scopes .entry)) ctx) (after .0) n (parent .0) ⌝ }
 {
-    let mut s = Passing {
+    let mut s = ScopeMove {
         at: after.0,
         pending: n,
         skip: 0,
     };
     let mut k: u16 = 0;
-    while k < 65535 {
+    while k < tables::LARGEST {
         if is_passed(s) {
             break;
         }
@@ -125,11 +139,18 @@ pub fn insert_scope_below(
 
 // ---- the context
 
-// Its symbol, on `usingCtx`.
+// A context's symbol, on `usingCtx`.
 pub fn make_context(symbols: &mut [u16], ctx: Ctx, scope: ScopeId) -> Ctx
     ensures { λ r. ⌜ inSymbols (now (symbols .exit)) r ≡ makeContextF (inSymbols (now (symbols .entry)) ctx) (scope .0) ⌝ }
 {
-    let made = scoping::create_symbol(symbols, ctx, 5, 1, scope, 1);
+    let made = scoping::create_symbol(
+        symbols,
+        ctx,
+        known_name::USING_CTX,
+        symbol_flag::FUNCTION_SCOPED,
+        scope,
+        1,
+    );
     made.new_context()
 }
 
@@ -170,13 +191,23 @@ pub fn transform_statements(
 
 // ---- the Try
 
+// The flags of `_` in a Catch.
+const ERROR_FLAGS: u16 = symbol_flag::FUNCTION_SCOPED + symbol_flag::CATCH;
+
 // `create_catch_clause`: the Catch's scope, that of its body, and `_`.
 fn create_catch_clause(scopes: &mut [u16], symbols: &mut [u16], ctx: Ctx, parent: ScopeId) -> Ctx
     ensures { λ r. ⌜ inRows (now (scopes .exit)) (now (symbols .exit)) r ≡ createCatchClauseF (inRows (now (scopes .entry)) (now (symbols .entry)) ctx) (parent .0) ⌝ }
 {
-    let caught = scoping::create_child_scope(scopes, ctx, parent, 2);
+    let caught = scoping::create_child_scope(scopes, ctx, parent, scope_flag::CATCH);
     let body = scoping::create_child_scope(scopes, caught, ScopeId(caught.scopes), 0);
-    scoping::create_symbol(symbols, body, 2, 17, ScopeId(body.scopes), 0)
+    scoping::create_symbol(
+        symbols,
+        body,
+        known_name::UNDERSCORE,
+        ERROR_FLAGS,
+        ScopeId(body.scopes),
+        0,
+    )
 }
 
 // `create_try_stmt`: the Catch and the last Block below the scope `parent`.
@@ -224,23 +255,23 @@ pub fn for_block(
     create_try_stmt(scopes, symbols, t, cur, awaits)
 }
 
-// A function body: a new scope below the function's takes the list, `n` records after a row, and what the function's scope binds block-scoped
+// The function body to enter: a new scope below the function's takes its list of `n` records, and what the function's scope binds block-scoped
 // or as a class.
 pub fn for_body(
     records: &[u16],
     scopes: &mut [u16],
     symbols: &mut [u16],
-    ctx: Ctx,
-    cur: ScopeId,
-    hoist: ScopeId,
-    after: RecordId,
+    w: Walk,
     n: u16,
     awaits: u16,
 ) -> Created
-    ensures { λ r. ⌜ creating (now (scopes .exit)) (now (symbols .exit)) r ≡ forBodyF (now (records .entry)) (inRows (now (scopes .entry)) (now (symbols .entry)) ctx) (cur .0) (hoist .0) (after .0) n awaits ⌝ }
+    ensures { λ r. ⌜ creating (now (scopes .exit)) (now (symbols .exit)) r ≡ forBodyF (now (records .entry)) (inRows (now (scopes .entry)) (now (symbols .entry)) (w .ctx)) (currentScopeF (now (records .entry)) (w .inner .0) (w .visited .0)) (hoistScopeF (now (records .entry)) (w .inner .0) (w .visited .0)) (capped (w .gap .0) 1) n awaits ⌝ }
 {
-    let t = transform_statements(scopes, symbols, ctx, cur, hoist);
-    let x = insert_scope_below(records, scopes, t.ctx, cur, after, n);
+    let cur = path::current_scope(records, w.inner, w.visited.0);
+    let hoist = path::hoist_scope(records, w.inner, w.visited.0);
+    let list = RecordId(tables::plus(w.gap.0, 1));
+    let t = transform_statements(scopes, symbols, w.ctx, cur, hoist);
+    let x = insert_scope_below(records, scopes, t.ctx, cur, list, n);
     scoping::move_block_scoped(symbols, x, cur, ScopeId(x.scopes));
     create_try_stmt(scopes, symbols, t.with_ctx(x), cur, awaits)
 }
@@ -256,10 +287,10 @@ pub fn for_static_block(
     ensures { λ r. ⌜ creating (now (scopes .exit)) (now (symbols .exit)) r ≡ forStaticBlockF (inRows (now (scopes .entry)) (now (symbols .entry)) ctx) (old .0) awaits ⌝ }
 {
     let t = transform_statements(scopes, symbols, ctx, old, old);
-    let x = scoping::insert_scope_between(scopes, t.ctx, old, 4);
+    let x = scoping::insert_scope_between(scopes, t.ctx, old, scope_flag::STATIC_BLOCK);
     let scope = ScopeId(x.scopes);
     scoping::move_binding(symbols, x, t.context, scope);
-    scoping::set_scope_flags(scopes, x, old, 1);
+    scoping::set_scope_flags(scopes, x, old, scope_flag::STRICT);
     create_try_stmt(scopes, symbols, t.with_ctx(x), scope, awaits)
 }
 
@@ -282,21 +313,20 @@ pub fn for_try_part(
     c
 }
 
-// A For with its Labels, the record after a row: a new scope above it.
+// The For with its Labels to enter: a new scope above it.
 pub fn for_loop(
     records: &[u16],
     scopes: &mut [u16],
     symbols: &mut [u16],
-    ctx: Ctx,
-    cur: ScopeId,
-    hoist: ScopeId,
-    after: RecordId,
+    w: Walk,
     awaits: u16,
 ) -> Created
-    ensures { λ r. ⌜ creating (now (scopes .exit)) (now (symbols .exit)) r ≡ forLoopF (now (records .entry)) (inRows (now (scopes .entry)) (now (symbols .entry)) ctx) (cur .0) (hoist .0) (after .0) awaits ⌝ }
+    ensures { λ r. ⌜ creating (now (scopes .exit)) (now (symbols .exit)) r ≡ forLoopF (now (records .entry)) (inRows (now (scopes .entry)) (now (symbols .entry)) (w .ctx)) (currentScopeF (now (records .entry)) (w .inner .0) (w .visited .0)) (hoistScopeF (now (records .entry)) (w .inner .0) (w .visited .0)) (w .gap .0) awaits ⌝ }
 {
-    let made = make_context(symbols, ctx, hoist);
-    let x = insert_scope_below(records, scopes, made, cur, after, 1);
+    let cur = path::current_scope(records, w.inner, w.visited.0);
+    let hoist = path::hoist_scope(records, w.inner, w.visited.0);
+    let made = make_context(symbols, w.ctx, hoist);
+    let x = insert_scope_below(records, scopes, made, cur, w.gap, 1);
     let t = load_context(scopes, symbols, x, SymbolId(made.symbols), cur);
     create_try_stmt(scopes, symbols, t, cur, awaits)
 }

@@ -3,9 +3,12 @@
 use mathlib.Core.List.{List}
 use Prim.Native.Nat.{ℕ}
 use lib.Dec.{eqb}
+use Rattle.meaning.specs.Numbers.Mode
+use Rattle.meaning.specs.Numbers.SymbolFlag
+use Rattle.meaning.specs.Numbers.KnownName
 use Rattle.meaning.specs.Tree.{if_then_else_}
 use Rattle.meaning.specs.Scoping.{findBinding}
-use Rattle.scoping.specs.Rows.{withHelper, storeF}
+use Rattle.scoping.specs.Rows.{rootScope, withHelper, storeF}
 use Rattle.scoping.specs.Changes.{SymbolRows, inSymbols, createSymbolF}
 use Rattle.scoping.specs.declared.Ctx.{Ctx}
 use Rattle.helper_loader.specs.declared.Loaded.{Loaded}
@@ -18,9 +21,13 @@ pub record Loading : Type 0 where
 abbrev pub loading : List ℕ → Loaded → Loading
 loading t x = record { t = t; loaded = x }
 
+-- an import in a module, a var elsewhere
+abbrev pub helperFlags : ℕ → ℕ
+helperFlags esm = if eqb esm 1 then SymbolFlag.Import else SymbolFlag.FunctionScoped
+
 unfoldable pub makeHelperF : SymbolRows → SymbolRows
 makeHelperF q =
-    let q₁ = createSymbolF q 5 (if eqb (q .ctx .esm) 1 then 32 else 1) 1 1 in
+    let q₁ = createSymbolF q KnownName.UsingCtx (helperFlags (q .ctx .esm)) rootScope 1 in
     inSymbols (q₁ .t) (withHelper (q₁ .ctx) (q₁ .ctx .symbols))
 
 unfoldable pub loadRuntimeF : SymbolRows → SymbolRows
@@ -32,5 +39,6 @@ loadedF x form y = record { ctx = x; form = form; symbol = record { 0 = y } }
 unfoldable pub helperLoadF : List ℕ → SymbolRows → ℕ → Loading
 helperLoadF ss q cur =
     let r = loadRuntimeF q in
-    let y = findBinding (q .ctx .scopes) (storeF ss (q .t) (q .ctx)) cur 1 in
-    if eqb (q .ctx .mode) 0 then loading (r .t) (loadedF (r .ctx) 0 (r .ctx .helper .0)) else loading (q .t) (loadedF (q .ctx) 1 y)
+    let y = findBinding (q .ctx .scopes) (storeF ss (q .t) (q .ctx)) cur KnownName.BabelHelpers in
+    if eqb (q .ctx .mode) Mode.Runtime then loading (r .t) (loadedF (r .ctx) Mode.Runtime (r .ctx .helper .0))
+    else loading (q .t) (loadedF (q .ctx) Mode.External y)

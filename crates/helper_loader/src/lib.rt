@@ -1,12 +1,13 @@
 // `helper_load` (src/common/helper_loader.rs).
 use meaning::ScopeId;
 use meaning::SymbolId;
+use meaning::known_name;
+use meaning::mode;
+use meaning::symbol_flag;
 use scoping::Ctx;
 ghost use mathlib.Core.Path.{_≡_};
-ghost use lib.Dec.{eqb};
-ghost use Rattle.meaning.specs.Tree.{if_then_else_};
 ghost use Rattle.scoping.specs.Changes.{inSymbols};
-ghost use Rattle.helper_loader.specs.Load.{loading, makeHelperF, loadRuntimeF, helperLoadF};
+ghost use Rattle.helper_loader.specs.Load.{loading, helperFlags, makeHelperF, loadRuntimeF, helperLoadF};
 
 // The counters, and the form and the symbol of a Load.
 pub struct Loaded {
@@ -17,9 +18,13 @@ pub struct Loaded {
 
 // An import in a module, a var elsewhere.
 fn helper_flags(esm: u16) -> u16
-    ensures { λ r. ⌜ r ≡ (if eqb esm 1 then 32 else 1) ⌝ }
+    ensures { λ r. ⌜ r ≡ helperFlags esm ⌝ }
 {
-    if esm == 1 { 32 } else { 1 }
+    if esm == 1 {
+        symbol_flag::IMPORT
+    } else {
+        symbol_flag::FUNCTION_SCOPED
+    }
 }
 
 // One symbol on `usingCtx` in scope 1.
@@ -27,7 +32,14 @@ fn make_helper(symbols: &mut [u16], ctx: Ctx) -> Ctx
     ensures { λ r. ⌜ inSymbols (now (symbols .exit)) r ≡ makeHelperF (inSymbols (now (symbols .entry)) ctx) ⌝ }
 {
     let flags = helper_flags(ctx.esm);
-    let made = scoping::create_symbol(symbols, ctx, 5, flags, ScopeId(1), 1);
+    let made = scoping::create_symbol(
+        symbols,
+        ctx,
+        known_name::USING_CTX,
+        flags,
+        ScopeId(scoping::ROOT),
+        1,
+    );
     made.with_helper(SymbolId(made.symbols))
 }
 
@@ -42,23 +54,23 @@ fn load_runtime(symbols: &mut [u16], ctx: Ctx) -> Ctx
     }
 }
 
-// External: the symbol of `babelHelpers` seen from the current scope, or 0.
+// The Load of a context. Runtime: the helper's symbol; else: the symbol of `babelHelpers` seen from the current scope, or 0.
 pub fn helper_load(scopes: &[u16], symbols: &mut [u16], ctx: Ctx, cur: ScopeId) -> Loaded
     ensures { λ r. ⌜ loading (now (symbols .exit)) r ≡ helperLoadF (now (scopes .entry)) (inSymbols (now (symbols .entry)) ctx) (cur .0) ⌝ }
 {
-    if ctx.mode == 0 {
+    if ctx.mode == mode::RUNTIME {
         let loaded = load_runtime(symbols, ctx);
         let symbol = loaded.helper;
         Loaded {
             ctx: loaded,
-            form: 0,
+            form: mode::RUNTIME,
             symbol,
         }
     } else {
-        let symbol = scoping::find_binding(scopes, symbols, ctx, cur, 1);
+        let symbol = scoping::find_binding(scopes, symbols, ctx, cur, known_name::BABEL_HELPERS);
         Loaded {
             ctx,
-            form: 1,
+            form: mode::EXTERNAL,
             symbol,
         }
     }

@@ -4,8 +4,10 @@ use mathlib.Core.List.{List, [], _∷_}
 use mathlib.Core.Bool.{Bool, not, _||_}
 use Prim.Native.Nat.{ℕ, _-_}
 use lib.Dec.{eqb}
+use Rattle.meaning.specs.Numbers.Tag
 use Rattle.meaning.specs.Tree.{if_then_else_, oneOf}
 use Rattle.meaning.specs.Grammar.{scopeOf}
+use Rattle.tables.specs.Columns.RecordTable
 use Rattle.tables.specs.Loops.{until}
 use Rattle.tables.specs.Table.{capped, columnF, rowF, setColumnF, moveRowF, headF}
 use Rattle.tables.specs.declared.Row.{Row}
@@ -78,13 +80,13 @@ unfoldable pub hasScopeF : List ℕ → ℕ → Bool
 hasScopeF t at = eqb at 0 || not (eqb (scopeAtF t at) 0)
 
 unfoldable pub upF : List ℕ → ℕ → ℕ
-upF t at = columnF t (at - 1) 5
+upF t at = columnF t (at - 1) RecordTable.Up
 
 unfoldable pub currentScopeF : List ℕ → ℕ → ℕ → ℕ
 currentScopeF t inner n = scopeAtF t (until n (hasScopeF t) (upF t) inner)
 
 unfoldable pub isHoistF : List ℕ → ℕ → Bool
-isHoistF t at = eqb at 0 || oneOf (1 ∷ 13 ∷ 16 ∷ []) (columnF t (at - 1) 0)
+isHoistF t at = eqb at 0 || oneOf (Tag.Program ∷ Tag.Function ∷ Tag.StaticBlock ∷ []) (columnF t (at - 1) RecordTable.Tag)
 
 unfoldable pub hoistScopeF : List ℕ → ℕ → ℕ → ℕ
 hoistScopeF t inner n = scopeAtF t (until n (isHoistF t) (upF t) inner)
@@ -92,16 +94,18 @@ hoistScopeF t inner n = scopeAtF t (until n (isHoistF t) (upF t) inner)
 -- ---- entering and leaving
 
 unfoldable pub closeF : OpenRows → OpenRows
-closeF o = openRows (setColumnF (o .t) (o .at - 1) 5 0) (upF (o .t) (o .at))
+closeF o = openRows (setColumnF (o .t) (o .at - 1) RecordTable.Up 0) (upF (o .t) (o .at))
 
 unfoldable pub staysF : List ℕ → ℕ → Bool
-staysF t at = eqb at 0 || (not (eqb (columnF t (at - 1) 6) 0) || eqb (columnF t (at - 1) 0) 16)
+staysF t at =
+    eqb at 0
+    || (not (eqb (columnF t (at - 1) RecordTable.Left) 0) || eqb (columnF t (at - 1) RecordTable.Tag) Tag.StaticBlock)
 
 unfoldable pub settleF : ℕ → OpenRows → OpenRows
 settleF n o = until n (λ p. staysF (p .t) (p .at)) closeF o
 
 unfoldable pub countDownF : List ℕ → ℕ → List ℕ
-countDownF t at = if eqb at 0 then t else setColumnF t (at - 1) 6 (columnF t (at - 1) 6 - 1)
+countDownF t at = if eqb at 0 then t else setColumnF t (at - 1) RecordTable.Left (columnF t (at - 1) RecordTable.Left - 1)
 
 abbrev pub openRowF : Row → ℕ → Row
 openRowF r around = record { tag = r .tag; a = r .a; b = r .b; c = r .c; n = r .n; up = around; left = r .n }

@@ -4,9 +4,11 @@
 // how many of its children are still to be entered; both are 0 in all other rows. So a walk needs no stack, and no depth is assumed.
 use meaning::RecordId;
 use meaning::ScopeId;
+use meaning::tag;
 use scoping::Ctx;
 use tables::Cursor;
 use tables::Row;
+use tables::record;
 ghost use mathlib.Core.Path.{_≡_};
 ghost use Rattle.meaning.specs.Grammar.{scopeOf};
 ghost use Rattle.tables.specs.Loops.{until};
@@ -23,7 +25,7 @@ pub struct Walk {
 }
 
 impl Walk {
-    // So many rows are made: they take free ones.
+    // So many rows are to be made: they take free ones.
     pub fn charge(mut self, rows: u16) -> Self
         ensures { λ r. ⌜ r ≡ chargedF self rows ⌝ }
     {
@@ -44,6 +46,7 @@ impl Walk {
         self
     }
 
+    // With another innermost open row.
     pub fn with_inner(mut self, inner: RecordId) -> Self
         ensures { λ r. ⌜ r ≡ withInnerF self (inner .0) ⌝ }
     {
@@ -62,6 +65,7 @@ impl Walk {
         self
     }
 
+    // With other counters.
     pub fn with_ctx(mut self, ctx: Ctx) -> Self
         ensures { λ r. ⌜ r ≡ withCtxF self ctx ⌝ }
     {
@@ -78,21 +82,21 @@ pub fn scope_of(r: Row) -> ScopeId
 {
     let tag = r.tag;
     match tag {
-        1 => ScopeId(r.a),
-        2 => ScopeId(r.a),
-        3 => ScopeId(r.a),
-        7 => ScopeId(r.a),
-        8 => ScopeId(r.a),
-        9 => ScopeId(r.a),
-        12 => ScopeId(r.a),
-        13 => ScopeId(r.b),
-        15 => ScopeId(r.b),
-        16 => ScopeId(r.a),
+        tag::PROGRAM => ScopeId(r.a),
+        tag::BLOCK => ScopeId(r.a),
+        tag::PLAIN => ScopeId(r.a),
+        tag::FOR => ScopeId(r.a),
+        tag::FOR_OF => ScopeId(r.a),
+        tag::SWITCH => ScopeId(r.a),
+        tag::CATCH => ScopeId(r.a),
+        tag::FUNCTION => ScopeId(r.b),
+        tag::CLASS => ScopeId(r.b),
+        tag::STATIC_BLOCK => ScopeId(r.a),
         _ => ScopeId(0),
     }
 }
 
-// That of a row, or 0 if there is none.
+// The scope that a row has, or 0.
 fn scope_at(records: &[u16], at: RecordId) -> ScopeId
     ensures { λ s. ⌜ s .0 ≡ scopeAtF (now (records .entry)) (at .0) ⌝ }
 {
@@ -103,6 +107,7 @@ fn scope_at(records: &[u16], at: RecordId) -> ScopeId
     scope_of(tables::row_after(records, RecordId(n - 1)))
 }
 
+// The row has a scope of its own, or there is none.
 fn has_scope(records: &[u16], at: RecordId) -> bool
     ensures { λ r. ⌜ r ≡ hasScopeF (now (records .entry)) (at .0) ⌝ }
 {
@@ -118,10 +123,10 @@ fn has_scope(records: &[u16], at: RecordId) -> bool
 fn up(records: &[u16], at: u16) -> u16
     ensures { λ r. ⌜ r ≡ upF (now (records .entry)) at ⌝ }
 {
-    tables::column(records, RecordId(tables::minus(at, 1)), 5)
+    tables::column(records, RecordId(tables::minus(at, 1)), record::UP)
 }
 
-// The nearest open record with a scope, of `count` at most.
+// The nearest open record with a scope, after `count` steps outwards at most.
 fn nearest_scope(records: &[u16], inner: u16, count: u16) -> u16
     ensures { λ r. ⌜ r ≡ until count (hasScopeF (now (records .entry))) (upF (now (records .entry))) inner ⌝ }
 {
@@ -137,7 +142,7 @@ fn nearest_scope(records: &[u16], inner: u16, count: u16) -> u16
     at
 }
 
-// The scope of the nearest open record with one, of `count` at most.
+// The current scope: that of the nearest open record with one, after `count` steps outwards at most.
 pub fn current_scope(records: &[u16], inner: RecordId, count: u16) -> ScopeId
     ensures { λ s. ⌜ s .0 ≡ currentScopeF (now (records .entry)) (inner .0) count ⌝ }
 {
@@ -152,16 +157,16 @@ fn is_hoist(records: &[u16], at: RecordId) -> bool
     if n == 0 {
         return true;
     }
-    let tag = tables::column(records, RecordId(n - 1), 0);
+    let tag = tables::column(records, RecordId(n - 1), record::TAG);
     match tag {
-        1 => true,
-        13 => true,
-        16 => true,
+        tag::PROGRAM => true,
+        tag::FUNCTION => true,
+        tag::STATIC_BLOCK => true,
         _ => false,
     }
 }
 
-// The nearest open Program, Function or StaticBlock.
+// The nearest open Program, Function or StaticBlock, after `count` steps outwards at most.
 fn nearest_hoist(records: &[u16], inner: u16, count: u16) -> u16
     ensures { λ r. ⌜ r ≡ until count (isHoistF (now (records .entry))) (upF (now (records .entry))) inner ⌝ }
 {
@@ -177,7 +182,7 @@ fn nearest_hoist(records: &[u16], inner: u16, count: u16) -> u16
     at
 }
 
-// That of the nearest Program, Function or StaticBlock.
+// The hoist scope: that of the nearest open Program, Function or StaticBlock.
 pub fn hoist_scope(records: &[u16], inner: RecordId, count: u16) -> ScopeId
     ensures { λ s. ⌜ s .0 ≡ hoistScopeF (now (records .entry)) (inner .0) count ⌝ }
 {
@@ -191,7 +196,7 @@ pub fn close(records: &mut [u16], at: u16) -> u16
     ensures { λ r. ⌜ openRows (now (records .exit)) r ≡ closeF (openRows (now (records .entry)) at) ⌝ }
 {
     let around = up(records, at);
-    tables::put_column(records, RecordId(tables::minus(at, 1)), 5, 0);
+    tables::put_column(records, RecordId(tables::minus(at, 1)), record::UP, 0);
     around
 }
 
@@ -202,10 +207,10 @@ fn stays(records: &[u16], at: u16) -> bool
     if at == 0 {
         return true;
     }
-    if tables::column(records, RecordId(at - 1), 6) != 0 {
+    if tables::column(records, RecordId(at - 1), record::LEFT) != 0 {
         return true;
     }
-    tables::column(records, RecordId(at - 1), 0) == 16
+    tables::column(records, RecordId(at - 1), record::TAG) == tag::STATIC_BLOCK
 }
 
 // Rows whose children are all entered are left, `count` at most.
@@ -229,11 +234,17 @@ fn count_down(records: &mut [u16], at: u16)
     ensures { λ _. ⌜ now (records .exit) ≡ countDownF (now (records .entry)) at ⌝ }
 {
     if at != 0 {
-        let left = tables::column(records, RecordId(at - 1), 6);
-        tables::put_column(records, RecordId(at - 1), 6, tables::minus(left, 1));
+        let left = tables::column(records, RecordId(at - 1), record::LEFT);
+        tables::put_column(
+            records,
+            RecordId(at - 1),
+            record::LEFT,
+            tables::minus(left, 1),
+        );
     }
 }
 
+// The row as an open one: all its children are to be entered.
 fn open_row(r: Row, around: u16) -> Row
     ensures { λ o. ⌜ o ≡ openRowF r around ⌝ }
 {

@@ -6,6 +6,7 @@ use Prim.Native.Nat.{ℕ, zero, suc}
 use lib.Dec.{eqb}
 use Rattle.meaning.specs.Tree.{if_then_else_}
 use Rattle.meaning.specs.File.{Symbol}
+use Rattle.tables.specs.Columns.ScopeTable
 use Rattle.tables.specs.Table.{capped}
 use Rattle.scoping.specs.Rows.{scopeNumber}
 use Rattle.scoping.specs.declared.Candidates.{Candidates}
@@ -31,4 +32,4 @@ climbsF zero t n scope to = false
 climbsF (suc k) t n scope to =
     if eqb to scope then true
     else if eqb scope 0 then false
-    else climbsF k t n (scopeNumber t n scope 0) to
+    else climbsF k t n (scopeNumber t n scope ScopeTable.Parent) to

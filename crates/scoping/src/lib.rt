@@ -4,16 +4,23 @@
 // numbered from 1, new ones come behind the others, and the tables are 0 behind the last row.
 use meaning::ScopeId;
 use meaning::SymbolId;
+use meaning::symbol_flag;
+use tables::scope;
+use tables::symbol;
 ghost use mathlib.Core.Path.{_≡_};
 ghost use Prim.Native.Nat.{_+_, _*_, _-_, _<_};
 ghost use Rattle.meaning.specs.Tree.{if_then_else_};
 ghost use Rattle.meaning.specs.Scoping.{binds, getBinding, findBinding, isBound};
 ghost use Rattle.meaning.specs.ForOf.{bindsName};
+ghost use Rattle.tables.specs.Columns.SymbolTable;
 ghost use Rattle.tables.specs.Table.{capped};
 ghost use Rattle.scoping.specs.Rows.{withScope, withSymbol, withContext, withHelper, scopeNumber, symbolNumber, setScopeF, setSymbolF, symbolAt, symbolsF, storeF, blockScoped};
 ghost use Rattle.scoping.specs.Search.{nextRowF, bindingFrom};
 ghost use Rattle.scoping.specs.Candidates.{noCandidate, addCandidateF, candidatesF, climbsF};
 ghost use Rattle.scoping.specs.Changes.{inScopes, inSymbols, createChildScopeF, changeScopeParentF, setScopeFlagsF, insertScopeBetweenF, createSymbolF, moveBindingF, setSymbolFlagsF, movesF, moveBoundF, moveBlockScopedF};
+
+// The first scope row: the root scope.
+pub const ROOT: u16 = 1;
 
 // The settings (mode, and 1 for a module), how many rows there are and how many symbol rows were read, the runtime helper's symbol or 0, and the contexts made.
 pub struct Ctx {
@@ -27,6 +34,7 @@ pub struct Ctx {
 }
 
 impl Ctx {
+    // One scope row more.
     pub fn new_scope(mut self) -> Self
         ensures { λ r. ⌜ r ≡ withScope self ⌝ }
     {
@@ -34,6 +42,7 @@ impl Ctx {
         self
     }
 
+    // One symbol row more.
     pub fn new_symbol(mut self) -> Self
         ensures { λ r. ⌜ r ≡ withSymbol self ⌝ }
     {
@@ -41,6 +50,7 @@ impl Ctx {
         self
     }
 
+    // One context more.
     pub fn new_context(mut self) -> Self
         ensures { λ r. ⌜ r ≡ withContext self ⌝ }
     {
@@ -48,6 +58,7 @@ impl Ctx {
         self
     }
 
+    // With the symbol of the runtime helper.
     pub fn with_helper(mut self, y: SymbolId) -> Self
         ensures { λ r. ⌜ r ≡ withHelper self (y .0) ⌝ }
     {
@@ -55,6 +66,15 @@ impl Ctx {
         self
     }
 }
+
+// The columns as places in a row.
+const SCOPE_FLAGS: usize = scope::FLAGS as usize;
+
+const FLAGS: usize = symbol::FLAGS as usize;
+
+const SCOPE: usize = symbol::SCOPE as usize;
+
+const MADE: usize = symbol::MADE as usize;
 
 // ---- numbers of rows
 
@@ -67,7 +87,7 @@ pub fn scope_number(scopes: &[u16], count: u16, s: ScopeId, f: u16) -> u16
         return 0;
     }
     if n <= count {
-        tables::get(scopes, ((n - 1) as usize) * 2 + (f as usize))
+        tables::get(scopes, ((n - 1) as usize) * scope::NUMBERS + (f as usize))
     } else {
         0
     }
@@ -82,10 +102,15 @@ fn put_scope(scopes: &mut [u16], count: u16, s: ScopeId, f: u16, v: u16)
         return;
     }
     if n <= count {
-        tables::put(scopes, ((n - 1) as usize) * 2 + (f as usize), v);
+        tables::put(
+            scopes,
+            ((n - 1) as usize) * scope::NUMBERS + (f as usize),
+            v,
+        );
     }
 }
 
+// A number of one of the first `count` symbol rows, or 0 if there is no such row.
 pub fn symbol_number(symbols: &[u16], count: u16, y: SymbolId, f: u16) -> u16
     ensures { λ r. ⌜ r ≡ symbolNumber (now (symbols .entry)) count (y .0) f ⌝ }
 {
@@ -94,12 +119,13 @@ pub fn symbol_number(symbols: &[u16], count: u16, y: SymbolId, f: u16) -> u16
         return 0;
     }
     if n <= count {
-        tables::get(symbols, ((n - 1) as usize) * 5 + (f as usize))
+        tables::get(symbols, ((n - 1) as usize) * symbol::NUMBERS + (f as usize))
     } else {
         0
     }
 }
 
+// Stores a number of a symbol row; if there are fewer rows nothing happens.
 fn put_symbol(symbols: &mut [u16], count: u16, y: SymbolId, f: u16, v: u16)
     ensures { λ _. ⌜ now (symbols .exit) ≡ setSymbolF (now (symbols .entry)) count (y .0) f v ⌝ }
 {
@@ -108,7 +134,11 @@ fn put_symbol(symbols: &mut [u16], count: u16, y: SymbolId, f: u16, v: u16)
         return;
     }
     if n <= count {
-        tables::put(symbols, ((n - 1) as usize) * 5 + (f as usize), v);
+        tables::put(
+            symbols,
+            ((n - 1) as usize) * symbol::NUMBERS + (f as usize),
+            v,
+        );
     }
 }
 
@@ -118,10 +148,10 @@ fn put_symbol(symbols: &mut [u16], count: u16, y: SymbolId, f: u16, v: u16)
 pub fn create_child_scope(scopes: &mut [u16], ctx: Ctx, parent: ScopeId, flags: u16) -> Ctx
     ensures { λ r. ⌜ inScopes (now (scopes .exit)) r ≡ createChildScopeF (inScopes (now (scopes .entry)) ctx) (parent .0) flags ⌝ }
 {
-    let at = (ctx.scopes as usize) * 2;
-    let strict = scope_number(scopes, ctx.scopes, parent, 1) % 2;
+    let at = (ctx.scopes as usize) * scope::NUMBERS;
+    let strict = scope_number(scopes, ctx.scopes, parent, scope::FLAGS) % 2;
     tables::put(scopes, at, parent.0);
-    tables::put(scopes, at + 1, tables::plus(flags, strict));
+    tables::put(scopes, at + SCOPE_FLAGS, tables::plus(flags, strict));
     ctx.new_scope()
 }
 
@@ -129,21 +159,21 @@ pub fn create_child_scope(scopes: &mut [u16], ctx: Ctx, parent: ScopeId, flags: 
 pub fn change_scope_parent(scopes: &mut [u16], ctx: Ctx, s: ScopeId, parent: ScopeId)
     ensures { λ _. ⌜ now (scopes .exit) ≡ changeScopeParentF (inScopes (now (scopes .entry)) ctx) (s .0) (parent .0) ⌝ }
 {
-    put_scope(scopes, ctx.scopes, s, 0, parent.0);
+    put_scope(scopes, ctx.scopes, s, scope::PARENT, parent.0);
 }
 
 // `scope_flags_mut`
 pub fn set_scope_flags(scopes: &mut [u16], ctx: Ctx, s: ScopeId, flags: u16)
     ensures { λ _. ⌜ now (scopes .exit) ≡ setScopeFlagsF (inScopes (now (scopes .entry)) ctx) (s .0) flags ⌝ }
 {
-    put_scope(scopes, ctx.scopes, s, 1, flags);
+    put_scope(scopes, ctx.scopes, s, scope::FLAGS, flags);
 }
 
 // `insert_scope_between`: a new scope above a scope, below the one that it was below.
 pub fn insert_scope_between(scopes: &mut [u16], ctx: Ctx, s: ScopeId, flags: u16) -> Ctx
     ensures { λ r. ⌜ inScopes (now (scopes .exit)) r ≡ insertScopeBetweenF (inScopes (now (scopes .entry)) ctx) (s .0) flags ⌝ }
 {
-    let parent = ScopeId(scope_number(scopes, ctx.scopes, s, 0));
+    let parent = ScopeId(scope_number(scopes, ctx.scopes, s, scope::PARENT));
     let made = create_child_scope(scopes, ctx, parent, flags);
     change_scope_parent(scopes, made, s, ScopeId(made.scopes));
     made
@@ -151,6 +181,7 @@ pub fn insert_scope_between(scopes: &mut [u16], ctx: Ctx, s: ScopeId, flags: u16
 
 // ---- symbols
 
+// `create_symbol`: a new symbol row; made is 1 for a unique name, else 0.
 pub fn create_symbol(
     symbols: &mut [u16],
     ctx: Ctx,
@@ -161,11 +192,11 @@ pub fn create_symbol(
 ) -> Ctx
     ensures { λ r. ⌜ inSymbols (now (symbols .exit)) r ≡ createSymbolF (inSymbols (now (symbols .entry)) ctx) name flags (scope .0) made ⌝ }
 {
-    let at = (ctx.symbols as usize) * 5;
+    let at = (ctx.symbols as usize) * symbol::NUMBERS;
     tables::put(symbols, at, name);
-    tables::put(symbols, at + 1, flags);
-    tables::put(symbols, at + 2, scope.0);
-    tables::put(symbols, at + 3, made);
+    tables::put(symbols, at + FLAGS, flags);
+    tables::put(symbols, at + SCOPE, scope.0);
+    tables::put(symbols, at + MADE, made);
     ctx.new_symbol()
 }
 
@@ -173,33 +204,40 @@ pub fn create_symbol(
 pub fn move_binding(symbols: &mut [u16], ctx: Ctx, y: SymbolId, scope: ScopeId)
     ensures { λ _. ⌜ now (symbols .exit) ≡ moveBindingF (inSymbols (now (symbols .entry)) ctx) (y .0) (scope .0) ⌝ }
 {
-    put_symbol(symbols, ctx.symbols, y, 2, scope.0);
+    put_symbol(symbols, ctx.symbols, y, symbol::SCOPE, scope.0);
 }
 
 // `symbol_flags_mut`
 pub fn set_symbol_flags(symbols: &mut [u16], ctx: Ctx, y: SymbolId, flags: u16)
     ensures { λ _. ⌜ now (symbols .exit) ≡ setSymbolFlagsF (inSymbols (now (symbols .entry)) ctx) (y .0) flags ⌝ }
 {
-    put_symbol(symbols, ctx.symbols, y, 1, flags);
+    put_symbol(symbols, ctx.symbols, y, symbol::FLAGS, flags);
 }
 
 // ---- the next row that has a number in a column
 
+// The rows that are looked at in one go; those before the last of them, and the numbers of these.
+const AT_ONCE: u16 = 8;
+
+const BEFORE_LAST: u16 = 7;
+
+const NUMBERS_BEFORE_LAST: usize = 7 * symbol::NUMBERS;
+
 // The first of eight rows from row i on that has the number in column f, or the row behind them.
 fn next_of_eight(symbols: &[u16], f: u16, want: u16, i: u16) -> u16
-    requires { do ⌜ i * 5 + f + 35 < (← ⟦symbols.len()⟧) ⌝ }
+    requires { do ⌜ i * SymbolTable.Numbers + f + 35 < (← ⟦symbols.len()⟧) ⌝ }
     requires { ⌜ i + 8 < 65536 ⌝ }
     ensures { λ r. ⌜ r ≡ nextRowF (now (symbols .entry)) f want 8 i ⌝ }
 {
-    let at = (i as usize) * 5 + (f as usize);
+    let at = (i as usize) * symbol::NUMBERS + (f as usize);
     let mut j: u16 = 0;
-    while j < 8 {
-        if symbols[at + (j as usize) * 5] == want {
+    while j < AT_ONCE {
+        if symbols[at + (j as usize) * symbol::NUMBERS] == want {
             return i + j;
         }
         j += 1;
     }
-    i + 8
+    i + AT_ONCE
 }
 
 // The first row from row i on that has the number in column f, or `count`: row by row.
@@ -208,7 +246,7 @@ fn next_near(symbols: &[u16], count: u16, f: u16, want: u16, i: u16) -> u16
 {
     let mut k = i;
     while k < count {
-        if tables::get(symbols, (k as usize) * 5 + (f as usize)) == want {
+        if tables::get(symbols, (k as usize) * symbol::NUMBERS + (f as usize)) == want {
             return k;
         }
         k += 1;
@@ -216,18 +254,18 @@ fn next_near(symbols: &[u16], count: u16, f: u16, want: u16, i: u16) -> u16
     k
 }
 
-// The same: eight rows at a time, as long as there are eight in the table.
+// The first row from row i on that has the number in column f, or `count`: eight rows at a time, as long as there are eight in the table.
 fn next_row(symbols: &[u16], count: u16, f: u16, want: u16, i: u16) -> u16
     ensures { λ r. ⌜ r ≡ nextRowF (now (symbols .entry)) f want (count - i) i ⌝ }
 {
-    let stop = tables::minus(count, 7);
+    let stop = tables::minus(count, BEFORE_LAST);
     let mut k = i;
     while k < stop {
-        if symbols.len() <= (k as usize) * 5 + (f as usize) + 35 {
+        if symbols.len() <= (k as usize) * symbol::NUMBERS + (f as usize) + NUMBERS_BEFORE_LAST {
             break;
         }
         let r = next_of_eight(symbols, f, want, k);
-        if r < k + 8 {
+        if r < k + AT_ONCE {
             return r;
         }
         k = r;
@@ -241,8 +279,8 @@ fn next_row(symbols: &[u16], count: u16, f: u16, want: u16, i: u16) -> u16
 fn binds_at(symbols: &[u16], i: u16, f: u16, scope: ScopeId, name: u16) -> bool
     ensures { λ r. ⌜ r ≡ binds (symbolAt (now (symbols .entry)) f i) (scope .0) name ⌝ }
 {
-    let at = (i as usize) * 5;
-    if tables::get(symbols, at + 3) != 0 {
+    let at = (i as usize) * symbol::NUMBERS;
+    if tables::get(symbols, at + MADE) != 0 {
         return false;
     }
     if tables::get(symbols, at + (f as usize)) != scope.0 {
@@ -274,10 +312,10 @@ fn binding_from(
     ensures { λ r. ⌜ r ≡ bindingFrom (now (symbols .entry)) f count (scope .0) name start before ⌝ }
 {
     let mut found = before;
-    let mut i = next_row(symbols, count, 0, name, start);
+    let mut i = next_row(symbols, count, symbol::NAME, name, start);
     while i < count {
         found = found_at(symbols, i, f, scope, name, found);
-        i = next_row(symbols, count, 0, name, i + 1);
+        i = next_row(symbols, count, symbol::NAME, name, i + 1);
     }
     found
 }
@@ -297,14 +335,14 @@ fn search_outwards(scopes: &[u16], symbols: &[u16], ctx: Ctx, from: ScopeId, nam
     let mut scope = from.0;
     let mut k: u16 = 0;
     while k < count {
-        let here = get_binding(symbols, ctx.symbols, 2, ScopeId(scope), name);
+        let here = get_binding(symbols, ctx.symbols, symbol::SCOPE, ScopeId(scope), name);
         if here.0 != 0 {
             return here;
         }
         if scope == 0 {
             return SymbolId(0);
         }
-        scope = scope_number(scopes, count, ScopeId(scope), 0);
+        scope = scope_number(scopes, count, ScopeId(scope), scope::PARENT);
         k += 1;
     }
     SymbolId(0)
@@ -317,42 +355,42 @@ struct Candidates {
     scope: u16,
 }
 
-// Those seen before, with the row after i others if it is one.
+// The candidates seen before, with the row after i others if it is one.
 fn add_candidate(symbols: &[u16], i: u16, name: u16, seen: Candidates) -> Candidates
-    ensures { λ r. ⌜ r ≡ addCandidateF (symbolAt (now (symbols .entry)) 2 i) name (capped i 1) seen ⌝ }
+    ensures { λ r. ⌜ r ≡ addCandidateF (symbolAt (now (symbols .entry)) SymbolTable.Scope i) name (capped i 1) seen ⌝ }
 {
-    let at = (i as usize) * 5;
+    let at = (i as usize) * symbol::NUMBERS;
     if tables::get(symbols, at) != name {
         return seen;
     }
-    if tables::get(symbols, at + 3) != 0 {
+    if tables::get(symbols, at + MADE) != 0 {
         return seen;
     }
     Candidates {
         count: tables::plus(seen.count, 1),
         row: tables::plus(i, 1),
-        scope: tables::get(symbols, at + 2),
+        scope: tables::get(symbols, at + SCOPE),
     }
 }
 
-// Those among the first `count` rows.
+// The candidates among the first `count` rows.
 fn find_candidates(symbols: &[u16], count: u16, name: u16) -> Candidates
-    ensures { λ r. ⌜ r ≡ candidatesF (symbolsF (now (symbols .entry)) 2 count 0) name 1 noCandidate ⌝ }
+    ensures { λ r. ⌜ r ≡ candidatesF (symbolsF (now (symbols .entry)) SymbolTable.Scope count 0) name 1 noCandidate ⌝ }
 {
     let mut seen = Candidates {
         count: 0,
         row: 0,
         scope: 0,
     };
-    let mut i = next_row(symbols, count, 0, name, 0);
+    let mut i = next_row(symbols, count, symbol::NAME, name, 0);
     while i < count {
         seen = add_candidate(symbols, i, name, seen);
-        i = next_row(symbols, count, 0, name, i + 1);
+        i = next_row(symbols, count, symbol::NAME, name, i + 1);
     }
     seen
 }
 
-// The scope `to` is met on the way outwards.
+// The scope `to` is met on the way from a scope outwards.
 fn climbs_to(scopes: &[u16], count: u16, from: ScopeId, to: ScopeId) -> bool
     ensures { λ r. ⌜ r ≡ climbsF count (now (scopes .entry)) count (from .0) (to .0) ⌝ }
 {
@@ -365,7 +403,7 @@ fn climbs_to(scopes: &[u16], count: u16, from: ScopeId, to: ScopeId) -> bool
         if scope == 0 {
             return false;
         }
-        scope = scope_number(scopes, count, ScopeId(scope), 0);
+        scope = scope_number(scopes, count, ScopeId(scope), scope::PARENT);
         k += 1;
     }
     false
@@ -390,42 +428,43 @@ pub fn find_binding(scopes: &[u16], symbols: &[u16], ctx: Ctx, from: ScopeId, na
 
 // The scope binds the symbol's name, by the symbol rows as read.
 pub fn binds_name(symbols: &[u16], ctx: Ctx, scope: ScopeId, y: SymbolId) -> bool
-    ensures { λ r. ⌜ r ≡ bindsName (symbolsF (now (symbols .entry)) 4 (ctx .read) 0) (scope .0) (y .0) ⌝ }
+    ensures { λ r. ⌜ r ≡ bindsName (symbolsF (now (symbols .entry)) SymbolTable.ReadScope (ctx .read) 0) (scope .0) (y .0) ⌝ }
 {
-    if symbol_number(symbols, ctx.read, y, 3) != 0 {
+    if symbol_number(symbols, ctx.read, y, symbol::MADE) != 0 {
         return false;
     }
-    let name = symbol_number(symbols, ctx.read, y, 0);
-    let found = get_binding(symbols, ctx.read, 4, scope, name);
+    let name = symbol_number(symbols, ctx.read, y, symbol::NAME);
+    let found = get_binding(symbols, ctx.read, symbol::READ_SCOPE, scope, name);
     found.0 != 0
 }
 
 // ---- what a scope binds
 
+// A block-scoped name, or a class.
 fn is_block_scoped(flags: u16) -> bool
     ensures { λ r. ⌜ r ≡ blockScoped flags ⌝ }
 {
-    if flags / 2 % 2 == 1 {
+    if flags / symbol_flag::BLOCK_SCOPED % 2 == 1 {
         return true;
     }
-    flags / 8 % 2 == 1
+    flags / symbol_flag::CLASS % 2 == 1
 }
 
 // The row after i others is bound in the scope: a unique name, or the last row of its name, so that only the rows behind it are looked at.
 fn is_bound(symbols: &[u16], count: u16, scope: ScopeId, i: u16) -> bool
     requires { ⌜ i < count ⌝ }
-    ensures { λ r. ⌜ r ≡ isBound (symbolsF (now (symbols .entry)) 2 count 0) (scope .0) (capped i 1) (symbolAt (now (symbols .entry)) 2 i) ⌝ }
+    ensures { λ r. ⌜ r ≡ isBound (symbolsF (now (symbols .entry)) SymbolTable.Scope count 0) (scope .0) (capped i 1) (symbolAt (now (symbols .entry)) SymbolTable.Scope i) ⌝ }
 {
-    let at = (i as usize) * 5;
-    if tables::get(symbols, at + 2) != scope.0 {
+    let at = (i as usize) * symbol::NUMBERS;
+    if tables::get(symbols, at + SCOPE) != scope.0 {
         return false;
     }
-    if tables::get(symbols, at + 3) != 0 {
+    if tables::get(symbols, at + MADE) != 0 {
         return true;
     }
     let name = tables::get(symbols, at);
     let y = i + 1;
-    binding_from(symbols, count, 2, scope, name, y, y) == y
+    binding_from(symbols, count, symbol::SCOPE, scope, name, y, y) == y
 }
 
 // The row after i others is bound in the scope, block-scoped or as a class.
@@ -433,13 +472,13 @@ fn moves(symbols: &[u16], ctx: Ctx, from: ScopeId, i: u16) -> bool
     requires { ⌜ i < ctx .symbols ⌝ }
     ensures { λ r. ⌜ r ≡ movesF (inSymbols (now (symbols .entry)) ctx) (from .0) i ⌝ }
 {
-    if is_block_scoped(tables::get(symbols, (i as usize) * 5 + 1)) {
+    if is_block_scoped(tables::get(symbols, (i as usize) * symbol::NUMBERS + FLAGS)) {
         return is_bound(symbols, ctx.symbols, from, i);
     }
     false
 }
 
-// Such a row moves.
+// The row after i others moves to another scope if it is bound in the scope, block-scoped or as a class.
 fn move_bound(symbols: &mut [u16], ctx: Ctx, from: ScopeId, to: ScopeId, i: u16)
     requires { ⌜ i < ctx .symbols ⌝ }
     ensures { λ _. ⌜ now (symbols .exit) ≡ moveBoundF (inSymbols (now (symbols .entry)) ctx) (from .0) (to .0) i ⌝ }
@@ -449,14 +488,14 @@ fn move_bound(symbols: &mut [u16], ctx: Ctx, from: ScopeId, to: ScopeId, i: u16)
     }
 }
 
-// All such rows.
+// All that a scope binds block-scoped or as a class moves to another scope.
 pub fn move_block_scoped(symbols: &mut [u16], ctx: Ctx, from: ScopeId, to: ScopeId)
     ensures { λ _. ⌜ now (symbols .exit) ≡ moveBlockScopedF (inSymbols (now (symbols .entry)) ctx) (from .0) (to .0) ⌝ }
 {
     let count = ctx.symbols;
-    let mut i = next_row(symbols, count, 2, from.0, 0);
+    let mut i = next_row(symbols, count, symbol::SCOPE, from.0, 0);
     while i < count {
         move_bound(symbols, ctx, from, to, i);
-        i = next_row(symbols, count, 2, from.0, i + 1);
+        i = next_row(symbols, count, symbol::SCOPE, from.0, i + 1);
     }
 }

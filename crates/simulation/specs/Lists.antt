@@ -32,7 +32,7 @@ use Rattle.charge_laws.specs.Counts.TakenUp.{Labelled}
 use Rattle.path.specs.Path.{Tables}
 use Rattle.representation.specs.Spots.Spots.{visitedAt, restAt, Rest, held}
 use Rattle.table_laws.specs.Lists.Plan.{usings, any-usings}
-use Rattle.for_switch.specs.For.{planForF}
+use Rattle.rewrite_for_switch.specs.For.{planForF}
 use Rattle.table_laws.specs.Streamed.Cases.{caseUsings, any-case-usings}
 use Rattle.simulation.specs.Rewritten.Standing.{listPlan, casesPlan, n-is, list-plan, cases-plan, for-plan}
 use Rattle.simulation.specs.Rewritten.Replaced.{withFree}

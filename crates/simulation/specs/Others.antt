@@ -45,7 +45,7 @@ use Rattle.scoping.specs.Changes.{inSymbols}
 use Rattle.representation.specs.Store.Agreed.{Agreed}
 use Rattle.path.specs.Path.{Tables}
 use Rattle.representation.specs.Spots.Spots.{visitedAt, restAt, Rest, held}
-use Rattle.for_of.specs.ForOf.{takesUsingF, insertsF, insertUsingF, wrapBodyF}
+use Rattle.rewrite_for_of.specs.ForOf.{takesUsingF, insertsF, insertUsingF, wrapBodyF}
 use Rattle.table_laws.specs.Streamed.Parts.{tryRows, Catches, any-try}
 use Rattle.simulation.specs.Rewritten.Standing.{n-is}
 use Rattle.simulation.specs.Rewritten.Replaced.{withFree}

@@ -141,7 +141,7 @@ fn row_of(x: Field) -> Row
 {
     let count = rules::own_numbers(x.tag);
     let n = rules::children_of(x);
-    tables::made(
+    tables::closed_row(
         x.tag as u16,
         own_number(count, 0, x.a),
         own_number(count, 1, x.b),

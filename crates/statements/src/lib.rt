@@ -2,16 +2,20 @@
 use meaning::RecordId;
 use meaning::ScopeId;
 use meaning::SymbolId;
+use meaning::kind;
+use meaning::letter;
+use meaning::parts;
+use meaning::step_form;
+use meaning::tag;
 use tables::Cursor;
 use tables::Row;
 ghost use mathlib.Core.Path.{_≡_};
 ghost use mathlib.Core.Bool.{false, _||_, _&&_};
-ghost use mathlib.Core.List.{[], _∷_};
-ghost use Rattle.meaning.specs.Tree.{if_then_else_, oneOf};
+ghost use Rattle.meaning.specs.Tree.{if_then_else_};
 ghost use Rattle.meaning.specs.Statements.{isUsing, isAwaitUsing, letterIf};
 ghost use Rattle.tables.specs.Table.{headF};
 ghost use Rattle.tables.specs.Stream.{buf};
-ghost use Rattle.statements.specs.TakeUp.{taking, hasInitializerF, asConstF, takeUpDeclaratorF, takeUpDeclaratorsF, takeUpItemF, takeUpOneF, takeUpF};
+ghost use Rattle.statements.specs.TakeUp.{taking, isUsingKindF, hasInitializerF, asConstF, takeUpDeclaratorF, takeUpDeclaratorsF, takeUpItemF, takeUpOneF, takeUpF};
 ghost use Rattle.statements.specs.Plan.{countOneF, initializersF, wrapsF, planOneF, planF, noPlan};
 ghost use Rattle.statements.specs.Try.{stepForm, declareF, declareContextF, catchClauseF, finallyBlockF, handlersF, openTryF, transformListF};
 
@@ -26,13 +30,20 @@ pub struct Parts {
     pub step: u16,
 }
 
-// The last row looked at, and what was counted so far: initializers.
+// The rows that a context adds where its list stays in its Block, besides a Call for each initializer: a Try; Declaration, Declarator, Name
+// and Load of the context; Catch, Name, Block and Step; Block and Step.
+pub const CONTEXT_ROWS: u16 = 11;
+
+// The rows that a context adds where its list goes into a new Block: that Block, too.
+pub const WRAPPED_CONTEXT_ROWS: u16 = 12;
+
+// The last row looked at, and a count so far.
 pub struct Counting {
     pub at: RecordId,
     pub sum: u16,
 }
 
-// The same: usings, `await using`s, and the initializers of usings.
+// The last row looked at, and the usings, the `await using`s and the initializers of usings so far.
 pub struct Plan {
     pub at: RecordId,
     pub usings: u16,
@@ -40,7 +51,7 @@ pub struct Plan {
     pub wraps: u16,
 }
 
-// A list on its way, and needs_await so far.
+// A list while it is taken up, and needs_await so far.
 pub struct Taking {
     pub at: Cursor,
     pub needs: bool,
@@ -48,20 +59,22 @@ pub struct Taking {
 
 // ---- tests
 
+// `using` or `await using`.
 fn is_using_kind(kind: u16) -> bool
-    ensures { λ r. ⌜ r ≡ oneOf (3 ∷ 4 ∷ []) kind ⌝ }
+    ensures { λ r. ⌜ r ≡ isUsingKindF kind ⌝ }
 {
     match kind {
-        3 => true,
-        4 => true,
+        kind::USING => true,
+        kind::AWAIT_USING => true,
         _ => false,
     }
 }
 
+// A Declaration that is a using, or is recorded as one.
 pub fn is_using(r: Row) -> bool
     ensures { λ o. ⌜ o ≡ isUsing (headF r) ⌝ }
 {
-    if r.tag != 5 {
+    if r.tag != tag::DECLARATION {
         return false;
     }
     if is_using_kind(r.a) {
@@ -70,28 +83,31 @@ pub fn is_using(r: Row) -> bool
     is_using_kind(r.b)
 }
 
+// A Declaration that is an `await using`, or is recorded as one.
 pub fn is_await_using(r: Row) -> bool
     ensures { λ o. ⌜ o ≡ isAwaitUsing (headF r) ⌝ }
 {
-    if r.tag != 5 {
+    if r.tag != tag::DECLARATION {
         return false;
     }
-    if r.a == 4 {
+    if r.a == kind::AWAIT_USING {
         return true;
     }
-    r.b == 4
+    r.b == kind::AWAIT_USING
 }
 
+// The letter of a Call, by whether it is awaited.
 fn letter_if(awaited: bool) -> u16
     ensures { λ r. ⌜ r ≡ letterIf awaited ⌝ }
 {
-    if awaited { 1 } else { 0 }
+    if awaited { letter::A } else { letter::U }
 }
 
+// A Declarator with a child behind its Names.
 fn has_initializer(r: Row) -> bool
     ensures { λ o. ⌜ o ≡ hasInitializerF r ⌝ }
 {
-    if r.tag != 6 {
+    if r.tag != tag::DECLARATOR {
         return false;
     }
     r.b < r.n
@@ -104,16 +120,21 @@ fn take_up_declarator(records: &mut [u16], q: Cursor, letter: u16, context: Symb
     ensures { λ o. ⌜ buf (now (records .exit)) o ≡ takeUpDeclaratorF letter (context .0) (buf (now (records .entry)) q) ⌝ }
 {
     let r = tables::row_after(records, q.read);
-    let q1 = tables::pass(records, q);
+    let q1 = tables::copy_row(records, q);
     if has_initializer(r) {
         let q2 = tables::copy(records, q1, r.b);
-        let q3 = tables::emit(records, q2, tables::made(27, letter, context.0, 0, 1));
+        let q3 = tables::emit(
+            records,
+            q2,
+            tables::closed_row(tag::CALL, letter, context.0, 0, 1),
+        );
         tables::copy(records, q3, tables::minus(r.n, r.b))
     } else {
         tables::copy(records, q1, r.n)
     }
 }
 
+// The n Declarators of a using; their initializers are called through the context.
 fn take_up_declarators(
     records: &mut [u16],
     start: Cursor,
@@ -137,9 +158,9 @@ fn as_const(r: Row) -> Row
     ensures { λ o. ⌜ o ≡ asConstF r ⌝ }
 {
     if r.b == 0 {
-        tables::made(5, 2, 0, 0, r.n)
+        tables::closed_row(tag::DECLARATION, kind::CONST, 0, 0, r.n)
     } else {
-        tables::made(5, 0, 0, 0, r.n)
+        tables::closed_row(tag::DECLARATION, kind::VAR, 0, 0, r.n)
     }
 }
 
@@ -149,7 +170,7 @@ fn take_up_item(records: &mut [u16], q: Cursor, letter: u16, context: SymbolId) 
 {
     let r = tables::row_after(records, q.read);
     if is_using(r) {
-        let q1 = tables::pass_as(records, q, as_const(r));
+        let q1 = tables::replace_row(records, q, as_const(r));
         take_up_declarators(records, q1, r.n, letter, context)
     } else {
         tables::copy(records, q, 1)
@@ -166,6 +187,7 @@ fn awaits_now(needs: bool, r: Row) -> bool
     is_await_using(r)
 }
 
+// Both are so.
 fn both(x: bool, y: bool) -> bool
     ensures { λ o. ⌜ o ≡ (x && y) ⌝ }
 {
@@ -185,7 +207,7 @@ fn take_up_one(records: &mut [u16], s: Taking, running: bool, context: SymbolId)
     }
 }
 
-// The usings of a list.
+// The usings of a list of n items, by whether the letter runs on and what needs_await is before it.
 pub fn take_up(
     records: &mut [u16],
     start: Cursor,
@@ -207,13 +229,14 @@ pub fn take_up(
 
 // ---- counting first
 
+// 1 for true.
 fn number_if(b: bool) -> u16
     ensures { λ o. ⌜ o ≡ (if b then 1 else 0) ⌝ }
 {
     if b { 1 } else { 0 }
 }
 
-// A Declarator counted.
+// One Declarator more: counted if it has an initializer.
 fn count_one(records: &[u16], s: Counting) -> Counting
     ensures { λ o. ⌜ o ≡ countOneF (now (records .entry)) s ⌝ }
 {
@@ -249,7 +272,7 @@ fn wraps(records: &[u16], after: RecordId) -> u16
     }
 }
 
-// An item counted.
+// One item more.
 fn plan_one(records: &[u16], p: Plan) -> Plan
     ensures { λ o. ⌜ o ≡ planOneF (now (records .entry)) p ⌝ }
 {
@@ -293,38 +316,62 @@ pub fn no_plan(after: RecordId) -> Plan
 pub fn step_form(awaits: u16) -> u16
     ensures { λ o. ⌜ o ≡ stepForm awaits ⌝ }
 {
-    if awaits == 0 { 1 } else { 2 }
+    if awaits == 0 {
+        step_form::DISPOSE
+    } else {
+        step_form::AWAIT_DISPOSE
+    }
 }
 
 // A Declaration of a name, up to its initializer.
 pub fn declare(records: &mut [u16], q: Cursor, kind: u16, y: SymbolId) -> Cursor
     ensures { λ o. ⌜ buf (now (records .exit)) o ≡ declareF kind (y .0) (buf (now (records .entry)) q) ⌝ }
 {
-    let q1 = tables::emit(records, q, tables::made(5, kind, 0, 0, 1));
-    let q2 = tables::emit(records, q1, tables::made(6, 0, 1, 0, 2));
-    tables::emit(records, q2, tables::made(26, y.0, 0, 0, 0))
+    let q1 = tables::emit(
+        records,
+        q,
+        tables::closed_row(tag::DECLARATION, kind, 0, 0, 1),
+    );
+    let q2 = tables::emit(records, q1, tables::closed_row(tag::DECLARATOR, 0, 1, 0, 2));
+    tables::emit(records, q2, tables::closed_row(tag::NAME, y.0, 0, 0, 0))
 }
 
 // `var _usingCtx = usingCtx();`
 pub fn declare_context(records: &mut [u16], q: Cursor, p: Parts) -> Cursor
     ensures { λ o. ⌜ buf (now (records .exit)) o ≡ declareContextF p (buf (now (records .entry)) q) ⌝ }
 {
-    let q1 = declare(records, q, 0, p.context);
-    tables::emit(records, q1, tables::made(28, p.form, p.load.0, 0, 0))
+    let q1 = declare(records, q, kind::VAR, p.context);
+    tables::emit(
+        records,
+        q1,
+        tables::closed_row(tag::LOAD, p.form, p.load.0, 0, 0),
+    )
 }
 
 // `catch (_) { _usingCtx.e = _; }`
 fn write_catch_clause(records: &mut [u16], q: Cursor, p: Parts) -> Cursor
     ensures { λ o. ⌜ buf (now (records .exit)) o ≡ catchClauseF p (buf (now (records .entry)) q) ⌝ }
 {
-    let q1 = tables::emit(records, q, tables::made(12, p.scope.0, 1, 0, 2));
-    let q2 = tables::emit(records, q1, tables::made(26, p.error.0, 0, 0, 0));
+    let q1 = tables::emit(
+        records,
+        q,
+        tables::closed_row(tag::CATCH, p.scope.0, 1, 0, 2),
+    );
+    let q2 = tables::emit(
+        records,
+        q1,
+        tables::closed_row(tag::NAME, p.error.0, 0, 0, 0),
+    );
     let q3 = tables::emit(
         records,
         q2,
-        tables::made(2, tables::plus(p.scope.0, 1), 0, 0, 1),
+        tables::closed_row(tag::BLOCK, tables::plus(p.scope.0, 1), 0, 0, 1),
     );
-    tables::emit(records, q3, tables::made(29, 0, p.context.0, p.error.0, 0))
+    tables::emit(
+        records,
+        q3,
+        tables::closed_row(tag::STEP, step_form::KEEP_ERROR, p.context.0, p.error.0, 0),
+    )
 }
 
 // `finally { _usingCtx.d(); }`
@@ -334,12 +381,16 @@ fn write_finally_block(records: &mut [u16], q: Cursor, p: Parts) -> Cursor
     let q1 = tables::emit(
         records,
         q,
-        tables::made(2, tables::plus(p.scope.0, 2), 0, 0, 1),
+        tables::closed_row(tag::BLOCK, tables::plus(p.scope.0, 2), 0, 0, 1),
     );
-    tables::emit(records, q1, tables::made(29, p.step, p.context.0, 0, 0))
+    tables::emit(
+        records,
+        q1,
+        tables::closed_row(tag::STEP, p.step, p.context.0, 0, 0),
+    )
 }
 
-// Both.
+// The Catch and the last Block.
 pub fn write_handlers(records: &mut [u16], q: Cursor, p: Parts) -> Cursor
     ensures { λ o. ⌜ buf (now (records .exit)) o ≡ handlersF p (buf (now (records .entry)) q) ⌝ }
 {
@@ -351,8 +402,16 @@ pub fn write_handlers(records: &mut [u16], q: Cursor, p: Parts) -> Cursor
 pub fn open_try(records: &mut [u16], q: Cursor, scope: ScopeId, n: u16) -> Cursor
     ensures { λ o. ⌜ buf (now (records .exit)) o ≡ openTryF (scope .0) n (buf (now (records .entry)) q) ⌝ }
 {
-    let q1 = tables::emit(records, q, tables::made(11, 3, 0, 0, 3));
-    tables::emit(records, q1, tables::made(2, scope.0, 0, 0, n))
+    let q1 = tables::emit(
+        records,
+        q,
+        tables::closed_row(tag::TRY, parts::BOTH, 0, 0, 3),
+    );
+    tables::emit(
+        records,
+        q1,
+        tables::closed_row(tag::BLOCK, scope.0, 0, 0, n),
+    )
 }
 
 // What stands in a Try around a list of n items, from its first Block's row on: the context, the list taken up, the handlers.

@@ -7,7 +7,7 @@ use native.Mathlib.Omega.{arith}
 use borrow.Author.Tests.{ne-eqb}
 use Rattle.tables.specs.Loops.{until, go-on}
 use Rattle.tables.specs.Table.{capped, columnF, rowF, moveRowF, Skipping, skipping, skipped, skipOne}
-use Rattle.tables.specs.Stream.{Buf, passF, passAsF, Copying, copying, copied, copyOne}
+use Rattle.tables.specs.Stream.{Buf, copyRowF, replaceRowF, Copying, copying, copied, copyOne}
 use Rattle.tables.specs.declared.Row.{Row}
 
 cap-one : (x : ℕ) → x < 65535 → capped x 1 ≡ x + 1
@@ -26,7 +26,7 @@ pub copy-turn : (r : Copying) (t t′ : List ℕ) (read written written′ p : �
     → r ≡ until (65535 - read) copied copyOne (copying (buf3 t read written) p) → read < 65535 → (p ≡ 0 → ⊥)
     → x ≡ rowF t read → t′ ≡ moveRowF t read written x → written′ ≡ capped written 1
     → r ≡ until (65535 - (read + 1)) copied copyOne (copying (buf3 t′ (read + 1) written′) (p - 1 + x .n))
-unfolding copyOne passF passAsF rowF
+unfolding copyOne copyRowF replaceRowF rowF
 copy-turn r t t′ read written written′ p x e h n ex et ew =
     let g = go-on 65535 read copied copyOne r (copying (buf3 t read written) p) e h (ne-eqb p 0 n) in
     rw (et, ex, ew) (rw (cap-one read h) at g)

@@ -4,8 +4,9 @@ use mathlib.Core.List.{List}
 use mathlib.Core.Bool.{Bool}
 use Prim.Native.Nat.{ℕ, _+_, _-_}
 use lib.Dec.{eqb}
+use Rattle.tables.specs.Columns.RecordTable
 use Rattle.tables.specs.Loops.{turns, until}
-use Rattle.tables.specs.Table.{capped, columnF, rowF, setRowF, moveRowF}
+use Rattle.tables.specs.Table.{largest, capped, columnF, rowF, setRowF, moveRowF}
 use Rattle.tables.specs.declared.Row.{Row}
 use Rattle.tables.specs.declared.Cursor.{Cursor}
 
@@ -22,16 +23,16 @@ buf t q = record { t = t; read = q .read .0; written = q .written .0 }
 unfoldable pub emitF : Buf → Row → Buf
 emitF b r = record { t = setRowF (b .t) (b .written) r; read = b .read; written = capped (b .written) 1 }
 
-unfoldable pub passAsF : Buf → Row → Buf
-passAsF b r =
+unfoldable pub replaceRowF : Buf → Row → Buf
+replaceRowF b r =
     record {
       t = moveRowF (b .t) (b .read) (b .written) r;
       read = capped (b .read) 1;
       written = capped (b .written) 1;
     }
 
-unfoldable pub passF : Buf → Buf
-passF b = passAsF b (rowF (b .t) (b .read))
+unfoldable pub copyRowF : Buf → Buf
+copyRowF b = replaceRowF b (rowF (b .t) (b .read))
 
 -- c subtrees
 pub record Copying : Type 0 where
@@ -45,14 +46,14 @@ abbrev pub copied : Copying → Bool
 copied s = eqb (s .pending) 0
 
 unfoldable pub copyOne : Copying → Copying
-copyOne s = copying (passF (s .buf)) (s .pending - 1 + columnF (s .buf .t) (s .buf .read) 4)
+copyOne s = copying (copyRowF (s .buf)) (s .pending - 1 + columnF (s .buf .t) (s .buf .read) RecordTable.N)
 
 unfoldable pub copyF : Buf → ℕ → Buf
-copyF b c = until (65535 - b .read) copied copyOne (copying b c) .buf
+copyF b c = until (largest - b .read) copied copyOne (copying b c) .buf
 
 -- the last row written goes behind the gap again; the last n of them
-unfoldable pub backF : Buf → Buf
-backF b =
+unfoldable pub unreadRowF : Buf → Buf
+unreadRowF b =
     record {
       t = moveRowF (b .t) (b .written - 1) (b .read - 1) (rowF (b .t) (b .written - 1));
       read = b .read - 1;
@@ -60,4 +61,4 @@ backF b =
     }
 
 unfoldable pub takeBackF : ℕ → Buf → Buf
-takeBackF n b = turns n backF b
+takeBackF n b = turns n unreadRowF b

@@ -7,55 +7,60 @@ use Prim.Native.Nat.{ℕ, _+_, _*_, _-_, min}
 use lib.ListN.{getD, set}
 use lib.Dec.{eqb}
 use Rattle.meaning.specs.Tree.{Head, hd}
+use Rattle.tables.specs.Columns.RecordTable
 use Rattle.tables.specs.Loops.{until}
 use Rattle.tables.specs.declared.Row.{Row}
 
+-- the largest number of a table, and the most rows that it can have
+abbrev pub largest : ℕ
+largest = 65535
+
 -- the sum, at most the largest number
 unfoldable pub capped : ℕ → ℕ → ℕ
-capped x k = min (x + k) 65535
+capped x k = min (x + k) largest
 
 -- column f of the row after i others, or 0 past the end
 unfoldable pub columnF : List ℕ → ℕ → ℕ → ℕ
-columnF t i f = getD t (i * 7 + f) 0
+columnF t i f = getD t (i * RecordTable.Numbers + f) 0
 
 unfoldable pub rowF : List ℕ → ℕ → Row
 rowF t i =
     record {
-      tag = columnF t i 0;
-      a = columnF t i 1;
-      b = columnF t i 2;
-      c = columnF t i 3;
-      n = columnF t i 4;
-      up = columnF t i 5;
-      left = columnF t i 6;
+      tag = columnF t i RecordTable.Tag;
+      a = columnF t i RecordTable.A;
+      b = columnF t i RecordTable.B;
+      c = columnF t i RecordTable.C;
+      n = columnF t i RecordTable.N;
+      up = columnF t i RecordTable.Up;
+      left = columnF t i RecordTable.Left;
     }
 
 unfoldable pub setColumnF : List ℕ → ℕ → ℕ → ℕ → List ℕ
-setColumnF t i f v = set t (i * 7 + f) v
+setColumnF t i f v = set t (i * RecordTable.Numbers + f) v
 
 unfoldable pub setRowF : List ℕ → ℕ → Row → List ℕ
 setRowF t i r =
-    let t₀ = setColumnF t i 0 (r .tag) in
-    let t₁ = setColumnF t₀ i 1 (r .a) in
-    let t₂ = setColumnF t₁ i 2 (r .b) in
-    let t₃ = setColumnF t₂ i 3 (r .c) in
-    let t₄ = setColumnF t₃ i 4 (r .n) in
-    let t₅ = setColumnF t₄ i 5 (r .up) in
-    setColumnF t₅ i 6 (r .left)
+    let t₀ = setColumnF t i RecordTable.Tag (r .tag) in
+    let t₁ = setColumnF t₀ i RecordTable.A (r .a) in
+    let t₂ = setColumnF t₁ i RecordTable.B (r .b) in
+    let t₃ = setColumnF t₂ i RecordTable.C (r .c) in
+    let t₄ = setColumnF t₃ i RecordTable.N (r .n) in
+    let t₅ = setColumnF t₄ i RecordTable.Up (r .up) in
+    setColumnF t₅ i RecordTable.Left (r .left)
 
 -- a row that is not open
-abbrev pub madeF : ℕ → ℕ → ℕ → ℕ → ℕ → Row
-madeF t a b c n = record { tag = t; a = a; b = b; c = c; n = n; up = 0; left = 0 }
+abbrev pub closedRowF : ℕ → ℕ → ℕ → ℕ → ℕ → Row
+closedRowF t a b c n = record { tag = t; a = a; b = b; c = c; n = n; up = 0; left = 0 }
 
 abbrev pub headF : Row → Head
 headF r = hd (r .tag) (r .a) (r .b) (r .c)
 
 -- one place is cleared, and a row is stored at another
 unfoldable pub moveRowF : List ℕ → ℕ → ℕ → Row → List ℕ
-moveRowF t from to r = setRowF (setRowF t from (madeF 0 0 0 0 0)) to r
+moveRowF t from to r = setRowF (setRowF t from (closedRowF 0 0 0 0 0)) to r
 
 pub moved : (t t₁ t₂ : List ℕ) (from to : ℕ) (r : Row)
-    → t₁ ≡ setRowF t from (madeF 0 0 0 0 0) → t₂ ≡ setRowF t₁ to r → t₂ ≡ moveRowF t from to r
+    → t₁ ≡ setRowF t from (closedRowF 0 0 0 0 0) → t₂ ≡ setRowF t₁ to r → t₂ ≡ moveRowF t from to r
 unfolding moveRowF
 moved t t₁ t₂ from to r e f = rw e at f
 
@@ -71,7 +76,7 @@ abbrev pub skipped : Skipping → Bool
 skipped s = eqb (s .pending) 0
 
 unfoldable pub skipOne : List ℕ → Skipping → Skipping
-skipOne t s = skipping (s .at + 1) (s .pending - 1 + columnF t (s .at) 4)
+skipOne t s = skipping (s .at + 1) (s .pending - 1 + columnF t (s .at) RecordTable.N)
 
 unfoldable pub endF : List ℕ → ℕ → ℕ → ℕ
-endF t at c = until (65535 - at) skipped (skipOne t) (skipping at c) .at
+endF t at c = until (largest - at) skipped (skipOne t) (skipping at c) .at

@@ -6,13 +6,21 @@
 //
 // A pass reads at the right end of the free rows and writes at their left end, so that a made row takes a free one and no row behind the
 // list that is rewritten moves. A row is named by the number of rows up to it, from 1 on; a place between rows by the row before it.
+pub mod record;
+pub mod scope;
+pub mod symbol;
+
 use meaning::RecordId;
 ghost use mathlib.Core.Path.{_≡_};
 ghost use Prim.Native.Nat.{_-_};
 ghost use lib.ListN.{getD, set};
-ghost use Rattle.tables.specs.Table.{capped, columnF, rowF, setColumnF, setRowF, madeF, moveRowF, endF};
-ghost use Rattle.tables.specs.Stream.{buf, emitF, passAsF, passF, copyF, backF, takeBackF};
+ghost use Rattle.tables.specs.Table.{capped, columnF, rowF, setColumnF, setRowF, closedRowF, moveRowF, endF};
+ghost use Rattle.tables.specs.Stream.{buf, emitF, replaceRowF, copyRowF, copyF, unreadRowF, takeBackF};
 
+// The largest number of a table, and the most rows that it can have.
+pub const LARGEST: u16 = 65535;
+
+// A row of the record table.
 pub struct Row {
     pub tag: u16,
     pub a: u16,
@@ -51,7 +59,7 @@ pub fn put(table: &mut [u16], at: usize, v: u16)
 pub fn plus(x: u16, k: u16) -> u16
     ensures { λ r. ⌜ r ≡ capped x k ⌝ }
 {
-    if k <= 65535 - x { x + k } else { 65535 }
+    if k <= LARGEST - x { x + k } else { LARGEST }
 }
 
 // The difference, or 0.
@@ -63,17 +71,35 @@ pub fn minus(x: u16, k: u16) -> u16
 
 // ---- rows
 
-// A column of the row after another.
+// The columns as places in a row.
+const A: usize = record::A as usize;
+
+const B: usize = record::B as usize;
+
+const C: usize = record::C as usize;
+
+const N: usize = record::N as usize;
+
+const UP: usize = record::UP as usize;
+
+const LEFT: usize = record::LEFT as usize;
+
+// The number in a column of the row after another.
 pub fn column(records: &[u16], after: RecordId, f: u16) -> u16
     ensures { λ r. ⌜ r ≡ columnF (now (records .entry)) (after .0) f ⌝ }
 {
-    get(records, (after.0 as usize) * 7 + (f as usize))
+    get(records, (after.0 as usize) * record::NUMBERS + (f as usize))
 }
 
+// Stores a number in a column of the row after another.
 pub fn put_column(records: &mut [u16], after: RecordId, f: u16, v: u16)
     ensures { λ _. ⌜ now (records .exit) ≡ setColumnF (now (records .entry)) (after .0) f v ⌝ }
 {
-    put(records, (after.0 as usize) * 7 + (f as usize), v);
+    put(
+        records,
+        (after.0 as usize) * record::NUMBERS + (f as usize),
+        v,
+    );
 }
 
 // The row after another, where the table may end inside it.
@@ -81,13 +107,13 @@ fn row_by_column(records: &[u16], after: RecordId) -> Row
     ensures { λ r. ⌜ r ≡ rowF (now (records .entry)) (after .0) ⌝ }
 {
     Row {
-        tag: column(records, after, 0),
-        a: column(records, after, 1),
-        b: column(records, after, 2),
-        c: column(records, after, 3),
-        n: column(records, after, 4),
-        up: column(records, after, 5),
-        left: column(records, after, 6),
+        tag: column(records, after, record::TAG),
+        a: column(records, after, record::A),
+        b: column(records, after, record::B),
+        c: column(records, after, record::C),
+        n: column(records, after, record::N),
+        up: column(records, after, record::UP),
+        left: column(records, after, record::LEFT),
     }
 }
 
@@ -95,53 +121,55 @@ fn row_by_column(records: &[u16], after: RecordId) -> Row
 pub fn row_after(records: &[u16], after: RecordId) -> Row
     ensures { λ r. ⌜ r ≡ rowF (now (records .entry)) (after .0) ⌝ }
 {
-    let at = (after.0 as usize) * 7;
-    if records.len() < at + 7 {
+    let at = (after.0 as usize) * record::NUMBERS;
+    if records.len() < at + record::NUMBERS {
         return row_by_column(records, after);
     }
     Row {
         tag: records[at],
-        a: records[at + 1],
-        b: records[at + 2],
-        c: records[at + 3],
-        n: records[at + 4],
-        up: records[at + 5],
-        left: records[at + 6],
+        a: records[at + A],
+        b: records[at + B],
+        c: records[at + C],
+        n: records[at + N],
+        up: records[at + UP],
+        left: records[at + LEFT],
     }
 }
 
+// Stores the row after another, where the table may end inside it.
 fn put_by_column(records: &mut [u16], after: RecordId, r: Row)
     ensures { λ _. ⌜ now (records .exit) ≡ setRowF (now (records .entry)) (after .0) r ⌝ }
 {
-    put_column(records, after, 0, r.tag);
-    put_column(records, after, 1, r.a);
-    put_column(records, after, 2, r.b);
-    put_column(records, after, 3, r.c);
-    put_column(records, after, 4, r.n);
-    put_column(records, after, 5, r.up);
-    put_column(records, after, 6, r.left);
+    put_column(records, after, record::TAG, r.tag);
+    put_column(records, after, record::A, r.a);
+    put_column(records, after, record::B, r.b);
+    put_column(records, after, record::C, r.c);
+    put_column(records, after, record::N, r.n);
+    put_column(records, after, record::UP, r.up);
+    put_column(records, after, record::LEFT, r.left);
 }
 
+// Stores the row after another.
 pub fn put_row(records: &mut [u16], after: RecordId, r: Row)
     ensures { λ _. ⌜ now (records .exit) ≡ setRowF (now (records .entry)) (after .0) r ⌝ }
 {
-    let at = (after.0 as usize) * 7;
-    if records.len() < at + 7 {
+    let at = (after.0 as usize) * record::NUMBERS;
+    if records.len() < at + record::NUMBERS {
         put_by_column(records, after, r);
     } else {
         records[at] = r.tag;
-        records[at + 1] = r.a;
-        records[at + 2] = r.b;
-        records[at + 3] = r.c;
-        records[at + 4] = r.n;
-        records[at + 5] = r.up;
-        records[at + 6] = r.left;
+        records[at + A] = r.a;
+        records[at + B] = r.b;
+        records[at + C] = r.c;
+        records[at + N] = r.n;
+        records[at + UP] = r.up;
+        records[at + LEFT] = r.left;
     }
 }
 
 // A row that is not open.
-pub fn made(tag: u16, a: u16, b: u16, c: u16, n: u16) -> Row
-    ensures { λ r. ⌜ r ≡ madeF tag a b c n ⌝ }
+pub fn closed_row(tag: u16, a: u16, b: u16, c: u16, n: u16) -> Row
+    ensures { λ r. ⌜ r ≡ closedRowF tag a b c n ⌝ }
 {
     Row {
         tag,
@@ -154,27 +182,28 @@ pub fn made(tag: u16, a: u16, b: u16, c: u16, n: u16) -> Row
     }
 }
 
+// Clears the row after another, where the table may end inside it.
 fn clear_by_column(records: &mut [u16], after: RecordId)
-    ensures { λ _. ⌜ now (records .exit) ≡ setRowF (now (records .entry)) (after .0) (madeF 0 0 0 0 0) ⌝ }
+    ensures { λ _. ⌜ now (records .exit) ≡ setRowF (now (records .entry)) (after .0) (closedRowF 0 0 0 0 0) ⌝ }
 {
-    put_by_column(records, after, made(0, 0, 0, 0, 0));
+    put_by_column(records, after, closed_row(0, 0, 0, 0, 0));
 }
 
-// A free row: its numbers are 0.
+// Clears the row after another: a free row's numbers are 0.
 pub fn clear_row(records: &mut [u16], after: RecordId)
-    ensures { λ _. ⌜ now (records .exit) ≡ setRowF (now (records .entry)) (after .0) (madeF 0 0 0 0 0) ⌝ }
+    ensures { λ _. ⌜ now (records .exit) ≡ setRowF (now (records .entry)) (after .0) (closedRowF 0 0 0 0 0) ⌝ }
 {
-    let at = (after.0 as usize) * 7;
-    if records.len() < at + 7 {
+    let at = (after.0 as usize) * record::NUMBERS;
+    if records.len() < at + record::NUMBERS {
         clear_by_column(records, after);
     } else {
         records[at] = 0;
-        records[at + 1] = 0;
-        records[at + 2] = 0;
-        records[at + 3] = 0;
-        records[at + 4] = 0;
-        records[at + 5] = 0;
-        records[at + 6] = 0;
+        records[at + A] = 0;
+        records[at + B] = 0;
+        records[at + C] = 0;
+        records[at + N] = 0;
+        records[at + UP] = 0;
+        records[at + LEFT] = 0;
     }
 }
 
@@ -186,17 +215,17 @@ pub fn move_row(records: &mut [u16], from: RecordId, to: RecordId, r: Row)
     put_row(records, to, r);
 }
 
-// The row after `count` subtrees, as the last of theirs.
+// The last row of `count` subtrees after a row.
 pub fn end_after(records: &[u16], after: RecordId, count: u16) -> RecordId
     ensures { λ r. ⌜ r .0 ≡ endF (now (records .entry)) (after .0) count ⌝ }
 {
     let mut at = after.0;
     let mut pending = count as usize;
-    while at < 65535 {
+    while at < LARGEST {
         if pending == 0 {
             break;
         }
-        pending = pending - 1 + (column(records, RecordId(at), 4) as usize);
+        pending = pending - 1 + (column(records, RecordId(at), record::N) as usize);
         at += 1;
     }
     RecordId(at)
@@ -204,7 +233,7 @@ pub fn end_after(records: &[u16], after: RecordId, count: u16) -> RecordId
 
 // ---- streaming
 
-// A new row.
+// Writes a new row.
 pub fn emit(records: &mut [u16], q: Cursor, r: Row) -> Cursor
     ensures { λ o. ⌜ buf (now (records .exit)) o ≡ emitF (buf (now (records .entry)) q) r ⌝ }
 {
@@ -216,9 +245,9 @@ pub fn emit(records: &mut [u16], q: Cursor, r: Row) -> Cursor
     }
 }
 
-// A row in the place of the next one.
-pub fn pass_as(records: &mut [u16], q: Cursor, r: Row) -> Cursor
-    ensures { λ o. ⌜ buf (now (records .exit)) o ≡ passAsF (buf (now (records .entry)) q) r ⌝ }
+// Writes a row in the place of the next one.
+pub fn replace_row(records: &mut [u16], q: Cursor, r: Row) -> Cursor
+    ensures { λ o. ⌜ buf (now (records .exit)) o ≡ replaceRowF (buf (now (records .entry)) q) r ⌝ }
 {
     move_row(records, q.read, q.written, r);
     Cursor {
@@ -227,22 +256,22 @@ pub fn pass_as(records: &mut [u16], q: Cursor, r: Row) -> Cursor
     }
 }
 
-// The next row.
-pub fn pass(records: &mut [u16], q: Cursor) -> Cursor
-    ensures { λ o. ⌜ buf (now (records .exit)) o ≡ passF (buf (now (records .entry)) q) ⌝ }
+// Copies the next row.
+pub fn copy_row(records: &mut [u16], q: Cursor) -> Cursor
+    ensures { λ o. ⌜ buf (now (records .exit)) o ≡ copyRowF (buf (now (records .entry)) q) ⌝ }
 {
     let r = row_after(records, q.read);
-    pass_as(records, q, r)
+    replace_row(records, q, r)
 }
 
-// Whole subtrees, `count` of them.
+// Copies `count` whole subtrees.
 pub fn copy(records: &mut [u16], q: Cursor, count: u16) -> Cursor
     ensures { λ o. ⌜ buf (now (records .exit)) o ≡ copyF (buf (now (records .entry)) q) count ⌝ }
 {
     let mut read = q.read.0;
     let mut written = q.written.0;
     let mut pending = count as usize;
-    while read < 65535 {
+    while read < LARGEST {
         if pending == 0 {
             break;
         }
@@ -260,8 +289,8 @@ pub fn copy(records: &mut [u16], q: Cursor, count: u16) -> Cursor
 }
 
 // The last row written goes behind the free rows again.
-pub fn back(records: &mut [u16], q: Cursor) -> Cursor
-    ensures { λ o. ⌜ buf (now (records .exit)) o ≡ backF (buf (now (records .entry)) q) ⌝ }
+pub fn unread_row(records: &mut [u16], q: Cursor) -> Cursor
+    ensures { λ o. ⌜ buf (now (records .exit)) o ≡ unreadRowF (buf (now (records .entry)) q) ⌝ }
 {
     let from = RecordId(minus(q.written.0, 1));
     let to = RecordId(minus(q.read.0, 1));
@@ -273,14 +302,14 @@ pub fn back(records: &mut [u16], q: Cursor) -> Cursor
     }
 }
 
-// The last `n` of them.
+// The last `n` rows written go behind the free rows again.
 pub fn take_back(records: &mut [u16], start: Cursor, n: u16) -> Cursor
     ensures { λ o. ⌜ buf (now (records .exit)) o ≡ takeBackF n (buf (now (records .entry)) start) ⌝ }
 {
     let mut q = start;
     let mut k: u16 = 0;
     while k < n {
-        q = back(records, q);
+        q = unread_row(records, q);
         k += 1;
     }
     q

@@ -7,8 +7,10 @@ use Prim.Native.Nat.{ℕ, zero, suc, _+_, _-_, _≤_, _<_}
 use native.Mathlib.Omega.{arith}
 use borrow.Author.Tests.{not-true, ltb-true, ltb-false, lt-leb, le-leb, ne-eqb}
 use lib.Dec.{eqb, ltb}
+use Rattle.meaning.specs.Numbers.Tag
 use Rattle.meaning.specs.Tree.{if_then_else_, oneOf}
 use Rattle.spec_laws.specs.Tags.{and-left, and-right, or-none}
+use Rattle.tables.specs.Columns.RecordTable
 use Rattle.tables.specs.Table.{columnF}
 use Rattle.tables.specs.Loops.{until}
 use Rattle.path.specs.Path.{Tables, tables, onRecords, enterF}
@@ -17,12 +19,13 @@ use Rattle.walk.specs.Visit.{rewriteF, leaveF, isLeavingF, isOverF, visi
 
 -- the tags that may ask for a rewrite
 abbrev pub rewritten : List ℕ
-rewritten = 1 ∷ 2 ∷ 4 ∷ 7 ∷ 8 ∷ 9 ∷ 11 ∷ 14 ∷ []
+rewritten =
+    Tag.Program ∷ Tag.Block ∷ Tag.Label ∷ Tag.For ∷ Tag.ForOf ∷ Tag.Switch ∷ Tag.Try ∷ Tag.Body ∷ []
 
 -- the next visit enters a record with another tag
 unfoldable pub isPlainF : List ℕ → Walk → Bool
 isPlainF t w =
-    not (isLeavingF t w) && (ltb (w .gap .0) (w .end .0) && not (oneOf rewritten (columnF t (w .gap .0) 0)))
+    not (isLeavingF t w) && (ltb (w .gap .0) (w .end .0) && not (oneOf rewritten (columnF t (w .gap .0) RecordTable.Tag)))
 
 -- the record table, the walk, and how many visits were made
 pub record Entering : Type 0 where
@@ -66,10 +69,10 @@ visitSomeF n q =
 -- ---- they are visits
 
 -- no other tag asks for a rewrite
-no-rewrite : (q : Tables) → oneOf rewritten (columnF (q .records) (q .walk .gap .0) 0) ≡ false → rewriteF q ≡ q
+no-rewrite : (q : Tables) → oneOf rewritten (columnF (q .records) (q .walk .gap .0) RecordTable.Tag) ≡ false → rewriteF q ≡ q
 unfolding rewriteF
 no-rewrite q e =
-    let t = columnF (q .records) (q .walk .gap .0) 0 in
+    let t = columnF (q .records) (q .walk .gap .0) RecordTable.Tag in
     let n₁ = or-none (eqb t 1) _ e in
     let n₂ = or-none (eqb t 2) _ (n₁ .1) in
     let n₄ = or-none (eqb t 4) _ (n₂ .1) in
@@ -82,7 +85,7 @@ no-rewrite q e =
 
 module _ (r s y : List ℕ) (w : Walk) (plain : isPlainF r w ≡ true) where
   parts : (isLeavingF r w ≡ false) × (ltb (w .gap .0) (w .end .0) ≡ true)
-      × (oneOf rewritten (columnF r (w .gap .0) 0) ≡ false)
+      × (oneOf rewritten (columnF r (w .gap .0) RecordTable.Tag) ≡ false)
   unfolding isPlainF
   parts =
       let rest = and-right (not (isLeavingF r w)) _ plain in

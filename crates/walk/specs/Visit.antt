@@ -4,7 +4,9 @@ use mathlib.Core.List.{List}
 use mathlib.Core.Bool.{Bool, not, _&&_}
 use Prim.Native.Nat.{ℕ, _-_}
 use lib.Dec.{eqb, leb, ltb}
+use Rattle.meaning.specs.Numbers.Tag
 use Rattle.meaning.specs.Tree.{if_then_else_}
+use Rattle.tables.specs.Columns.RecordTable
 use Rattle.tables.specs.Table.{capped, columnF}
 use Rattle.tables.specs.Stream.{takeBackF}
 use Rattle.scoping.specs.Changes.{inSymbols}
@@ -12,18 +14,18 @@ use Rattle.statements.specs.Plan.{noPlan, planF}
 use Rattle.statements.specs.declared.Plan.{Plan}
 use Rattle.path.specs.Path.{Tables, tables, onRecords, openRows, withCursorF, withInnerF, closeF, settleF, enterF}
 use Rattle.path.specs.declared.Walk.{Walk}
-use Rattle.contexts.specs.Lists.{transformBlockStatementF, enterFunctionBodyF, exitStaticBlockF}
-use Rattle.contexts.specs.Tries.{planTryF, enterTryStatementF}
-use Rattle.for_switch.specs.For.{planForF, transformForStatementF}
-use Rattle.for_switch.specs.Switch.{planCasesF, transformSwitchStatementF}
-use Rattle.for_of.specs.ForOf.{takesUsingF, insertsF, insertUsingF, wrapBodyF}
-use Rattle.program.specs.Program.{enterProgramF}
+use Rattle.rewrite_contexts.specs.Lists.{transformBlockStatementF, enterFunctionBodyF, exitStaticBlockF}
+use Rattle.rewrite_contexts.specs.Tries.{planTryF, enterTryStatementF}
+use Rattle.rewrite_for_switch.specs.For.{planForF, transformForStatementF}
+use Rattle.rewrite_for_switch.specs.Switch.{planCasesF, transformSwitchStatementF}
+use Rattle.rewrite_for_of.specs.ForOf.{takesUsingF, insertsF, insertUsingF, wrapBodyF}
+use Rattle.rewrite_program.specs.Program.{enterProgramF}
 
 -- ---- what entering a record rewrites
 
 -- the list of the first record to visit
 unfoldable pub planNextF : List ℕ → Walk → Plan
-planNextF t w = planF t (noPlan (capped (w .gap .0) 1)) (columnF t (w .gap .0) 4)
+planNextF t w = planF t (noPlan (capped (w .gap .0) 1)) (columnF t (w .gap .0) RecordTable.N)
 
 unfoldable pub rewriteProgramF : Tables → Tables
 rewriteProgramF q = if eqb (planNextF (q .records) (q .walk) .usings) 0 then q else enterProgramF q
@@ -46,13 +48,13 @@ rewriteForF q =
 unfoldable pub rewriteSwitchF : Tables → Tables
 rewriteSwitchF q =
     let gap = q .walk .gap .0 in
-    let plan = planCasesF (q .records) (capped gap 1) (columnF (q .records) gap 4) in
+    let plan = planCasesF (q .records) (capped gap 1) (columnF (q .records) gap RecordTable.N) in
     if eqb (plan .usings) 0 then q else transformSwitchStatementF plan q
 
 unfoldable pub rewriteTryF : Tables → Tables
 rewriteTryF q =
     let gap = q .walk .gap .0 in
-    let added = planTryF (q .records) (capped gap 1) (columnF (q .records) gap 4) in
+    let added = planTryF (q .records) (capped gap 1) (columnF (q .records) gap RecordTable.N) in
     if eqb added 0 then q else enterTryStatementF added q
 
 unfoldable pub rewriteForOfF : Tables → Tables
@@ -65,15 +67,15 @@ rewriteForOfF q =
 -- by its tag
 unfoldable pub rewriteF : Tables → Tables
 rewriteF q =
-    let tag = columnF (q .records) (q .walk .gap .0) 0 in
-    if eqb tag 1 then rewriteProgramF q
-    else if eqb tag 2 then rewriteBlockF q
-    else if eqb tag 4 then rewriteForF q
-    else if eqb tag 7 then rewriteForF q
-    else if eqb tag 8 then rewriteForOfF q
-    else if eqb tag 9 then rewriteSwitchF q
-    else if eqb tag 11 then rewriteTryF q
-    else if eqb tag 14 then rewriteBodyF q
+    let tag = columnF (q .records) (q .walk .gap .0) RecordTable.Tag in
+    if eqb tag Tag.Program then rewriteProgramF q
+    else if eqb tag Tag.Block then rewriteBlockF q
+    else if eqb tag Tag.Label then rewriteForF q
+    else if eqb tag Tag.For then rewriteForF q
+    else if eqb tag Tag.ForOf then rewriteForOfF q
+    else if eqb tag Tag.Switch then rewriteSwitchF q
+    else if eqb tag Tag.Try then rewriteTryF q
+    else if eqb tag Tag.Body then rewriteBodyF q
     else q
 
 -- ---- leaving a StaticBlock
@@ -82,7 +84,7 @@ unfoldable pub leaveBlockF : Tables → Tables
 leaveBlockF q =
     let w = q .walk in
     let inner = w .inner .0 in
-    let plan = planF (q .records) (noPlan inner) (columnF (q .records) (inner - 1) 4) in
+    let plan = planF (q .records) (noPlan inner) (columnF (q .records) (inner - 1) RecordTable.N) in
     let rows = capped (w .visited .0) 1 - inner in
     let b = takeBackF rows (record { t = q .records; read = w .gap .0; written = w .visited .0 }) in
     if eqb (plan .usings) 0 then q
@@ -99,7 +101,7 @@ leaveF q =
 
 -- the children of the innermost open record are all entered
 unfoldable pub isLeavingF : List ℕ → Walk → Bool
-isLeavingF t w = not (eqb (w .inner .0) 0) && eqb (columnF t (w .inner .0 - 1) 6) 0
+isLeavingF t w = not (eqb (w .inner .0) 0) && eqb (columnF t (w .inner .0 - 1) RecordTable.Left) 0
 
 -- no visit is left
 unfoldable pub isOverF : List ℕ → Walk → Bool

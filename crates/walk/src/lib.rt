@@ -1,8 +1,10 @@
 // The walk over lent tables, one visit at a time.
 use meaning::RecordId;
+use meaning::tag;
 use path::Walk;
 use statements::Plan;
 use tables::Cursor;
+use tables::record;
 ghost use mathlib.Core.Path.{_≡_};
 ghost use Rattle.meaning.specs.Tree.{oneOf};
 ghost use Rattle.path.specs.Path.{tables};
@@ -11,12 +13,12 @@ ghost use Rattle.walk.specs.Visit.{planNextF, rewriteProgramF, rewriteBl
 
 // ---- what entering a record rewrites
 
-// The list of the first record to visit.
+// What the list of the first record to visit has to take up.
 fn plan_next(records: &[u16], w: Walk) -> Plan
     ensures { λ r. ⌜ r ≡ planNextF (now (records .entry)) w ⌝ }
 {
     let gap = w.gap;
-    let n = tables::column(records, gap, 4);
+    let n = tables::column(records, gap, record::N);
     statements::plan_list(
         records,
         statements::no_plan(RecordId(tables::plus(gap.0, 1))),
@@ -24,6 +26,7 @@ fn plan_next(records: &[u16], w: Walk) -> Plan
     )
 }
 
+// A Program with a using directly in it.
 fn rewrite_program(records: &mut [u16], scopes: &mut [u16], symbols: &mut [u16], w: Walk) -> Walk
     ensures { λ r. ⌜ tables (now (records .exit)) (now (scopes .exit)) (now (symbols .exit)) r ≡ rewriteProgramF (tables (now (records .entry)) (now (scopes .entry)) (now (symbols .entry)) w) ⌝ }
 {
@@ -31,10 +34,11 @@ fn rewrite_program(records: &mut [u16], scopes: &mut [u16], symbols: &mut [u16],
     if plan.usings == 0 {
         w
     } else {
-        program::enter_program(records, scopes, symbols, w)
+        rewrite_program::enter_program(records, scopes, symbols, w)
     }
 }
 
+// A Block with a using directly in it.
 fn rewrite_block(records: &mut [u16], scopes: &mut [u16], symbols: &mut [u16], w: Walk) -> Walk
     ensures { λ r. ⌜ tables (now (records .exit)) (now (scopes .exit)) (now (symbols .exit)) r ≡ rewriteBlockF (tables (now (records .entry)) (now (scopes .entry)) (now (symbols .entry)) w) ⌝ }
 {
@@ -42,10 +46,11 @@ fn rewrite_block(records: &mut [u16], scopes: &mut [u16], symbols: &mut [u16], w
     if plan.usings == 0 {
         w
     } else {
-        contexts::transform_block_statement(records, scopes, symbols, w, plan)
+        rewrite_contexts::transform_block_statement(records, scopes, symbols, w, plan)
     }
 }
 
+// A function body with a using directly in it.
 fn rewrite_body(records: &mut [u16], scopes: &mut [u16], symbols: &mut [u16], w: Walk) -> Walk
     ensures { λ r. ⌜ tables (now (records .exit)) (now (scopes .exit)) (now (symbols .exit)) r ≡ rewriteBodyF (tables (now (records .entry)) (now (scopes .entry)) (now (symbols .entry)) w) ⌝ }
 {
@@ -53,94 +58,80 @@ fn rewrite_body(records: &mut [u16], scopes: &mut [u16], symbols: &mut [u16], w:
     if plan.usings == 0 {
         w
     } else {
-        contexts::enter_function_body(records, scopes, symbols, w, plan)
+        rewrite_contexts::enter_function_body(records, scopes, symbols, w, plan)
     }
 }
 
+// A For, or a Label around one, with a using at its head.
 fn rewrite_for(records: &mut [u16], scopes: &mut [u16], symbols: &mut [u16], w: Walk) -> Walk
     ensures { λ r. ⌜ tables (now (records .exit)) (now (scopes .exit)) (now (symbols .exit)) r ≡ rewriteForF (tables (now (records .entry)) (now (scopes .entry)) (now (symbols .entry)) w) ⌝ }
 {
-    let plan = for_switch::plan_for(records, w.gap);
+    let plan = rewrite_for_switch::plan_for(records, w.gap);
     if plan.usings == 0 {
         w
     } else {
-        for_switch::transform_for_statement(records, scopes, symbols, w, plan)
+        rewrite_for_switch::transform_for_statement(records, scopes, symbols, w, plan)
     }
 }
 
+// A Switch with a using in a Case.
 fn rewrite_switch(records: &mut [u16], scopes: &mut [u16], symbols: &mut [u16], w: Walk) -> Walk
     ensures { λ r. ⌜ tables (now (records .exit)) (now (scopes .exit)) (now (symbols .exit)) r ≡ rewriteSwitchF (tables (now (records .entry)) (now (scopes .entry)) (now (symbols .entry)) w) ⌝ }
 {
     let gap = w.gap;
-    let n = tables::column(records, gap, 4);
-    let plan = for_switch::plan_cases(records, RecordId(tables::plus(gap.0, 1)), n);
+    let n = tables::column(records, gap, record::N);
+    let plan = rewrite_for_switch::plan_cases(records, RecordId(tables::plus(gap.0, 1)), n);
     if plan.usings == 0 {
         w
     } else {
-        for_switch::transform_switch_statement(records, scopes, symbols, w, plan)
+        rewrite_for_switch::transform_switch_statement(records, scopes, symbols, w, plan)
     }
 }
 
+// A Try with a using in one of its parts.
 fn rewrite_try(records: &mut [u16], scopes: &mut [u16], symbols: &mut [u16], w: Walk) -> Walk
     ensures { λ r. ⌜ tables (now (records .exit)) (now (scopes .exit)) (now (symbols .exit)) r ≡ rewriteTryF (tables (now (records .entry)) (now (scopes .entry)) (now (symbols .entry)) w) ⌝ }
 {
     let gap = w.gap;
-    let n = tables::column(records, gap, 4);
-    let added = contexts::plan_try(records, RecordId(tables::plus(gap.0, 1)), n);
+    let n = tables::column(records, gap, record::N);
+    let added = rewrite_contexts::plan_try(records, RecordId(tables::plus(gap.0, 1)), n);
     if added == 0 {
         w
     } else {
-        contexts::enter_try_statement(records, scopes, symbols, w, added)
+        rewrite_contexts::enter_try_statement(records, scopes, symbols, w, added)
     }
 }
 
+// A ForOf with a using of an identifier on its left side.
 fn rewrite_for_of(records: &mut [u16], scopes: &mut [u16], symbols: &mut [u16], w: Walk) -> Walk
     ensures { λ r. ⌜ tables (now (records .exit)) (now (scopes .exit)) (now (symbols .exit)) r ≡ rewriteForOfF (tables (now (records .entry)) (now (scopes .entry)) (now (symbols .entry)) w) ⌝ }
 {
-    if for_of::takes_using(records, w.gap) {
-        if for_of::inserts(records, symbols, w.ctx, w.gap) {
-            for_of::insert_using(records, scopes, symbols, w)
+    if rewrite_for_of::takes_using(records, w.gap) {
+        if rewrite_for_of::inserts(records, symbols, w.ctx, w.gap) {
+            rewrite_for_of::insert_using(records, scopes, symbols, w)
         } else {
-            for_of::wrap_body(records, scopes, symbols, w)
+            rewrite_for_of::wrap_body(records, scopes, symbols, w)
         }
     } else {
         w
     }
 }
 
-// The first record to visit, by its tag.
+// The first record to visit is rewritten, by its tag.
 fn rewrite(records: &mut [u16], scopes: &mut [u16], symbols: &mut [u16], w: Walk) -> Walk
     ensures { λ r. ⌜ tables (now (records .exit)) (now (scopes .exit)) (now (symbols .exit)) r ≡ rewriteF (tables (now (records .entry)) (now (scopes .entry)) (now (symbols .entry)) w) ⌝ }
 {
-    let tag = tables::column(records, w.gap, 0);
+    let tag = tables::column(records, w.gap, record::TAG);
     match tag {
-        1 => rewrite_program(records, scopes, symbols, w),
-        2 => rewrite_block(records, scopes, symbols, w),
-        3 => w,
-        4 => rewrite_for(records, scopes, symbols, w),
-        5 => w,
-        6 => w,
-        7 => rewrite_for(records, scopes, symbols, w),
-        8 => rewrite_for_of(records, scopes, symbols, w),
-        9 => rewrite_switch(records, scopes, symbols, w),
-        10 => w,
-        11 => rewrite_try(records, scopes, symbols, w),
-        12 => w,
-        13 => w,
-        14 => rewrite_body(records, scopes, symbols, w),
-        15 => w,
-        16 => w,
-        17 => w,
-        18 => w,
-        19 => w,
-        20 => w,
-        24 => w,
-        25 => w,
-        26 => w,
-        27 => w,
-        28 => w,
-        29 => w,
-        0 | 21..=23 | 30..=65535 => w,
+        tag::PROGRAM => rewrite_program(records, scopes, symbols, w),
+        tag::BLOCK => rewrite_block(records, scopes, symbols, w),
+        tag::LABEL | tag::FOR => rewrite_for(records, scopes, symbols, w),
+        tag::FOR_OF => rewrite_for_of(records, scopes, symbols, w),
+        tag::SWITCH => rewrite_switch(records, scopes, symbols, w),
+        tag::TRY => rewrite_try(records, scopes, symbols, w),
+        tag::BODY => rewrite_body(records, scopes, symbols, w),
+        // All other tags; and 0, 21 to 23 and 30 on, which are no tags.
+        tag::PLAIN..=tag::SPECIFIER | tag::EXPRESSION..=tag::STEP | 0 | 21..=23 | 30..=65535 => w,
     }
 }
 
@@ -151,7 +142,7 @@ fn leave_block(records: &mut [u16], scopes: &mut [u16], symbols: &mut [u16], w: 
     ensures { λ r. ⌜ tables (now (records .exit)) (now (scopes .exit)) (now (symbols .exit)) r ≡ leaveBlockF (tables (now (records .entry)) (now (scopes .entry)) (now (symbols .entry)) w) ⌝ }
 {
     let inner = w.inner;
-    let n = tables::column(records, RecordId(tables::minus(inner.0, 1)), 4);
+    let n = tables::column(records, RecordId(tables::minus(inner.0, 1)), record::N);
     let plan = statements::plan_list(records, statements::no_plan(inner), n);
     if plan.usings == 0 {
         return w;
@@ -160,7 +151,7 @@ fn leave_block(records: &mut [u16], scopes: &mut [u16], symbols: &mut [u16], w: 
     let written = w.visited;
     let rows = tables::minus(tables::plus(written.0, 1), inner.0);
     let q = tables::take_back(records, Cursor { read, written }, rows);
-    contexts::exit_static_block(records, scopes, symbols, w.with_cursor(q), plan)
+    rewrite_contexts::exit_static_block(records, scopes, symbols, w.with_cursor(q), plan)
 }
 
 // The innermost open record is left.
@@ -181,7 +172,7 @@ fn is_leaving(records: &[u16], w: Walk) -> bool
     if inner == 0 {
         return false;
     }
-    tables::column(records, RecordId(inner - 1), 6) == 0
+    tables::column(records, RecordId(inner - 1), record::LEFT) == 0
 }
 
 // No visit is left.
@@ -199,14 +190,14 @@ fn may_rewrite(tag: u16) -> bool
     ensures { λ r. ⌜ r ≡ oneOf rewritten tag ⌝ }
 {
     match tag {
-        1 => true,
-        2 => true,
-        4 => true,
-        7 => true,
-        8 => true,
-        9 => true,
-        11 => true,
-        14 => true,
+        tag::PROGRAM => true,
+        tag::BLOCK => true,
+        tag::LABEL => true,
+        tag::FOR => true,
+        tag::FOR_OF => true,
+        tag::SWITCH => true,
+        tag::TRY => true,
+        tag::BODY => true,
         _ => false,
     }
 }
@@ -221,7 +212,7 @@ fn is_plain(records: &[u16], w: Walk) -> bool
     if w.end.0 <= w.gap.0 {
         return false;
     }
-    !may_rewrite(tables::column(records, w.gap, 0))
+    !may_rewrite(tables::column(records, w.gap, record::TAG))
 }
 
 // After the first record, one that may ask for a rewrite is not entered.

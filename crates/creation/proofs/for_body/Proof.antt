@@ -26,10 +26,13 @@ returns c =
     let at-move-block-scoped = at-with-ctx .before .before .before .before .before in
     let at-insert-scope-below = at-move-block-scoped .before .before .before .before in
     let at-transform-statements = at-insert-scope-below .before .before .before .before in
-    rw (← at-transform-statements .transform-statements .ensures, ← at-insert-scope-below .insert-scope-below .ensures, ← at-move-block-scoped .move-block-scoped .ensures, ← at-with-ctx .with-ctx .ensures, ← at-create-try-stmt .create-try-stmt .ensures)
+    let at-plus = at-transform-statements .before .before .before in
+    let at-hoist-scope = at-plus .before in
+    let at-current-scope = at-hoist-scope .before in
+    rw (← at-current-scope .current-scope .ensures, ← at-hoist-scope .hoist-scope .ensures, ← at-plus .plus .ensures, ← at-transform-statements .transform-statements .ensures, ← at-insert-scope-below .insert-scope-below .ensures, ← at-move-block-scoped .move-block-scoped .ensures, ← at-with-ctx .with-ctx .ensures, ← at-create-try-stmt .create-try-stmt .ensures)
 
 pub for-body-spec : {M : Type 1} → statement M
 for-body-spec =
     tie.close
     (tie.spec
-    (λ c κs. search needs) (λ c κs. search needs) (λ c κs. search needs) (λ c κs. search needs) (λ c κs. search needs) same-length same-length-2 returns)
+    (λ c κs. search needs) (λ c κs. search needs) (λ c κs. search needs) (λ c κs. search needs) (λ c κs. search needs) (λ c κs. search needs) (λ c κs. search needs) (λ c κs. search needs) same-length same-length-2 returns)

@@ -25,10 +25,12 @@ returns c =
     let at-load-context = at-create-try-stmt .before .before .before .before .before in
     let at-insert-scope-below = at-load-context .before .before .before .before .before in
     let at-make-context = at-insert-scope-below .before .before .before .before in
-    rw (← at-make-context .make-context .ensures, ← at-insert-scope-below .insert-scope-below .ensures, ← at-load-context .load-context .ensures, ← at-create-try-stmt .create-try-stmt .ensures)
+    let at-hoist-scope = at-make-context .before .before in
+    let at-current-scope = at-hoist-scope .before in
+    rw (← at-current-scope .current-scope .ensures, ← at-hoist-scope .hoist-scope .ensures, ← at-make-context .make-context .ensures, ← at-insert-scope-below .insert-scope-below .ensures, ← at-load-context .load-context .ensures, ← at-create-try-stmt .create-try-stmt .ensures)
 
 pub for-loop-spec : {M : Type 1} → statement M
 for-loop-spec =
     tie.close
     (tie.spec
-    (λ c κs. search needs) (λ c κs. search needs) (λ c κs. search needs) (λ c κs. search needs) same-length same-length-2 returns)
+    (λ c κs. search needs) (λ c κs. search needs) (λ c κs. search needs) (λ c κs. search needs) (λ c κs. search needs) (λ c κs. search needs) same-length same-length-2 returns)

@@ -7,7 +7,7 @@ use native.Mathlib.Nat.{zero-add}
 use native.Mathlib.Omega.{arith}
 use lib.ListN.{length, length-append}
 use Rattle.meaning.specs.Tree.{Head, Forest, none, more, count, size, _&_}
-use Rattle.tables.specs.Table.{madeF}
+use Rattle.tables.specs.Table.{closedRowF}
 use Rattle.tables.specs.Stream.{Buf}
 use Rattle.tables.specs.declared.Row.{Row}
 
@@ -17,7 +17,7 @@ table [] z = z
 table (r ∷ rs) z = r .tag ∷ r .a ∷ r .b ∷ r .c ∷ r .n ∷ r .up ∷ r .left ∷ table rs z
 
 abbrev pub zeros : Row
-zeros = madeF 0 0 0 0 0
+zeros = closedRowF 0 0 0 0 0
 
 -- free rows
 unfoldable pub free : ℕ → List Row
@@ -26,7 +26,7 @@ free (suc g) = zeros ∷ free g
 
 -- the row of a record with n children that is not open
 abbrev pub line : Head → ℕ → Row
-line h n = madeF (h .tag) (h .a) (h .b) (h .c) n
+line h n = closedRowF (h .tag) (h .a) (h .b) (h .c) n
 
 -- the rows of a forest in file order
 unfoldable pub rowsOf : Forest → List Row

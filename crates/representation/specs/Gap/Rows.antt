@@ -8,7 +8,7 @@ use lib.ListN.{length, length-append}
 use lib.Seq.{append-snoc}
 use Rattle.tables.specs.Loops.{turns}
 use Rattle.tables.specs.Table.{capped, columnF, rowF, setColumnF, setRowF, moveRowF}
-use Rattle.tables.specs.Stream.{Buf, emitF, passAsF, passF, backF, takeBackF}
+use Rattle.tables.specs.Stream.{Buf, emitF, replaceRowF, copyRowF, unreadRowF, takeBackF}
 use Rattle.tables.specs.declared.Row.{Row}
 use Rattle.representation.specs.Gap.Cells.{table, zeros, free, gapped, withUp, withLeft, length-free}
 
@@ -110,8 +110,8 @@ module _ (z : List ℕ) (a : List Row) (g : ℕ) where
       (cap-one (length a) h ∙ sym (length-snoc a r))
 
   pub pass-as-gapped : (x : Row) (v : List Row) (r : Row) → length a + g < 65535
-      → passAsF (gapped z a g (x ∷ v)) r ≡ gapped z (a ++ r ∷ []) g v
-  unfolding passAsF gapped
+      → replaceRowF (gapped z a g (x ∷ v)) r ≡ gapped z (a ++ r ∷ []) g v
+  unfolding replaceRowF gapped
   pass-as-gapped x v r h =
       buf-eq
       (move-row-gapped x v r ∙ ap (λ (u : List Row). table u z) (sym (append-snoc a r (free g ++ v))))
@@ -122,13 +122,13 @@ module _ (z : List ℕ) (a : List Row) (g : ℕ) where
   unfolding gapped
   next-gapped x v = rw (← length-left a g, ← append-assoc a (free g) (x ∷ v)) (row-at z (a ++ free g) x v)
 
-  pub pass-gapped : (x : Row) (v : List Row) → length a + g < 65535 → passF (gapped z a g (x ∷ v)) ≡ gapped z (a ++ x ∷ []) g v
-  unfolding passF
+  pub pass-gapped : (x : Row) (v : List Row) → length a + g < 65535 → copyRowF (gapped z a g (x ∷ v)) ≡ gapped z (a ++ x ∷ []) g v
+  unfolding copyRowF
   pass-gapped x v h = rw (next-gapped x v) (pass-as-gapped x v x h)
 
   -- the last row written goes back
-  back-gapped : (x : Row) (v : List Row) → backF (gapped z (a ++ x ∷ []) g v) ≡ gapped z a g (x ∷ v)
-  unfolding backF moveRowF gapped
+  back-gapped : (x : Row) (v : List Row) → unreadRowF (gapped z (a ++ x ∷ []) g v) ≡ gapped z a g (x ∷ v)
+  unfolding unreadRowF moveRowF gapped
   back-gapped x v =
       let u = free g ++ v in
       let w : length (a ++ x ∷ []) - 1 ≡ length a = omega (arith, length-snoc a x) in
@@ -147,6 +147,6 @@ pub take-back-gapped : (z : List ℕ) (a : List Row) (g : ℕ) (m v : List Row)
 unfolding takeBackF turns
 take-back-gapped z a g [] v = rw append-nil
 take-back-gapped z a g (x ∷ m) v =
-    turns-last (length m) backF (gapped z (a ++ x ∷ m) g v)
-    ∙ ap backF (rw (← append-snoc a x m) (take-back-gapped z (a ++ x ∷ []) g m v))
+    turns-last (length m) unreadRowF (gapped z (a ++ x ∷ m) g v)
+    ∙ ap unreadRowF (rw (← append-snoc a x m) (take-back-gapped z (a ++ x ∷ []) g m v))
     ∙ back-gapped z a g x (m ++ v)

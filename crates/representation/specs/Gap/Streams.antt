@@ -9,7 +9,7 @@ use lib.ListN.{length, length-append}
 use Rattle.meaning.specs.Tree.{Head, Forest, none, more, count, size}
 use Rattle.tables.specs.Loops.{until, go-on, stopped}
 use Rattle.tables.specs.Table.{columnF, rowF, Skipping, skipping, skipped, skipOne, endF}
-use Rattle.tables.specs.Stream.{Buf, passF, passAsF, Copying, copying, copied, copyOne, copyF}
+use Rattle.tables.specs.Stream.{Buf, copyRowF, replaceRowF, Copying, copying, copied, copyOne, copyF}
 use Rattle.tables.specs.declared.Row.{Row}
 use Rattle.representation.specs.Gap.Cells.{table, line, rowsOf, gapped, length-rows}
 use Rattle.representation.specs.Gap.Rows.{n-at, cap-one, length-snoc, next-gapped, pass-gapped}
@@ -21,12 +21,12 @@ pub copy-none : (b : Buf) → copyF b 0 ≡ b
 unfolding copyF
 copy-none b = sym (ap (λ (s : Copying). s .buf) (stopped (65535 - b .read) copied copyOne _ (copying b 0) refl refl))
 
-copy-step : (b : Buf) (c : ℕ) → b .read < 65535 → copyF b (suc c) ≡ copyF (passF b) (c + columnF (b .t) (b .read) 4)
-unfolding copyF copyOne passF passAsF
+copy-step : (b : Buf) (c : ℕ) → b .read < 65535 → copyF b (suc c) ≡ copyF (copyRowF b) (c + columnF (b .t) (b .read) 4)
+unfolding copyF copyOne copyRowF replaceRowF
 copy-step b c h =
     let n = columnF (b .t) (b .read) 4 in
     ap (λ (s : Copying). s .buf) (go-on 65535 (b .read) copied copyOne _ (copying b (suc c)) refl h (some-left c))
-    ∙ ap₂ (λ (i k : ℕ). until (65535 - i) copied copyOne (copying (passF b) (k + n)) .buf) (sym (cap-one (b .read) h)) (omega arith)
+    ∙ ap₂ (λ (i k : ℕ). until (65535 - i) copied copyOne (copying (copyRowF b) (k + n)) .buf) (sym (cap-one (b .read) h)) (omega arith)
 
 module _ (z : List ℕ) where
   copy-row : (a : List Row) (g : ℕ) (x : Row) (v : List Row) (c : ℕ) → length a + g < 65535

@@ -23,7 +23,7 @@ use Rattle.scoping.specs.declared.Ctx.{Ctx}
 use Rattle.representation.specs.Store.Held.{scopeCells, symbolCells, ctxOf, scopesHeld}
 use Rattle.representation.specs.Store.Scopes.{parent-changed, parent-ctx, child-scope-made, child-scope-number}
 use Rattle.table_laws.specs.Lists.Plan.{cap-sum}
-use Rattle.creation.specs.Scopes.{PassingF, passingF, moveScopeF, passed, moveScopesF, insertScopeBelowF}
+use Rattle.creation.specs.Scopes.{ScopeMoveF, scopeMoveF, moveScopeF, passed, moveScopesF, insertScopeBelowF}
 use Rattle.scoping_laws.specs.Created.Held.{freeScopes}
 use Rattle.spec_laws.specs.Bools.{and-false, one-less, some}
 use Rattle.spec_laws.specs.Trees.{count-size}
@@ -74,10 +74,10 @@ module _ (s : ℕ) (f : Forest) (st : Store) where
 -- ---- row by row
 
 module _ (z t : List ℕ) (x : Ctx) (parent : ℕ) where
-  abbrev run : ℕ → PassingF → PassingF
+  abbrev run : ℕ → ScopeMoveF → ScopeMoveF
   run m s = until m passed (moveScopeF t x parent) s
 
-  turn : (m : ℕ) (s : PassingF) → passed s ≡ false → run (suc m) s ≡ run m (moveScopeF t x parent s)
+  turn : (m : ℕ) (s : ScopeMoveF) → passed s ≡ false → run (suc m) s ≡ run m (moveScopeF t x parent s)
   unfolding until
   turn m s e = rw e
 
@@ -91,28 +91,28 @@ module _ (z t : List ℕ) (x : Ctx) (parent : ℕ) where
     next-is = cap-one (length a) q ∙ sym (length-snoc a (line h n))
 
     pass : (s : ℕ) → s + n ≤ 65535
-        → run (suc m) (passingF u (length a) p (suc s)) ≡ run m (passingF u (length (a ++ line h n ∷ [])) p (s + n))
+        → run (suc m) (scopeMoveF u (length a) p (suc s)) ≡ run m (scopeMoveF u (length (a ++ line h n ∷ [])) p (s + n))
     unfolding moveScopeF
     pass s i =
-        turn m (passingF u (length a) p (suc s)) (rw (some s) (and-false (eqb p 0)))
+        turn m (scopeMoveF u (length a) p (suc s)) (rw (some s) (and-false (eqb p 0)))
         ∙ rw (some s, row-is, next-is, one-less s, cap-sum s n i)
 
     enter : eqb (scopeOf h) 0 ≡ true → p + n ≤ 65535
-        → run (suc m) (passingF u (length a) (suc p) 0) ≡ run m (passingF u (length (a ++ line h n ∷ [])) (p + n) 0)
+        → run (suc m) (scopeMoveF u (length a) (suc p) 0) ≡ run m (scopeMoveF u (length (a ++ line h n ∷ [])) (p + n) 0)
     unfolding moveScopeF
-    enter c i = turn m (passingF u (length a) (suc p) 0) (rw (some p)) ∙ rw (row-is, c, next-is, one-less p, cap-sum p n i)
+    enter c i = turn m (scopeMoveF u (length a) (suc p) 0) (rw (some p)) ∙ rw (row-is, c, next-is, one-less p, cap-sum p n i)
 
     change : eqb (scopeOf h) 0 ≡ false
-        → run (suc m) (passingF u (length a) (suc p) 0)
-        ≡ run m (passingF (changeScopeParentF (inScopes u x) (scopeOf h) parent) (length (a ++ line h n ∷ [])) p n)
+        → run (suc m) (scopeMoveF u (length a) (suc p) 0)
+        ≡ run m (scopeMoveF (changeScopeParentF (inScopes u x) (scopeOf h) parent) (length (a ++ line h n ∷ [])) p n)
     unfolding moveScopeF
-    change c = turn m (passingF u (length a) (suc p) 0) (rw (some p)) ∙ rw (row-is, c, next-is, one-less p)
+    change c = turn m (scopeMoveF u (length a) (suc p) 0) (rw (some p)) ∙ rw (row-is, c, next-is, one-less p)
 
   -- ---- a list is passed over
 
   skip-list : (f : Forest) (a v : List Row) (u : List ℕ) (p s m : ℕ) → t ≡ table (a ++ (rowsOf f ++ v)) z
       → length a + size f + s ≤ 65535
-      → run (size f + m) (passingF u (length a) p (count f + s)) ≡ run m (passingF u (length a + size f) p s)
+      → run (size f + m) (scopeMoveF u (length a) p (count f + s)) ≡ run m (scopeMoveF u (length a + size f) p s)
   unfolding rowsOf count size
   skip-list none a v u p s m e i = simp (add-zero, zero-add)
   skip-list (more h k r) a v u p s m e i =
@@ -123,20 +123,20 @@ module _ (z t : List ℕ) (x : Ctx) (parent : ℕ) where
       let l₂ : length a₂ ≡ length a + 1 + size k = omega (arith, length-append a₁ (rowsOf k), length-rows k) in
       let c₁ = count-size k in
       let c₂ = count-size r in
-      ap₂ (λ (i n : ℕ). run i (passingF u (length a) p n)) (omega arith) (omega arith)
+      ap₂ (λ (i n : ℕ). run i (scopeMoveF u (length a) p n)) (omega arith) (omega arith)
       ∙ pass h (count k) a (rowsOf k ++ rowsOf r ++ v) (e ∙ simp append-assoc) (omega arith) u p (size k + (size r + m)) (count r + s)
       (omega arith)
-      ∙ ap (λ (n : ℕ). run (size k + (size r + m)) (passingF u (length a₁) p n)) (omega arith)
+      ∙ ap (λ (n : ℕ). run (size k + (size r + m)) (scopeMoveF u (length a₁) p n)) (omega arith)
       ∙ skip-list k a₁ (rowsOf r ++ v) u p (count r + s) (size r + m) (e ∙ simp append-assoc) (omega arith)
-      ∙ ap (λ (i : ℕ). run (size r + m) (passingF u i p (count r + s))) (omega arith)
+      ∙ ap (λ (i : ℕ). run (size r + m) (scopeMoveF u i p (count r + s))) (omega arith)
       ∙ skip-list r a₂ v u p s m (e ∙ simp append-assoc) (omega arith)
-      ∙ ap (λ (i : ℕ). run m (passingF u i p s)) (omega arith)
+      ∙ ap (λ (i : ℕ). run m (scopeMoveF u i p s)) (omega arith)
 
 -- ---- a list moves
 
 -- a state of the loop, with the scopes of a store
-abbrev standing : List ℕ → Store → ℕ → ℕ → PassingF
-standing zs st at p = passingF (scopeCells (st .scopes) zs) at p 0
+abbrev standing : List ℕ → Store → ℕ → ℕ → ScopeMoveF
+standing zs st at p = scopeMoveF (scopeCells (st .scopes) zs) at p 0
 
 -- its scopes get the parent, in a store with these counters
 abbrev Moves : List ℕ → List ℕ → List ℕ → Ctx → ℕ → Forest → Type 0
@@ -170,7 +170,7 @@ module _ (zs z t : List ℕ) (x : Ctx) (parent : ℕ) where
       let cells = scopeCells (st .scopes) zs in
       let cells′ = scopeCells (changeScopeParent (scopeOf h) parent st .1 .scopes) zs in
       change z t x parent h (count k) a (rowsOf k ++ v) e (omega arith) cells p (size k + m) c
-      ∙ ap₂ (λ (u : List ℕ) (n : ℕ). run z t x parent (size k + m) (passingF u (length (a ++ y ∷ [])) p n))
+      ∙ ap₂ (λ (u : List ℕ) (n : ℕ). run z t x parent (size k + m) (scopeMoveF u (length (a ++ y ∷ [])) p n))
       (rw (← o) (parent-changed st (scopeOf h) zs parent))
       (sym (add-zero (count k)))
       ∙ skip-list z t x parent k (a ++ y ∷ []) v cells′ p 0 m (e ∙ simp append-assoc) (omega arith)
@@ -204,7 +204,7 @@ module _ (zs z : List ℕ) (f : Forest) (a v : List Row) (t : List ℕ) (e : t �
       let x = ctxOf st in
       let s = standing zs (moveScopes f parent st .1) (length a + size f) 0 in
       let m = 65535 - size f in
-      ap (λ (w : PassingF). w .t)
+      ap (λ (w : ScopeMoveF). w .t)
       (ap₂ (λ (i n : ℕ). run z t x parent i (standing zs st (length a) n)) (omega arith) (sym (add-zero (count f)))
       ∙ list-moves zs z t x parent f st a v 0 m refl e (omega arith)
       ∙ sym (stopped m passed (moveScopeF t x parent) _ s refl refl))

@@ -18,7 +18,7 @@ use Rattle.meaning.specs.Program.{
   asExpression,
   defaultValue,
 }
-use Rattle.tables.specs.Table.{madeF}
+use Rattle.tables.specs.Table.{closedRowF}
 use Rattle.tables.specs.declared.Row.{Row}
 use Rattle.representation.specs.Gap.Cells.{line, rowsOf, gapped}
 use Rattle.representation.specs.Gap.Rows.{next-gapped}
@@ -28,7 +28,7 @@ use Rattle.representation.specs.Store.Held.{symbolCells, symbolsHeld}
 use Rattle.representation.specs.Store.Symbols.{name-is, made-is, symbol-flags-set, symbol-flags-ctx, symbol-number, symbol-made}
 use Rattle.representation.specs.Store.Agreed.{Agreed, agrees-length, symbol-agreed, symbol-flags-agreed}
 use Rattle.scoping_laws.specs.Created.Held.{freeSymbols}
-use Rattle.items.specs.Items.{
+use Rattle.rewrite_items.specs.Items.{
   dropF,
   exportRowsF,
   preserveNameF,
@@ -125,7 +125,7 @@ module _ (z : List ℕ) where
     unfolding asExpressionF asExpression
     expression-row = by (eqb (h .tag) 15)
       where
-        by : (c : Bool) → (if c then madeF 15 1 (h .b) (h .c) (count k) else line h (count k))
+        by : (c : Bool) → (if c then closedRowF 15 1 (h .b) (h .c) (count k) else line h (count k))
             ≡ line (if c then hd 15 1 (h .b) (h .c) else h) (count k)
         by true = refl
         by false = refl

@@ -13,7 +13,7 @@ use Rattle.meaning.specs.Shapes.{exportNamed}
 use Rattle.meaning.specs.Statements.{isUsing}
 use Rattle.meaning.specs.Program.{boundNames, specifiers, topLevelDeclaration, exportedDeclaration}
 use Rattle.charge_laws.specs.Growth.Rows.{flags-of}
-use Rattle.tables.specs.Table.{capped, madeF}
+use Rattle.tables.specs.Table.{capped, closedRowF}
 use Rattle.tables.specs.Stream.{Buf}
 use Rattle.tables.specs.declared.Row.{Row}
 use Rattle.representation.specs.Gap.Cells.{free, line, rowsOf, gapped}
@@ -21,8 +21,8 @@ use Rattle.representation.specs.Gap.Rows.{next-gapped, emit-gapped, length-snoc
 use Rattle.scoping.specs.declared.Ctx.{Ctx}
 use Rattle.representation.specs.Store.Held.{symbolCells, ctxOf, symbolsHeld}
 use Rattle.representation.specs.Store.Symbols.{symbol-flags-ctx}
-use Rattle.items.specs.Names.{countNamesF, flagNamesF}
-use Rattle.items.specs.Items.{recordedF, declaredF, exportedDeclarationF}
+use Rattle.rewrite_items.specs.Names.{countNamesF, flagNamesF}
+use Rattle.rewrite_items.specs.Items.{recordedF, declaredF, exportedDeclarationF}
 use Rattle.scoping_laws.specs.Itemized.Rows.{table-behind, length-behind, next-behind, next-n, drop-gapped, pass-record}
 use Rattle.scoping_laws.specs.Itemized.Held.{held, Becomes}
 use Rattle.scoping_laws.specs.Itemized.Names.{count-names-law, flag-names-law, specifiers-law}
@@ -43,7 +43,7 @@ recorded-row : (h : Head) (n : ℕ) → recordedF (line h n) ≡ line (hd 5 0 (i
 unfolding recordedF
 recorded-row h n = by (isUsing h)
   where
-    by : (c : Bool) → (if c then madeF 5 0 (h .a) 0 n else madeF 5 0 0 0 n) ≡ line (hd 5 0 (if c then h .a else 0) 0) n
+    by : (c : Bool) → (if c then closedRowF 5 0 (h .a) 0 n else closedRowF 5 0 0 0 n) ≡ line (hd 5 0 (if c then h .a else 0) 0) n
     by true = refl
     by false = refl
 
@@ -58,7 +58,7 @@ length-specifiers st [] = refl
 length-specifiers st (y ∷ ys) = ap suc (length-specifiers st ys)
 
 exported-rows : (st : Store) (ys : List ℕ)
-    → rowsOf (exportNamed (specifiers st ys)) ≡ madeF 17 2 0 0 (length ys) ∷ rowsOf (specifiers st ys)
+    → rowsOf (exportNamed (specifiers st ys)) ≡ closedRowF 17 2 0 0 (length ys) ∷ rowsOf (specifiers st ys)
 unfolding rowsOf
 exported-rows st ys = rw (count-specifiers st ys, append-nil)
 
@@ -112,7 +112,7 @@ module _ (z : List ℕ) where
       let x = line h (count k) in
       let w = rowsOf k ++ v in
       let st′ = setFlagsOf (boundNames k) 1 st .1 in
-      let e = madeF 17 2 0 0 n in
+      let e = closedRowF 17 2 0 0 n in
       let m = rowsOf (specifiers st′ (boundNames k)) in
       rw (
         drop-gapped z a (n + g) o (x ∷ w) (omega arith),

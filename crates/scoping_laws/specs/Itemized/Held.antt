@@ -13,9 +13,9 @@ use Rattle.representation.specs.Gap.Cells.{line, rowsOf, gapped}
 use Rattle.representation.specs.Store.Held.{symbolCells, ctxOf}
 use Rattle.representation.specs.Store.Agreed.{Agreed}
 use Rattle.scoping_laws.specs.Created.Held.{freeSymbols}
-use Rattle.items.specs.Kinds.{itemF}
-use Rattle.items.specs.Items.{PassingF, passingF, transformAs, transformItemF}
-use Rattle.items.specs.declared.Item.{Item}
+use Rattle.rewrite_items.specs.Kinds.{itemF}
+use Rattle.rewrite_items.specs.Items.{PassingF, passingF, transformAs, transformItemF}
+use Rattle.rewrite_items.specs.declared.Item.{Item}
 
 -- rows on their way, with the symbols and the counters of a store
 abbrev pub held : Buf → Store → List ℕ → PassingF

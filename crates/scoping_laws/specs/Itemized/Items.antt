@@ -44,9 +44,9 @@ use Rattle.representation.specs.Gap.Rows.{next-gapped}
 use Rattle.representation.specs.Gap.Streams.{copy-all}
 use Rattle.representation.specs.Store.Agreed.{Agreed, flags-agreed}
 use Rattle.scoping_laws.specs.Created.Held.{freeSymbols}
-use Rattle.items.specs.Kinds.{itemF, defaultItemF, defaultClassItemF, exportedItemF}
-use Rattle.items.specs.Items.{copiedF}
-use Rattle.items.specs.declared.Item.the-variants.{
+use Rattle.rewrite_items.specs.Kinds.{itemF, defaultItemF, defaultClassItemF, exportedItemF}
+use Rattle.rewrite_items.specs.Items.{copiedF}
+use Rattle.rewrite_items.specs.declared.Item.the-variants.{
   Kept,
   Moved,
   Declared,

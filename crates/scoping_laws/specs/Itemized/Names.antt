@@ -14,7 +14,7 @@ use Rattle.meaning.specs.Scoping.{Store, symbolIn, setSymbolFlags, setFlagsOf}
 use Rattle.meaning.specs.Contexts.{namesIn}
 use Rattle.meaning.specs.Program.{boundNames, specifiers}
 use Rattle.charge_laws.specs.Growth.Rows.{flags-of}
-use Rattle.tables.specs.Table.{columnF, madeF}
+use Rattle.tables.specs.Table.{columnF, closedRowF}
 use Rattle.tables.specs.Stream.{Buf, emitF}
 use Rattle.tables.specs.declared.Row.{Row}
 use Rattle.representation.specs.Gap.Cells.{table, free, line, rowsOf, gapped}
@@ -25,7 +25,7 @@ use Rattle.scoping.specs.declared.Ctx.{Ctx}
 use Rattle.representation.specs.Store.Held.{symbolCells, ctxOf, symbolsHeld}
 use Rattle.representation.specs.Store.Symbols.{name-is, symbol-flags-set, symbol-flags-ctx}
 use Rattle.table_laws.specs.Lists.Plan.{cap-sum}
-use Rattle.items.specs.Names.{
+use Rattle.rewrite_items.specs.Names.{
   isNameF,
   nextNameF,
   firstNames,
@@ -45,8 +45,8 @@ use Rattle.items.specs.Names.{
   specifyAllF,
   specifiersF,
 }
-use Rattle.items.specs.declared.Names.{Names}
-use Rattle.items.specs.declared.Counted.{Counted}
+use Rattle.rewrite_items.specs.declared.Names.{Names}
+use Rattle.rewrite_items.specs.declared.Counted.{Counted}
 use Rattle.scoping_laws.specs.Itemized.Rows.{table-behind, length-behind}
 use Rattle.scoping_laws.specs.Itemized.Visits.{visited, Visiting, visits-all}
 
@@ -176,7 +176,7 @@ module _ (q : SymbolRows) (b : Buf) (t : List ℕ) (o : b .t ≡ t) (s : Names) 
 
   specify-visit : (y : ℕ) → isNameF t s ≡ true → columnF t (s .at) 1 ≡ y
       → specifierF q (specifyingF b s)
-      ≡ specifyingF (emitF b (madeF 20 y (symbolNumber (q .t) (q .ctx .symbols) y 0) 0 0)) (nextNameF t s)
+      ≡ specifyingF (emitF b (closedRowF 20 y (symbolNumber (q .t) (q .ctx .symbols) y 0) 0 0)) (nextNameF t s)
   unfolding specifierF
   specify-visit y e c =
       let e₁ : isNameF (b .t) s ≡ true = rw o e in
@@ -186,17 +186,17 @@ module _ (q : SymbolRows) (b : Buf) (t : List ℕ) (o : b .t ≡ t) (s : Names) 
 -- the rows w, with the row o before them, behind the gap
 module _ (z : List ℕ) (g : ℕ) (o : Row) (w : List Row) (st : Store) (zy : List ℕ) (base : ℕ) (small : base ≤ 65535) where
   abbrev exported : ℕ → List Row → List Row
-  exported y a = a ++ madeF 20 y (symbolIn st y .name) 0 0 ∷ []
+  exported y a = a ++ closedRowF 20 y (symbolIn st y .name) 0 0 ∷ []
 
   abbrev stream : List Row → List ℕ → Buf
   stream a ys = gapped z a (length ys + g) (o ∷ w)
 
   specified : (a : List Row) (y : ℕ) (ys : List ℕ) → length a < 65535
-      → emitF (stream a (y ∷ ys)) (madeF 20 y (symbolNumber (symbolCells (st .symbols) (st .asRead) zy) (length (st .symbols)) y 0) 0 0)
+      → emitF (stream a (y ∷ ys)) (closedRowF 20 y (symbolNumber (symbolCells (st .symbols) (st .asRead) zy) (length (st .symbols)) y 0) 0 0)
       ≡ stream (exported y a) ys
   specified a y ys i =
       rw (suc-add (length ys) g, name-is (st .symbols) (st .asRead) zy y)
-      (emit-gapped z a (length ys + g) (o ∷ w) (madeF 20 y (symbolIn st y .name) 0 0) i)
+      (emit-gapped z a (length ys + g) (o ∷ w) (closedRowF 20 y (symbolIn st y .name) 0 0) i)
 
   abbrev specifies : Visiting (List Row) SpecifyingF (λ (a : List Row) (ys : List ℕ). length a + (length ys + g) + 1 ≡ base) z base w
   specifies =
@@ -208,7 +208,7 @@ module _ (z : List ℕ) (g : ℕ) (o : Row) (w : List Row) (st : Store) (zy : Li
         before = λ a ys. a ++ (free (length ys + g) ++ o ∷ []);
         stops = λ a ys s. refl;
         long = λ a ys p. length-behind a (length ys + g) o ∙ p;
-        next = λ a y ys p. omega (arith, length-snoc a (madeF 20 y (symbolIn st y .name) 0 0));
+        next = λ a y ys p. omega (arith, length-snoc a (closedRowF 20 y (symbolIn st y .name) 0 0));
         passes = λ a ys s p e. specify-pass (symbolsHeld st zy) (stream a ys) _ (table-behind z a (length ys + g) o w) s e;
         visits = λ a y ys s p e c.
             specify-visit (symbolsHeld st zy) (stream a (y ∷ ys)) _ (table-behind z a (suc (length ys) + g) o w) s y e c
@@ -224,7 +224,7 @@ module _ (z : List ℕ) (g : ℕ) (o : Row) (w : List Row) (st : Store) (zy : Li
   specify-all k v a p e q = visits-all specifies k v a p e q
 
 specifiers-visited : (st : Store) (ys : List ℕ) (a : List Row)
-    → visited (λ y m. m ++ madeF 20 y (symbolIn st y .name) 0 0 ∷ []) ys a ≡ a ++ rowsOf (specifiers st ys)
+    → visited (λ y m. m ++ closedRowF 20 y (symbolIn st y .name) 0 0 ∷ []) ys a ≡ a ++ rowsOf (specifiers st ys)
 unfolding specifiers rowsOf count
 specifiers-visited st [] a = sym (append-nil a)
 specifiers-visited st (y ∷ ys) a = specifiers-visited st ys _ ∙ simp append-assoc

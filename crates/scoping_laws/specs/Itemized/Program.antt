@@ -19,7 +19,7 @@ use Rattle.tables.specs.declared.Row.{Row}
 use Rattle.representation.specs.Gap.Cells.{rowsOf, gapped, length-rows, size-&}
 use Rattle.representation.specs.Store.Agreed.{Agreed}
 use Rattle.scoping_laws.specs.Created.Held.{freeSymbols}
-use Rattle.items.specs.Items.{PassingF, transformItemF}
+use Rattle.rewrite_items.specs.Items.{PassingF, transformItemF}
 use Rattle.scoping_laws.specs.Itemized.Held.{held}
 use Rattle.scoping_laws.specs.Itemized.Items.{itemsRows, itemsSymbols, itemRows, itemSymbols, linesOf, item-law}
 

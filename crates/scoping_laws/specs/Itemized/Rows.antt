@@ -7,14 +7,14 @@ use native.Mathlib.Omega.{arith}
 use lib.ListN.{length, length-append}
 use Rattle.meaning.specs.Tree.{Head, Forest, none, one, count, size}
 use Rattle.meaning.specs.Shapes.{declaration, exportNamed, specifier}
-use Rattle.tables.specs.Table.{capped, columnF, rowF, madeF, setRowF}
-use Rattle.tables.specs.Stream.{passAsF, copyF}
+use Rattle.tables.specs.Table.{capped, columnF, rowF, closedRowF, setRowF}
+use Rattle.tables.specs.Stream.{replaceRowF, copyF}
 use Rattle.tables.specs.declared.Row.{Row}
 use Rattle.representation.specs.Gap.Cells.{table, zeros, free, line, rowsOf, gapped, length-free}
 use Rattle.representation.specs.Gap.Rows.{set-row, row-at, cap-one, length-snoc, emit-gapped, pass-as-gapped, next-gapped}
 use Rattle.representation.specs.Gap.Streams.{copy-all}
 use Rattle.table_laws.specs.Lists.Try.{declare-law}
-use Rattle.items.specs.Items.{dropF, exportRowsF, valueRowsF}
+use Rattle.rewrite_items.specs.Items.{dropF, exportRowsF, valueRowsF}
 
 -- ---- the rows behind the gap, after the first of them
 
@@ -47,7 +47,7 @@ module _ (z : List ℕ) (a : List Row) (g : ℕ) (x : Row) where
 
 -- a Declaration of a name with an initializer
 declaration-rows : (y : ℕ) (e : Forest)
-    → rowsOf (declaration 0 y e) ≡ madeF 5 0 0 0 1 ∷ madeF 6 0 1 0 (suc (count e)) ∷ madeF 26 y 0 0 0 ∷ rowsOf e
+    → rowsOf (declaration 0 y e) ≡ closedRowF 5 0 0 0 1 ∷ closedRowF 6 0 1 0 (suc (count e)) ∷ closedRowF 26 y 0 0 0 ∷ rowsOf e
 unfolding rowsOf count
 declaration-rows y e = simp append-nil
 
@@ -82,15 +82,15 @@ module _ (z : List ℕ) where
       → exportRowsF y name (gapped z a (2 + g) v) ≡ gapped z (a ++ rowsOf (exportNamed (specifier y name none))) g v
   unfolding exportRowsF rowsOf count
   export-rows-law y name a g v h =
-      let x = madeF 17 2 0 0 1 in
-      let r = madeF 20 y name 0 0 in
+      let x = closedRowF 17 2 0 0 1 in
+      let r = closedRowF 20 y name 0 0 in
       let e : 2 + g ≡ suc (suc g) = omega arith in
       rw (e, emit-gapped z a (suc g) v x (omega arith))
       (emit-gapped z (a ++ x ∷ []) g v r (omega (arith, length-snoc a x)) ∙ simp append-assoc)
 
   -- the next record with another row
   pub pass-record : (h : Head) (k : Forest) (x : Row) (a : List Row) (g : ℕ) (v : List Row) → length a + g + suc (size k) ≤ 65535
-      → copyF (passAsF (gapped z a g (x ∷ (rowsOf k ++ v))) (line h (count k))) (count k) ≡ gapped z (a ++ rowsOf (one h k)) g v
+      → copyF (replaceRowF (gapped z a g (x ∷ (rowsOf k ++ v))) (line h (count k))) (count k) ≡ gapped z (a ++ rowsOf (one h k)) g v
   unfolding rowsOf
   pass-record h k x a g v q =
       let r = line h (count k) in
@@ -103,7 +103,7 @@ module _ (z : List ℕ) where
       → valueRowsF y (line h (count k)) (gapped z a (3 + g) (x ∷ (rowsOf k ++ v))) ≡ gapped z (a ++ rowsOf (declaration 0 y (one h k))) g v
   unfolding valueRowsF count
   value-law y h k x a g v q =
-      let m = madeF 5 0 0 0 1 ∷ madeF 6 0 1 0 2 ∷ madeF 26 y 0 0 0 ∷ [] in
+      let m = closedRowF 5 0 0 0 1 ∷ closedRowF 6 0 1 0 2 ∷ closedRowF 26 y 0 0 0 ∷ [] in
       rw (declare-law z 0 y a g (x ∷ (rowsOf k ++ v)) (omega arith))
       (pass-record h k x (a ++ m) g v (omega (arith, length-append a m))
       ∙ rw (declaration-rows y (one h k)) (simp append-assoc))

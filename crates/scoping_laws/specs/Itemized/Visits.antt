@@ -17,8 +17,8 @@ use Rattle.tables.specs.declared.Row.{Row}
 use Rattle.representation.specs.Gap.Cells.{table, line, rowsOf, length-rows}
 use Rattle.representation.specs.Gap.Rows.{row-at, length-snoc, cap-one}
 use Rattle.table_laws.specs.Lists.Plan.{cap-sum}
-use Rattle.items.specs.Names.{names, firstNames, isNameF, nextNameF, namesDoneF}
-use Rattle.items.specs.declared.Names.{Names}
+use Rattle.rewrite_items.specs.Names.{names, firstNames, isNameF, nextNameF, namesDoneF}
+use Rattle.rewrite_items.specs.declared.Names.{Names}
 use Rattle.spec_laws.specs.Bools.{and-false, one-less, some}
 use Rattle.spec_laws.specs.Trees.{count-size}
 

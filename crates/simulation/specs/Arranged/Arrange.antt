@@ -16,13 +16,13 @@ use Rattle.representation.specs.Gap.Cells.{table, rowsOf, length-rows}
 use Rattle.representation.specs.Gap.Rows.{cap-one}
 use Rattle.statements.specs.declared.Counting.{Counting}
 use Rattle.table_laws.specs.Lists.Plan.{cap-sum}
-use Rattle.placing.specs.Placing.{numberRowsF}
+use Rattle.rewrite_program.specs.Placing.{numberRowsF}
 use Rattle.table_laws.specs.Placed.Numbers.{cons, numbered, all-append, rows-closed, number-law}
 use Rattle.table_laws.specs.Placed.Merge.{Merge, nil, left, right, numbered-append}
 use Rattle.table_laws.specs.Placed.Place.{place-clear-law}
 use Rattle.scoping_laws.specs.Itemized.Program.{mixed}
 use Rattle.scoping_laws.specs.Itemized.Split.{Stay, item-parted}
-use Rattle.program.specs.Arrange.{keptRowsF, numberingF, numberItemsF, arrangeF}
+use Rattle.rewrite_program.specs.Arrange.{keptRowsF, numberingF, numberItemsF, arrangeF}
 use Rattle.simulation.specs.Arranged.Mix.{Mix, nothing, stay, move, mix-length, places, places-merge, places-length, kept-mix, number-mix}
 
 -- ---- the items of a Program

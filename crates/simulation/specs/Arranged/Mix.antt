@@ -15,11 +15,11 @@ use Rattle.representation.specs.Gap.Cells.{table, line, rowsOf, length-rows}
 use Rattle.statements.specs.Plan.{counting}
 use Rattle.table_laws.specs.Lists.Plan.{cap-sum, end-here}
 use Rattle.table_laws.specs.Streamed.Places.{tag-here}
-use Rattle.placing.specs.Placing.{numberRowsF}
+use Rattle.rewrite_program.specs.Placing.{numberRowsF}
 use Rattle.table_laws.specs.Placed.Numbers.{numbered, length-numbered, number-law}
 use Rattle.table_laws.specs.Placed.Merge.{Merge, nil, lefts, rights, numbered-append}
 use Rattle.scoping_laws.specs.Itemized.Split.{stays}
-use Rattle.program.specs.Arrange.{keptRowsOneF, numberingF, numberItemF}
+use Rattle.rewrite_program.specs.Arrange.{keptRowsOneF, numberingF, numberItemF}
 
 -- the rows of ks, which stay, and of ms, which move, among each other
 pub data Mix : Forest → Forest → List Row → Type 0 where

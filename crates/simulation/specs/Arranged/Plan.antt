@@ -48,13 +48,13 @@ use Rattle.representation.specs.Gap.Cells.{table, line, rowsOf, count-&, size-&
 use Rattle.representation.specs.Gap.Rows.{length-snoc}
 use Rattle.table_laws.specs.Lists.TakeUp.{length-line}
 use Rattle.table_laws.specs.Lists.Plan.{cap-sum, parted, row-here, end-here, plan-eq}
-use Rattle.items.specs.Kinds.{itemF, defaultItemF, defaultClassItemF, exportedItemF}
-use Rattle.items.specs.declared.Item.{Item}
-use Rattle.items.specs.declared.Item.the-variants.{Kept, DefaultClass, DefaultValue, ExportedClass, ExportedDeclaration}
+use Rattle.rewrite_items.specs.Kinds.{itemF, defaultItemF, defaultClassItemF, exportedItemF}
+use Rattle.rewrite_items.specs.declared.Item.{Item}
+use Rattle.rewrite_items.specs.declared.Item.the-variants.{Kept, DefaultClass, DefaultValue, ExportedClass, ExportedDeclaration}
 use Rattle.scoping_laws.specs.Itemized.Items.{itemsRows, linesOf}
 use Rattle.scoping_laws.specs.Itemized.Held.{one-rows}
 use Rattle.scoping_laws.specs.Itemized.Names.{count-names-law}
-use Rattle.program.specs.Plan.{childNamesF, exportedNamesF, addedF, keptF, movedF, plan, planItemF, planProgramF}
+use Rattle.rewrite_program.specs.Plan.{childNamesF, exportedNamesF, addedF, keptF, movedF, plan, planItemF, planProgramF}
 use Rattle.spec_laws.specs.Trees.{count-size}
 
 -- An item of a kind, with the names of its child, adds the rows of its lines, and leaves what 01 leaves of it.

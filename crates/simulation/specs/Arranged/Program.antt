@@ -13,8 +13,8 @@ use Rattle.meaning.specs.Charges.{lineCharge, total}
 use Rattle.meaning.specs.Walk.{Crumb, Spot, at, storeAt}
 use Rattle.charge_laws.specs.Growth.Rows.{scope-below}
 use Rattle.charge_laws.specs.Growth.Program.{Exports, program-pays}
-use Rattle.tables.specs.Table.{capped, madeF}
-use Rattle.tables.specs.Stream.{passAsF}
+use Rattle.tables.specs.Table.{capped, closedRowF}
+use Rattle.tables.specs.Stream.{replaceRowF}
 use Rattle.tables.specs.declared.Row.{Row}
 use Rattle.representation.specs.Gap.Cells.{table, free, line, rowsOf, gapped, length-rows, count-&, rows-&}
 use Rattle.representation.specs.Gap.Rows.{cap-one, length-snoc, pass-as-gapped}
@@ -28,8 +28,8 @@ use Rattle.scoping_laws.specs.Created.Scopes.{below-symbols, insert-below-law}
 use Rattle.table_laws.specs.Streamed.Places.{one-row}
 use Rattle.scoping_laws.specs.Itemized.Items.{itemsRows, itemsSymbols}
 use Rattle.scoping_laws.specs.Itemized.Program.{items-store}
-use Rattle.program.specs.Plan.{plan, planProgramF}
-use Rattle.program.specs.Program.{enterProgramF}
+use Rattle.rewrite_program.specs.Plan.{plan, planProgramF}
+use Rattle.rewrite_program.specs.Program.{enterProgramF}
 use Rattle.simulation.specs.Rewritten.Standing.{before, behind, toList, row-is, list-here}
 use Rattle.simulation.specs.Rewritten.Replaced.{withFree, rewritten, start-law, start-room, replaced-law}
 use Rattle.simulation.specs.Arranged.Plan.{items-size, plan-program-law}
@@ -78,7 +78,7 @@ module _ (done : Forest) (h : Head) (k r : Forest) (path : List Crumb) (st : Sto
 
   -- up to the items, with the Program's new row, and all of them
   abbrev top : List Row
-  top = before here g ++ madeF (h .tag) (h .a) (h .b) (h .c) (count (s .kept) + 1) ∷ []
+  top = before here g ++ closedRowF (h .tag) (h .a) (h .b) (h .c) (count (s .kept) + 1) ∷ []
 
   abbrev rows : List ℕ
   rows = table (top ++ ((rowsOf (s .kept) ++ blockRow k st ∷ rowsOf (s .moved)) ++ behind r path)) (z .records)
@@ -111,8 +111,8 @@ module _ (done : Forest) (h : Head) (k r : Forest) (path : List Crumb) (st : Sto
         let l = list-here done h k r path st (n + g) z₀ fits in
         rw (l .0) (plan-program-law (z .records) k st (toList here (n + g) h k) (behind r path) _ (l .1) (l .2) (omega (arith, room)) x)
 
-    passed : passAsF (gapped (z .records) (before here g) n (rowsOf (one h k) ++ behind r path))
-        (madeF (h .tag) (h .a) (h .b) (h .c) (capped (count (s .kept)) 1))
+    passed : replaceRowF (gapped (z .records) (before here g) n (rowsOf (one h k) ++ behind r path))
+        (closedRowF (h .tag) (h .a) (h .b) (h .c) (capped (count (s .kept)) 1))
         ≡ gapped (z .records) top n (rowsOf k ++ behind r path)
     passed =
         let l = items-size k st x in

@@ -9,7 +9,7 @@ use Rattle.meaning.specs.Tree.{Forest, count, size}
 use Rattle.meaning.specs.Scoping.{Store}
 use Rattle.meaning.specs.Program.{Split, programItems}
 use Rattle.charge_laws.specs.Growth.Program.{Exports}
-use Rattle.tables.specs.Table.{capped, madeF}
+use Rattle.tables.specs.Table.{capped, closedRowF}
 use Rattle.tables.specs.Stream.{Buf, emitF}
 use Rattle.tables.specs.declared.Row.{Row}
 use Rattle.representation.specs.Gap.Cells.{table, free, rowsOf, gapped}
@@ -18,13 +18,13 @@ use Rattle.representation.specs.Store.Held.{symbolCells, ctxOf}
 use Rattle.representation.specs.Store.Agreed.{Agreed}
 use Rattle.table_laws.specs.Lists.Plan.{cap-sum}
 use Rattle.scoping_laws.specs.Created.Held.{freeSymbols}
-use Rattle.items.specs.Items.{PassingF}
+use Rattle.rewrite_items.specs.Items.{PassingF}
 use Rattle.scoping_laws.specs.Itemized.Held.{held}
 use Rattle.scoping_laws.specs.Itemized.Items.{itemsRows, itemsSymbols}
 use Rattle.scoping_laws.specs.Itemized.Program.{mixed, items-law}
-use Rattle.program.specs.Plan.{plan}
-use Rattle.program.specs.Arrange.{keptRowsF, arrangeF}
-use Rattle.program.specs.Program.{transformItemsF, rewriteItemsF}
+use Rattle.rewrite_program.specs.Plan.{plan}
+use Rattle.rewrite_program.specs.Arrange.{keptRowsF, arrangeF}
+use Rattle.rewrite_program.specs.Program.{transformItemsF, rewriteItemsF}
 use Rattle.simulation.specs.Arranged.Mix.{mix-length}
 use Rattle.simulation.specs.Arranged.Arrange.{items-mix, kept-rows-law, arrange-law}
 use Rattle.simulation.specs.Arranged.Plan.{items-size}
@@ -32,7 +32,7 @@ use Rattle.spec_laws.specs.Trees.{count-size}
 
 -- the Block's row: it has the next scope
 abbrev pub blockRow : Forest → Store → Row
-blockRow k st = let (s, st′) = programItems k st in madeF 2 (length (st′ .scopes) + 1) 0 0 (count (s .moved))
+blockRow k st = let (s, st′) = programItems k st in closedRowF 2 (length (st′ .scopes) + 1) 0 0 (count (s .moved))
 
 written-is : (z : List ℕ) (a : List Row) (g : ℕ) (v : List Row) → gapped z a g v .written ≡ length a
 unfolding gapped
@@ -74,7 +74,7 @@ module _ (z : List ℕ) (k : Forest) (st : Store) (a v : List Row) (zy : List �
         ≡ table (a ++ ((rowsOf (s .kept) ++ row ∷ rowsOf (s .moved)) ++ v)) z
     arranged = rw written-rows (arrange-law z k st a v row refl (omega (arith, long)))
 
-    emitted : emitF (gapped z (a ++ mixed k st) 1 v) (madeF 2 (capped (length (st′ .scopes)) 1) 0 0 (count (s .moved))) ≡ written
+    emitted : emitF (gapped z (a ++ mixed k st) 1 v) (closedRowF 2 (capped (length (st′ .scopes)) 1) 0 0 (count (s .moved))) ≡ written
     emitted =
         rw (cap-one (length (st′ .scopes)) scopes)
         (emit-gapped z (a ++ mixed k st) 0 v row (omega (arith, length-append a (mixed k st), long)))

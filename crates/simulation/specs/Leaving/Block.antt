@@ -16,7 +16,7 @@ use Rattle.meaning.specs.Charges.{wraps}
 use Rattle.meaning.specs.Walk.{Crumb}
 use Rattle.meaning.specs.Due.{missing}
 use Rattle.charge_laws.specs.Growth.Rows.{oneIf}
-use Rattle.tables.specs.Table.{capped, columnF, rowF, madeF}
+use Rattle.tables.specs.Table.{capped, columnF, rowF, closedRowF}
 use Rattle.tables.specs.Stream.{Buf, takeBackF}
 use Rattle.tables.specs.declared.Row.{Row}
 use Rattle.path.specs.Path.{Tables, tables, withCursorF, withCtxF}
@@ -33,7 +33,7 @@ use Rattle.table_laws.specs.Lists.TakeUp.{size-taken}
 use Rattle.table_laws.specs.Lists.Plan.{usings, awaits, any-usings, cap-sum}
 use Rattle.scoping_laws.specs.Created.Held.{freeScopes, freeSymbols, Room}
 use Rattle.scoping_laws.specs.Created.Parts.{staticParts, static-held, static-node, static-room}
-use Rattle.contexts.specs.Lists.{listScope, wrappedRowsF, exitStaticBlockF}
+use Rattle.rewrite_contexts.specs.Lists.{listScope, wrappedRowsF, exitStaticBlockF}
 use Rattle.table_laws.specs.Streamed.Places.{one-row, plan-below}
 use Rattle.table_laws.specs.Streamed.Lists.{wrapped-rows-law}
 use Rattle.simulation.specs.Rewritten.Replaced.{withFree}
@@ -136,7 +136,7 @@ module _ (before after : Forest) (path : List Crumb) (h : Head) (k : Forest) (st
         let room′ = static-room h k st (awaits k) room in
         let i : n + g ≡ wraps k + (12 + g) = omega arith in
         let rows = ap
-        (λ (i : ℕ). wrappedRowsF (madeF 16 s 0 0 1) (h .a) parts (gapped (z .records) upTo i (rowsOf (one h k) ++ v))) i
+        (λ (i : ℕ). wrappedRowsF (closedRowF 16 s 0 0 1) (h .a) parts (gapped (z .records) upTo i (rowsOf (one h k) ++ v))) i
         ∙ wrapped-rows-law (z .records) 16 s h k (h .a) parts upTo g v (omega arith) room′ in
         let larger = try-size (h .a) (takeUp false ctx false k) parts in
         rw (

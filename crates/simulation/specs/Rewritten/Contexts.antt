@@ -19,7 +19,7 @@ use Rattle.statements.specs.declared.Parts.{Parts}
 use Rattle.table_laws.specs.Lists.Try.{contextOf, handlersOf}
 use Rattle.creation.specs.Creation.{InRows, inRows, Creating}
 use Rattle.scoping_laws.specs.Created.Held.{freeScopes, freeSymbols, rowsHeld, createdAs}
-use Rattle.contexts.specs.Lists.{currentIn, hoistIn}
+use Rattle.rewrite_contexts.specs.Lists.{currentIn, hoistIn}
 use Rattle.simulation.specs.Rewritten.Standing.{before, behind, store-is, current-is, hoist-is}
 use Rattle.simulation.specs.Rewritten.Replaced.{withFree, rewritten, start-law, start-room, replaced-law}
 

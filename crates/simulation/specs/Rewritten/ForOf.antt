@@ -22,7 +22,7 @@ use Rattle.representation.specs.Store.Agreed.{Agreed, agrees-length}
 use Rattle.representation.specs.Spots.Spots.{visitedAt, restAt, Rest, held}
 use Rattle.scoping_laws.specs.Created.Held.{freeScopes, freeSymbols, Room, room-before}
 use Rattle.scoping_laws.specs.Created.Scopes.{below-symbols, below-number}
-use Rattle.for_of.specs.ForOf.{makeTempF, insertUsingF, wrapBodyF}
+use Rattle.rewrite_for_of.specs.ForOf.{makeTempF, insertUsingF, wrapBodyF}
 use Rattle.table_laws.specs.Streamed.ForOf.{size-rebind, insert-rows-law, wrap-rows-law}
 use Rattle.simulation.specs.Rewritten.Standing.{before, behind, a-is}
 use Rattle.simulation.specs.Rewritten.Replaced.{withFree, rewritten, start-law, start-room, replaced-law}

@@ -14,7 +14,7 @@ use Rattle.meaning.specs.Charges.{wraps}
 use Rattle.meaning.specs.Walk.{Crumb, at, currentScope, hoistScope}
 use Rattle.meaning.specs.Due.{missing}
 use Rattle.charge_laws.specs.Growth.Rows.{oneIf}
-use Rattle.tables.specs.Table.{capped, columnF, madeF}
+use Rattle.tables.specs.Table.{capped, columnF, closedRowF}
 use Rattle.representation.specs.Store.Agreed.{Agreed}
 use Rattle.representation.specs.Spots.Spots.{visitedAt, restAt, Rest, held}
 use Rattle.table_laws.specs.Lists.TakeUp.{size-taken}
@@ -22,7 +22,7 @@ use Rattle.table_laws.specs.Lists.Plan.{awaits, cap-sum}
 use Rattle.creation.specs.Kinds.{forBlockF, forBodyF}
 use Rattle.scoping_laws.specs.Created.Held.{Room}
 use Rattle.scoping_laws.specs.Created.Lists.{blockParts, block-held, block-node, block-room, bodyParts, body-held, body-node, body-room}
-use Rattle.contexts.specs.Lists.{listScope, blockRowsF, wrappedRowsF, transformBlockStatementF, enterFunctionBodyF}
+use Rattle.rewrite_contexts.specs.Lists.{listScope, blockRowsF, wrappedRowsF, transformBlockStatementF, enterFunctionBodyF}
 use Rattle.table_laws.specs.Streamed.Lists.{block-rows-law, wrapped-rows-law}
 use Rattle.simulation.specs.Rewritten.Standing.{toList, behind, listPlan, n-is, list-here, list-plan}
 use Rattle.simulation.specs.Rewritten.Replaced.{withFree, rewritten}
@@ -83,7 +83,7 @@ module _ (done : Forest) (h : Head) (k r : Forest) (path : List Crumb) (st : Sto
       (λ i cur hoist.
       forBodyF (q .records) i cur hoist (capped read 1) (columnF (q .records) read 4) (listPlan q (count k) .awaits))
       _
-      (λ p. wrappedRowsF (madeF 14 0 0 0 1) (listScope p) p)
+      (λ p. wrappedRowsF (closedRowF 14 0 0 0 1) (listScope p) p)
       (enterFunctionBody cur hoist k st)
       _
       p

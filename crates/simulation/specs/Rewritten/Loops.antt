@@ -23,9 +23,9 @@ use Rattle.table_laws.specs.Lists.Plan.{awaits, cap-sum}
 use Rattle.creation.specs.Kinds.{forLoopF, forSwitchF}
 use Rattle.scoping_laws.specs.Created.Held.{Room}
 use Rattle.scoping_laws.specs.Created.Loops.{forParts, for-held, for-node, for-room, switchParts, switch-held, switch-node, switch-room}
-use Rattle.contexts.specs.Lists.{listScope}
-use Rattle.for_switch.specs.For.{planForF, forRowsF, transformForStatementF}
-use Rattle.for_switch.specs.Switch.{switchRowsF, transformSwitchStatementF}
+use Rattle.rewrite_contexts.specs.Lists.{listScope}
+use Rattle.rewrite_for_switch.specs.For.{planForF, forRowsF, transformForStatementF}
+use Rattle.rewrite_for_switch.specs.Switch.{switchRowsF, transformSwitchStatementF}
 use Rattle.table_laws.specs.Streamed.Cases.{caseAwaits, any-case-awaits}
 use Rattle.table_laws.specs.Streamed.Switch.{switch-rows-law}
 use Rattle.table_laws.specs.Streamed.For.{for-rows-law}

@@ -26,7 +26,7 @@ use Rattle.representation.specs.Spots.Spots.{visitedAt, restAt, Rest, walkAt, h
 use Rattle.creation.specs.Scopes.{insertScopeBelowF}
 use Rattle.scoping_laws.specs.Created.Held.{freeScopes}
 use Rattle.scoping_laws.specs.Created.Scopes.{insert-below-law}
-use Rattle.for_of.specs.ForOf.{takesUsingF, usingSymbolF, bodyAfterF, insertsF}
+use Rattle.rewrite_for_of.specs.ForOf.{takesUsingF, usingSymbolF, bodyAfterF, insertsF}
 use Rattle.table_laws.specs.Lists.Plan.{parted}
 use Rattle.table_laws.specs.Streamed.Places.{more-rows}
 use Rattle.table_laws.specs.Streamed.Sides.{sides-rows, takes-none-law, takes-using-law, using-symbol-law, body-after-law, body-row-law}

@@ -24,9 +24,9 @@ use Rattle.statements.specs.declared.Plan.{Plan}
 use Rattle.table_laws.specs.Lists.Plan.{usings, awaits, plan-list-law}
 use Rattle.creation.specs.Creation.{inRows}
 use Rattle.scoping_laws.specs.Created.Held.{rowsHeld}
-use Rattle.contexts.specs.Lists.{currentIn, hoistIn}
-use Rattle.for_switch.specs.For.{planForF}
-use Rattle.for_switch.specs.Switch.{planCasesF}
+use Rattle.rewrite_contexts.specs.Lists.{currentIn, hoistIn}
+use Rattle.rewrite_for_switch.specs.For.{planForF}
+use Rattle.rewrite_for_switch.specs.Switch.{planCasesF}
 use Rattle.table_laws.specs.Streamed.Places.{one-row, more-rows}
 use Rattle.table_laws.specs.Streamed.For.{Plans, plan-for-law}
 use Rattle.table_laws.specs.Streamed.Cases.{caseUsings, caseAwaits, plan-cases-law}

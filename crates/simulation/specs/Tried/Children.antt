@@ -14,7 +14,7 @@ use Rattle.tables.specs.declared.Row.{Row}
 use Rattle.representation.specs.Gap.Cells.{line, rowsOf}
 use Rattle.representation.specs.Gap.Rows.{next-gapped}
 use Rattle.representation.specs.Store.Agreed.{Agreed}
-use Rattle.contexts.specs.Tries.{PartingF, transformPartF, transformHandlerF, transformChildF, transformChildrenF}
+use Rattle.rewrite_contexts.specs.Tries.{PartingF, transformPartF, transformHandlerF, transformChildF, transformChildrenF}
 use Rattle.table_laws.specs.Streamed.Places.{one-row}
 use Rattle.table_laws.specs.Streamed.Parts.{ownRows, partRows, childRows, tryRows, Catches}
 use Rattle.simulation.specs.Tried.Passing.{Rewrites}

@@ -12,7 +12,7 @@ use Rattle.meaning.specs.Scoping.{Store, Change, return, moveBinding, moveBindi
 use Rattle.meaning.specs.Contexts.{namesIn, lastBlockScope, anyPartUsing, transformHandler, transformTryParts}
 use Rattle.charge_laws.specs.Totals.Roles.{Lacks}
 use Rattle.tables.specs.Table.{capped, columnF}
-use Rattle.tables.specs.Stream.{Buf, passF}
+use Rattle.tables.specs.Stream.{Buf, copyRowF}
 use Rattle.tables.specs.declared.Row.{Row}
 use Rattle.scoping.specs.declared.Ctx.{Ctx}
 use Rattle.representation.specs.Gap.Cells.{table, free, line, rowsOf, gapped, length-rows}
@@ -21,7 +21,7 @@ use Rattle.representation.specs.Store.Held.{ctxOf}
 use Rattle.representation.specs.Store.Symbols.{bindings-ctx}
 use Rattle.representation.specs.Store.Agreed.{Agreed, bindings-agreed}
 use Rattle.scoping_laws.specs.Created.Held.{freeScopes, freeSymbols}
-use Rattle.contexts.specs.Tries.{PartingF, partingF, transformPartsF, planPartsF, lastBlockScopeF, moveNamesF, transformHandlerF}
+use Rattle.rewrite_contexts.specs.Tries.{PartingF, partingF, transformPartsF, planPartsF, lastBlockScopeF, moveNamesF, transformHandlerF}
 use Rattle.table_laws.specs.Streamed.Places.{one-row, below-here, rows-below, n-gapped}
 use Rattle.table_laws.specs.Streamed.Parts.{partRows, any-parts, plan-parts-law, last-block-law}
 use Rattle.simulation.specs.Tried.Passing.{beside, passing, newScopes, newSymbols, Rewrites}
@@ -76,7 +76,7 @@ handler-form : (cur hoist : ℕ) (s o : PartingF) (n added list : ℕ)
     → columnF (s .buf .t) (s .buf .read) 4 ≡ n
     → planPartsF (s .buf .t) (capped (s .buf .read) 1) n ≡ added
     → capped (s .buf .written) 1 ≡ list
-    → transformPartsF cur hoist n (partingF (passF (s .buf)) (s .scopes) (s .symbols) (s .ctx)) ≡ o
+    → transformPartsF cur hoist n (partingF (copyRowF (s .buf)) (s .scopes) (s .symbols) (s .ctx)) ≡ o
     → transformHandlerF cur hoist s ≡ handled (eqb added 0) list n o
 unfolding transformHandlerF
 handler-form cur hoist s o n added list e₁ e₂ e₃ e₄ = rw (e₁, e₂, e₃, e₄)

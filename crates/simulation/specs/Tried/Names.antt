@@ -18,7 +18,7 @@ use Rattle.representation.specs.Gap.Cells.{table, line, rowsOf}
 use Rattle.representation.specs.Store.Held.{symbolCells, ctxOf, symbolsHeld}
 use Rattle.representation.specs.Store.Symbols.{binding-moved, binding-ctx}
 use Rattle.table_laws.specs.Lists.TakeUp.{length-line}
-use Rattle.contexts.specs.Tries.{Naming, naming, moveNameF, moveNamesF}
+use Rattle.rewrite_contexts.specs.Tries.{Naming, naming, moveNameF, moveNamesF}
 use Rattle.table_laws.specs.Lists.Plan.{parted, row-here, end-here}
 
 -- a symbol moves, or not

@@ -16,7 +16,7 @@ use Rattle.meaning.specs.Charges.{wraps}
 use Rattle.meaning.specs.Due.{missing}
 use Rattle.charge_laws.specs.Growth.Rows.{Grown, oneIf, both, scope-between, binding-moved}
 use Rattle.charge_laws.specs.Growth.Made.{statements-grow, statements-more, try-grows, try-more}
-use Rattle.tables.specs.Table.{columnF, rowF, madeF}
+use Rattle.tables.specs.Table.{columnF, rowF, closedRowF}
 use Rattle.tables.specs.Stream.{copyF}
 use Rattle.tables.specs.declared.Row.{Row}
 use Rattle.representation.specs.Gap.Cells.{line, rowsOf, gapped, length-rows}
@@ -26,8 +26,8 @@ use Rattle.representation.specs.Store.Agreed.{Agreed}
 use Rattle.table_laws.specs.Lists.Plan.{awaits, any-usings}
 use Rattle.scoping_laws.specs.Created.Held.{freeScopes, freeSymbols, Room}
 use Rattle.scoping_laws.specs.Created.Parts.{partParts, part-held, part-node, part-room, part-agreed}
-use Rattle.contexts.specs.Lists.{listScope, wrappedRowsF}
-use Rattle.contexts.specs.Tries.{partingF, transformTryBlockF, isPartF, transformPartF}
+use Rattle.rewrite_contexts.specs.Lists.{listScope, wrappedRowsF}
+use Rattle.rewrite_contexts.specs.Tries.{partingF, transformTryBlockF, isPartF, transformPartF}
 use Rattle.table_laws.specs.Streamed.Places.{one-row, plan-gapped}
 use Rattle.table_laws.specs.Streamed.Lists.{wrapped-rows-law}
 use Rattle.table_laws.specs.Streamed.Parts.{ownRows}
@@ -98,8 +98,8 @@ module _ (cur hoist : ℕ) (h : Head) (k : Forest) (st : Store) where
       let y : newSymbols st (e .1) ≡ 2 + oneIf (missing st) = omega (arith, part-grows .symbols, one-used (missing st)) in
       let old : columnF (gapped z a m (x ∷ u) .t) (gapped z a m (x ∷ u) .read) 1 ≡ h .a =
       ap (λ (r : Row). r .a) (next-gapped z a m x u) in
-      let rows : wrappedRowsF (madeF 2 (listScope p) 0 0 1) (h .a) p (gapped z a m (x ∷ u)) ≡ gapped z (a ++ rowsOf (single (e .0))) g v =
-      ap₂ (λ (i : ℕ) (w : List Row). wrappedRowsF (madeF 2 (listScope p) 0 0 1) (h .a) p (gapped z a i (w ++ v)))
+      let rows : wrappedRowsF (closedRowF 2 (listScope p) 0 0 1) (h .a) p (gapped z a m (x ∷ u)) ≡ gapped z (a ++ rowsOf (single (e .0))) g v =
+      ap₂ (λ (i : ℕ) (w : List Row). wrappedRowsF (closedRowF 2 (listScope p) 0 0 1) (h .a) p (gapped z a i (w ++ v)))
       (omega arith)
       (sym (one-row h k))
       ∙ wrapped-rows-law z 2 (listScope p) h k (h .a) p a g v (omega arith) (part-room cur hoist h k st n room)

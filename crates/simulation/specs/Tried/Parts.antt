@@ -19,7 +19,7 @@ use Rattle.tables.specs.Loops.{turns}
 use Rattle.representation.specs.Gap.Cells.{rowsOf, rows-&}
 use Rattle.representation.specs.Store.Agreed.{Agreed}
 use Rattle.scoping_laws.specs.Created.Held.{freeScopes, freeSymbols}
-use Rattle.contexts.specs.Tries.{PartingF, transformPartF, transformPartsF}
+use Rattle.rewrite_contexts.specs.Tries.{PartingF, transformPartF, transformPartsF}
 use Rattle.table_laws.specs.Streamed.Parts.{partRows}
 use Rattle.simulation.specs.Tried.Passing.{Rewrites, none-new, rewrites-then}
 use Rattle.simulation.specs.Tried.Part.{partIf, partOf, part-law}

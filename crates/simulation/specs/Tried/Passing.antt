@@ -15,7 +15,7 @@ use Rattle.representation.specs.Gap.Cells.{gapped}
 use Rattle.representation.specs.Store.Held.{scopeCells, symbolCells, ctxOf}
 use Rattle.representation.specs.Store.Agreed.{Agreed}
 use Rattle.scoping_laws.specs.Created.Held.{freeScopes, freeSymbols, Room}
-use Rattle.contexts.specs.Tries.{PartingF, partingF}
+use Rattle.rewrite_contexts.specs.Tries.{PartingF, partingF}
 use Rattle.scoping_laws.specs.Itemized.Program.{free-more as symbols-more}
 
 -- the rows of a store, and a table with a gap: the rows before it, g free ones, and those behind it

@@ -11,7 +11,7 @@ use Rattle.meaning.specs.Scoping.{Store}
 use Rattle.meaning.specs.Contexts.{transformTryParts, enterTryStatement}
 use Rattle.meaning.specs.Walk.{Crumb, Spot, at, currentScope, hoistScope}
 use Rattle.tables.specs.Table.{capped, columnF}
-use Rattle.tables.specs.Stream.{Buf, passF}
+use Rattle.tables.specs.Stream.{Buf, copyRowF}
 use Rattle.tables.specs.declared.Row.{Row}
 use Rattle.path.specs.Path.{Tables, tables, chargedF, withCtxF}
 use Rattle.representation.specs.Gap.Cells.{line, rowsOf, gapped, length-rows}
@@ -20,8 +20,8 @@ use Rattle.representation.specs.Store.Agreed.{Agreed}
 use Rattle.representation.specs.Spots.Spots.{visitedAt, restAt, Rest, held}
 use Rattle.creation.specs.Creation.{InRows}
 use Rattle.scoping_laws.specs.Created.Held.{Room}
-use Rattle.contexts.specs.Lists.{currentIn, hoistIn}
-use Rattle.contexts.specs.Tries.{PartingF, partingF, transformChildrenF, planTryF, enterTryStatementF}
+use Rattle.rewrite_contexts.specs.Lists.{currentIn, hoistIn}
+use Rattle.rewrite_contexts.specs.Tries.{PartingF, partingF, transformChildrenF, planTryF, enterTryStatementF}
 use Rattle.table_laws.specs.Streamed.Places.{one-row}
 use Rattle.table_laws.specs.Streamed.Parts.{tryRows, Catches, plan-try-law}
 use Rattle.simulation.specs.Rewritten.Standing.{before, toList, behind, n-is, store-is, current-is, hoist-is, list-here}
@@ -34,7 +34,7 @@ use Rattle.simulation.specs.Tried.Children.{children-law}
 abbrev begun : ℕ → Tables → PartingF
 begun m q =
     let w = q .walk in
-    partingF (passF (record { t = q .records; read = w .gap .0; written = chargedF w m .gap .0 })) (q .scopes) (q .symbols) (w .ctx)
+    partingF (copyRowF (record { t = q .records; read = w .gap .0; written = chargedF w m .gap .0 })) (q .scopes) (q .symbols) (w .ctx)
 
 -- the steps of `enterTryStatementF`
 enter-form : (m : ℕ) (q : Tables) (cur hoist n : ℕ) (s o : PartingF)
@@ -73,7 +73,7 @@ module _ (done : Forest) (h : Head) (k r : Forest) (path : List Crumb) (st : Sto
         let q = held here (n + g) tail in
         let u = rowsOf k ++ behind r path in
         let m = start-room done h k r path st n g z fits in
-        ap (λ (b : Buf). partingF (passF b) (q .scopes) (q .symbols) (q .walk .ctx))
+        ap (λ (b : Buf). partingF (copyRowF b) (q .scopes) (q .symbols) (q .walk .ctx))
         (start-law done h k r path st n g tail
         ∙ ap (λ (w : List Row). gapped (z .records) (before here g) n (w ++ behind r path)) (one-row h k))
         ∙ ap (λ (b : Buf). partingF b (q .scopes) (q .symbols) (q .walk .ctx))

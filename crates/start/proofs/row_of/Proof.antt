@@ -8,8 +8,8 @@ use Rattle.start.proofs.row_of.Tie as tie
 returns : tie.Need-returns
 unfolding recordRow headOf
 returns c =
-    let at-made = c in
-    let at-own-number3 = at-made .before in
+    let at-closed-row = c in
+    let at-own-number3 = at-closed-row .before in
     let at-own-number2 = at-own-number3 .before in
     let at-own-number = at-own-number2 .before in
     let at-children-of = at-own-number .before .before in
@@ -20,7 +20,7 @@ returns c =
       ← at-own-number .own-number .ensures,
       ← at-own-number2 .own-number2 .ensures,
       ← at-own-number3 .own-number3 .ensures,
-      ← at-made .made .ensures,
+      ← at-closed-row .closed-row .ensures,
     )
 
 pub row-of-spec : {M : Type 1} → statement M

@@ -8,16 +8,16 @@ use Rattle.statements.proofs.as_const.Tie as tie
 returns : tie.Need-returns
 unfolding asConstF
 returns c =
-    let at-made = c in
-    let at-if1 = at-made .before in
-    rw (eq-eqb _ _ (at-if1 .if1 .taken), ← at-made .made .ensures)
+    let at-closed-row = c in
+    let at-if1 = at-closed-row .before in
+    rw (eq-eqb _ _ (at-if1 .if1 .taken), ← at-closed-row .closed-row .ensures)
 
 returns-2 : tie.Need-returns-2
 unfolding asConstF
 returns-2 c =
-    let at-made2 = c in
-    let at-if1 = at-made2 .before in
-    rw (ne-eqb _ _ (at-if1 .if1 .left), ← at-made2 .made2 .ensures)
+    let at-closed-row2 = c in
+    let at-if1 = at-closed-row2 .before in
+    rw (ne-eqb _ _ (at-if1 .if1 .left), ← at-closed-row2 .closed-row2 .ensures)
 
 pub as-const-spec : {M : Type 1} → statement M
 as-const-spec =

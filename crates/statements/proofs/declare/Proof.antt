@@ -16,12 +16,12 @@ returns : tie.Need-returns
 unfolding declareF
 returns c =
     let at-emit3 = c .before .before in
-    let at-made3 = at-emit3 .before in
-    let at-emit2 = at-made3 .before .before .before .before in
-    let at-made2 = at-emit2 .before in
-    let at-emit = at-made2 .before .before .before .before in
-    let at-made = at-emit .before in
-    rw (← at-made .made .ensures, ← at-emit .emit .ensures, ← at-made2 .made2 .ensures, ← at-emit2 .emit2 .ensures, ← at-made3 .made3 .ensures, ← at-emit3 .emit3 .ensures)
+    let at-closed-row3 = at-emit3 .before in
+    let at-emit2 = at-closed-row3 .before .before .before .before in
+    let at-closed-row2 = at-emit2 .before in
+    let at-emit = at-closed-row2 .before .before .before .before in
+    let at-closed-row = at-emit .before in
+    rw (← at-closed-row .closed-row .ensures, ← at-emit .emit .ensures, ← at-closed-row2 .closed-row2 .ensures, ← at-emit2 .emit2 .ensures, ← at-closed-row3 .closed-row3 .ensures, ← at-emit3 .emit3 .ensures)
 
 pub declare-spec : {M : Type 1} → statement M
 declare-spec =

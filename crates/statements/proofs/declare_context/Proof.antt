@@ -15,9 +15,9 @@ returns : tie.Need-returns
 unfolding declareContextF
 returns c =
     let at-emit = c .before .before in
-    let at-made = at-emit .before in
-    let at-declare = at-made .before .before .before .before in
-    rw (← at-declare .declare .ensures, ← at-made .made .ensures, ← at-emit .emit .ensures)
+    let at-closed-row = at-emit .before in
+    let at-declare = at-closed-row .before .before .before .before in
+    rw (← at-declare .declare .ensures, ← at-closed-row .closed-row .ensures, ← at-emit .emit .ensures)
 
 pub declare-context-spec : {M : Type 1} → statement M
 declare-context-spec =

@@ -15,10 +15,10 @@ returns : tie.Need-returns
 unfolding openTryF
 returns c =
     let at-emit2 = c .before .before in
-    let at-made2 = at-emit2 .before in
-    let at-emit = at-made2 .before .before .before .before in
-    let at-made = at-emit .before in
-    rw (← at-made .made .ensures, ← at-emit .emit .ensures, ← at-made2 .made2 .ensures, ← at-emit2 .emit2 .ensures)
+    let at-closed-row2 = at-emit2 .before in
+    let at-emit = at-closed-row2 .before .before .before .before in
+    let at-closed-row = at-emit .before in
+    rw (← at-closed-row .closed-row .ensures, ← at-emit .emit .ensures, ← at-closed-row2 .closed-row2 .ensures, ← at-emit2 .emit2 .ensures)
 
 pub open-try-spec : {M : Type 1} → statement M
 open-try-spec =

@@ -8,19 +8,19 @@ use Rattle.statements.proofs.take_up_item.Tie as tie
 same-length : tie.Need-same-length
 same-length c =
     let at-take-up-declarators = c .before .before in
-    let at-pass-as = at-take-up-declarators .before .before .before .before in
-    at-take-up-declarators .take-up-declarators .kept .0 ∙ at-pass-as .pass-as .kept .0
+    let at-replace-row = at-take-up-declarators .before .before .before .before in
+    at-take-up-declarators .take-up-declarators .kept .0 ∙ at-replace-row .replace-row .kept .0
 
 returns : tie.Need-returns
 unfolding takeUpItemF
 returns c =
     let at-take-up-declarators = c .before .before in
-    let at-pass-as = at-take-up-declarators .before .before .before .before in
-    let at-as-const = at-pass-as .before in
+    let at-replace-row = at-take-up-declarators .before .before .before .before in
+    let at-as-const = at-replace-row .before in
     let at-if1 = at-as-const .before .before in
     let at-is-using = at-if1 .before in
     let at-row-after = at-is-using .before in
-    rw (← at-row-after .row-after .ensures, ← at-is-using .is-using .ensures, at-if1 .if1 .taken, ← at-as-const .as-const .ensures, ← at-pass-as .pass-as .ensures, ← at-take-up-declarators .take-up-declarators .ensures)
+    rw (← at-row-after .row-after .ensures, ← at-is-using .is-using .ensures, at-if1 .if1 .taken, ← at-as-const .as-const .ensures, ← at-replace-row .replace-row .ensures, ← at-take-up-declarators .take-up-declarators .ensures)
 
 returns-2 : tie.Need-returns-2
 unfolding takeUpItemF

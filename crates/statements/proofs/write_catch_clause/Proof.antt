@@ -17,15 +17,15 @@ returns : tie.Need-returns
 unfolding catchClauseF
 returns c =
     let at-emit4 = c .before .before in
-    let at-made4 = at-emit4 .before in
-    let at-emit3 = at-made4 .before .before .before .before in
-    let at-made3 = at-emit3 .before in
-    let at-plus = at-made3 .before in
+    let at-closed-row4 = at-emit4 .before in
+    let at-emit3 = at-closed-row4 .before .before .before .before in
+    let at-closed-row3 = at-emit3 .before in
+    let at-plus = at-closed-row3 .before in
     let at-emit2 = at-plus .before .before .before .before in
-    let at-made2 = at-emit2 .before in
-    let at-emit = at-made2 .before .before .before .before in
-    let at-made = at-emit .before in
-    rw (← at-made .made .ensures, ← at-emit .emit .ensures, ← at-made2 .made2 .ensures, ← at-emit2 .emit2 .ensures, ← at-plus .plus .ensures, ← at-made3 .made3 .ensures, ← at-emit3 .emit3 .ensures, ← at-made4 .made4 .ensures, ← at-emit4 .emit4 .ensures)
+    let at-closed-row2 = at-emit2 .before in
+    let at-emit = at-closed-row2 .before .before .before .before in
+    let at-closed-row = at-emit .before in
+    rw (← at-closed-row .closed-row .ensures, ← at-emit .emit .ensures, ← at-closed-row2 .closed-row2 .ensures, ← at-emit2 .emit2 .ensures, ← at-plus .plus .ensures, ← at-closed-row3 .closed-row3 .ensures, ← at-emit3 .emit3 .ensures, ← at-closed-row4 .closed-row4 .ensures, ← at-emit4 .emit4 .ensures)
 
 pub write-catch-clause-spec : {M : Type 1} → statement M
 write-catch-clause-spec =

@@ -14,8 +14,8 @@ use Rattle.meaning.specs.Tree.{if_then_else_, Head, Forest, none, more, count, 
 use Rattle.meaning.specs.Statements.{isUsing, isAwaitUsing, letterIf, wrapInitializer, wrapInitializers, asConst, takeUp}
 use Rattle.meaning.specs.Charges.{initializers, wraps}
 use Rattle.tables.specs.Loops.{turns}
-use Rattle.tables.specs.Table.{madeF, headF}
-use Rattle.tables.specs.Stream.{emitF, passAsF, copyF}
+use Rattle.tables.specs.Table.{closedRowF, headF}
+use Rattle.tables.specs.Stream.{emitF, replaceRowF, copyF}
 use Rattle.tables.specs.declared.Row.{Row}
 use Rattle.representation.specs.Gap.Cells.{line, rowsOf, gapped, length-rows, rows-&}
 use Rattle.representation.specs.Gap.Rows.{length-snoc, next-gapped, pass-gapped, pass-as-gapped, emit-gapped}
@@ -134,12 +134,12 @@ first-row z h k r a x y g v = rw (add-assoc x y g, append-assoc (rowsOf k) (rows
 module _ (z : List ℕ) (letter ctx : ℕ) where
   -- the Names, the Call, and the initializer
   wrap-law : (m : ℕ) (f : Forest) (a : List Row) (g : ℕ) (v : List Row) → m < count f → length a + suc g + size f ≤ 65535
-      → copyF (emitF (copyF (gapped z a (suc g) (rowsOf f ++ v)) m) (madeF 27 letter ctx 0 1)) (count f - m)
+      → copyF (emitF (copyF (gapped z a (suc g) (rowsOf f ++ v)) m) (closedRowF 27 letter ctx 0 1)) (count f - m)
       ≡ gapped z (a ++ rowsOf (wrapInitializer letter ctx m f)) g v
   unfolding wrapInitializer count size rowsOf _&_
   wrap-law m none a g v i q = absurd (omega arith)
   wrap-law zero (more h k r) a g v i q =
-      let y = madeF 27 letter ctx 0 1 in
+      let y = closedRowF 27 letter ctx 0 1 in
       let u = rowsOf (more h k r) ++ v in
       rw (copy-none (gapped z a (suc g) u), emit-gapped z a g u y (omega arith), sub-zero)
       (copy-all z (more h k r) (a ++ y ∷ []) g v (omega (arith, length-snoc a y)) ∙ simp (append-assoc, append-nil))
@@ -152,7 +152,7 @@ module _ (z : List ℕ) (letter ctx : ℕ) where
   children-law : (b l : Bool) (m : ℕ) (k : Forest) (a : List Row) (g : ℕ) (v : List Row) → ltb m (count k) ≡ l
       → length a + ((if b && l then 1 else 0) + g) + size k ≤ 65535
       → (let b₁ = gapped z a ((if b && l then 1 else 0) + g) (rowsOf k ++ v) in
-      if b && l then copyF (emitF (copyF b₁ m) (madeF 27 letter ctx 0 1)) (count k - m) else copyF b₁ (count k))
+      if b && l then copyF (emitF (copyF b₁ m) (closedRowF 27 letter ctx 0 1)) (count k - m) else copyF b₁ (count k))
       ≡ gapped z (a ++ rowsOf (if b then wrapInitializer letter ctx m k else k)) g v
   children-law true true m k a g v e q = rw one-add (wrap-law m k a g v (ltb-true m (count k) e) (omega arith))
   children-law true false m k a g v e q =
@@ -191,7 +191,7 @@ as-const : (h : Head) (n : ℕ) → asConstF (line h n) ≡ line (asConst h) n
 unfolding asConstF asConst
 as-const h n = by (eqb (h .b) 0)
   where
-    by : (b : Bool) → (if b then madeF 5 2 0 0 n else madeF 5 0 0 0 n) ≡ madeF 5 (if b then 2 else 0) 0 0 n
+    by : (b : Bool) → (if b then closedRowF 5 2 0 0 n else closedRowF 5 0 0 0 n) ≡ closedRowF 5 (if b then 2 else 0) 0 0 n
     by true = refl
     by false = refl
 
@@ -206,7 +206,7 @@ module _ (z : List ℕ) where
       → length a + ((if b then initializers k else 0) + g) + size k < 65535
       → (let x = line h (count k) in
       let b₁ = gapped z a ((if b then initializers k else 0) + g) (x ∷ (rowsOf k ++ v)) in
-      if b then takeUpDeclaratorsF (count k) letter ctx (passAsF b₁ (asConstF x)) else copyF b₁ 1)
+      if b then takeUpDeclaratorsF (count k) letter ctx (replaceRowF b₁ (asConstF x)) else copyF b₁ 1)
       ≡ gapped z (a ++ rowsOf (item b letter ctx h k none)) g v
   unfolding rowsOf count size
   one-law true letter ctx h k a g v q =

@@ -11,7 +11,7 @@ use Rattle.meaning.specs.Tree.{hd, Forest, none, one, single, count, size, _&_}
 use Rattle.meaning.specs.Shapes.{block, declaration, load, keepError, catchClause, tryStatement}
 use Rattle.meaning.specs.Statements.{takeUp}
 use Rattle.meaning.specs.Charges.{wraps}
-use Rattle.tables.specs.Table.{madeF}
+use Rattle.tables.specs.Table.{closedRowF}
 use Rattle.tables.specs.Stream.{Buf, emitF}
 use Rattle.tables.specs.declared.Row.{Row}
 use Rattle.representation.specs.Gap.Cells.{rowsOf, gapped, length-rows, rows-&}
@@ -34,7 +34,7 @@ handlersOf p =
 -- a Try of a first Block and others
 try-rows : (scope : ℕ) (list others : Forest)
     → rowsOf (single (tryStatement (block scope list & others)))
-    ≡ madeF 11 3 0 0 (suc (count others)) ∷ madeF 2 scope 0 0 (count list) ∷ (rowsOf list ++ rowsOf others)
+    ≡ closedRowF 11 3 0 0 (suc (count others)) ∷ closedRowF 2 scope 0 0 (count list) ∷ (rowsOf list ++ rowsOf others)
 unfolding rowsOf count _&_
 try-rows scope list others = rw append-nil
 
@@ -54,9 +54,9 @@ module _ (z : List ℕ) where
   -- a Declaration of a name, up to its initializer
   pub declare-law : (kind y : ℕ) (a : List Row) (g : ℕ) (v : List Row) → length a + 3 ≤ 65535
       → declareF kind y (gapped z a (3 + g) v)
-      ≡ gapped z (a ++ (madeF 5 kind 0 0 1 ∷ madeF 6 0 1 0 2 ∷ madeF 26 y 0 0 0 ∷ [])) g v
+      ≡ gapped z (a ++ (closedRowF 5 kind 0 0 1 ∷ closedRowF 6 0 1 0 2 ∷ closedRowF 26 y 0 0 0 ∷ [])) g v
   unfolding declareF
-  declare-law kind y a g v q = emits-law (madeF 5 kind 0 0 1 ∷ madeF 6 0 1 0 2 ∷ madeF 26 y 0 0 0 ∷ []) a g v q
+  declare-law kind y a g v q = emits-law (closedRowF 5 kind 0 0 1 ∷ closedRowF 6 0 1 0 2 ∷ closedRowF 26 y 0 0 0 ∷ []) a g v q
 
   -- the declaration of a context
   pub declare-context-law : (p : Parts) (a : List Row) (g : ℕ) (v : List Row) → length a + 4 ≤ 65535
@@ -73,9 +73,9 @@ module _ (z : List ℕ) where
 
   -- the rows of the Try and of its first Block
   pub open-try-law : (scope n : ℕ) (a : List Row) (g : ℕ) (v : List Row) → length a + 2 ≤ 65535
-      → openTryF scope n (gapped z a (2 + g) v) ≡ gapped z (a ++ (madeF 11 3 0 0 3 ∷ madeF 2 scope 0 0 n ∷ [])) g v
+      → openTryF scope n (gapped z a (2 + g) v) ≡ gapped z (a ++ (closedRowF 11 3 0 0 3 ∷ closedRowF 2 scope 0 0 n ∷ [])) g v
   unfolding openTryF
-  open-try-law scope n a g v q = emits-law (madeF 11 3 0 0 3 ∷ madeF 2 scope 0 0 n ∷ []) a g v q
+  open-try-law scope n a g v q = emits-law (closedRowF 11 3 0 0 3 ∷ closedRowF 2 scope 0 0 n ∷ []) a g v q
 
   -- WHAT STANDS IN A TRY around a list
   pub transform-list-law : (f : Forest) (p : Parts) (a : List Row) (g : ℕ) (v : List Row)
@@ -107,7 +107,7 @@ module _ (z : List ℕ) where
   unfolding contextOf handlersOf count _&_
   try-rows-law f p scope a g v q s =
       let f′ = takeUp false (p .context .0) false f in
-      let m = madeF 11 3 0 0 3 ∷ madeF 2 scope 0 0 (suc (count f)) ∷ [] in
+      let m = closedRowF 11 3 0 0 3 ∷ closedRowF 2 scope 0 0 (suc (count f)) ∷ [] in
       ap (λ (n : ℕ). transformListF (count f) p (openTryF scope (suc (count f)) (gapped z a n (rowsOf f ++ v)))) (omega arith)
       ∙ ap (transformListF (count f) p) (open-try-law scope (suc (count f)) a (wraps f + (10 + g)) (rowsOf f ++ v) (omega arith))
       ∙ transform-list-law f p (a ++ m) g v (omega (arith, length-append a m)) s

@@ -12,7 +12,7 @@ use Rattle.tables.specs.Loops.{turns}
 use Rattle.tables.specs.declared.Row.{Row}
 use Rattle.representation.specs.Gap.Cells.{table, rowsOf, withUp}
 use Rattle.representation.specs.Gap.Rows.{set-up, cap-one, length-snoc}
-use Rattle.placing.specs.Placing.{RowsAt, rowsAt, clearOneF, clearPlacesF, Numbering, numbering, numberOneF, numberRowsF}
+use Rattle.rewrite_program.specs.Placing.{RowsAt, rowsAt, clearOneF, clearPlacesF, Numbering, numbering, numberOneF, numberRowsF}
 
 -- every row has a property
 pub data All (P : Row → Type 0) : List Row → Type 0 where

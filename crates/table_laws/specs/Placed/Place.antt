@@ -13,7 +13,7 @@ use Rattle.tables.specs.Table.{rowF, setRowF}
 use Rattle.tables.specs.declared.Row.{Row}
 use Rattle.representation.specs.Gap.Cells.{table}
 use Rattle.representation.specs.Gap.Rows.{set-row, row-at, up-at, cap-one, length-snoc}
-use Rattle.placing.specs.Placing.{RowsAt, rowsAt, exchangeF, placeOneF, passedTo, placeF, clearPlacesF}
+use Rattle.rewrite_program.specs.Placing.{RowsAt, rowsAt, exchangeF, placeOneF, passedTo, placeF, clearPlacesF}
 use Rattle.table_laws.specs.Placed.Numbers.{Closed, numbered, cleared-numbered, clear-law}
 use Rattle.table_laws.specs.Placed.Places.{
   stray,

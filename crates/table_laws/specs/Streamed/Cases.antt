@@ -20,7 +20,7 @@ use Rattle.representation.specs.Gap.Rows.{length-snoc}
 use Rattle.statements.specs.Plan.{plan, planF}
 use Rattle.table_laws.specs.Lists.TakeUp.{length-line}
 use Rattle.table_laws.specs.Lists.Plan.{usings, awaits, any-usings, any-awaits, plan-law, parted, plan-eq, row-here, end-here, counts-size as list-size}
-use Rattle.for_switch.specs.Switch.{planCaseF, planCasesF}
+use Rattle.rewrite_for_switch.specs.Switch.{planCaseF, planCasesF}
 use Rattle.table_laws.specs.Streamed.Places.{some-both, below-here, rows-below}
 use Rattle.spec_laws.specs.Bools.{at-most}
 

@@ -9,7 +9,7 @@ use Rattle.meaning.specs.Tree.{Head, hd, Forest, none, more, one, count, size, 
 use Rattle.meaning.specs.Shapes.{block, declaration, read}
 use Rattle.meaning.specs.ForOf.{rebind}
 use Rattle.charge_laws.specs.Counts.Enter.{Begins}
-use Rattle.tables.specs.Table.{capped, madeF}
+use Rattle.tables.specs.Table.{capped, closedRowF}
 use Rattle.tables.specs.Stream.{Buf, emitF, copyF}
 use Rattle.tables.specs.declared.Row.{Row}
 use Rattle.representation.specs.Gap.Cells.{table, free, line, rowsOf, gapped, length-rows, count-&, size-&, rows-&}
@@ -17,7 +17,7 @@ use Rattle.representation.specs.Gap.Rows.{length-snoc, next-gapped, pass-gapped
 use Rattle.representation.specs.Gap.Streams.{copy-all}
 use Rattle.table_laws.specs.Lists.Plan.{cap-sum}
 use Rattle.table_laws.specs.Lists.Try.{declare-law}
-use Rattle.for_of.specs.ForOf.{leftRowsF, usingRowsF, insertRowsF, wrapRowsF}
+use Rattle.rewrite_for_of.specs.ForOf.{leftRowsF, usingRowsF, insertRowsF, wrapRowsF}
 use Rattle.table_laws.specs.Streamed.Places.{cap-count, next-rows, more-rows, n-gapped}
 use Rattle.table_laws.specs.Streamed.Sides.{sides-rows}
 use Rattle.spec_laws.specs.Trees.{count-size}
@@ -67,12 +67,12 @@ module _ (z : List ℕ) (temp : ℕ) where
   four-rows : (x₀ x₁ x₂ x₃ : Row) (a : List Row) (g : ℕ) (v : List Row) → length a + g + 4 ≤ 65535
       → leftRowsF temp (gapped z a g (x₀ ∷ x₁ ∷ x₂ ∷ x₃ ∷ v))
       ≡ copyF
-      (gapped z (a ++ (x₀ ∷ madeF 5 2 0 0 (x₁ .n) ∷ x₂ ∷ madeF 26 temp 0 0 (x₃ .n) ∷ [])) g v)
+      (gapped z (a ++ (x₀ ∷ closedRowF 5 2 0 0 (x₁ .n) ∷ x₂ ∷ closedRowF 26 temp 0 0 (x₃ .n) ∷ [])) g v)
       (capped (capped (x₃ .n) (x₂ .n - 1)) (x₁ .n))
   unfolding leftRowsF
   four-rows x₀ x₁ x₂ x₃ a g v q =
-      let y₁ = madeF 5 2 0 0 (x₁ .n) in
-      let y₃ = madeF 26 temp 0 0 (x₃ .n) in
+      let y₁ = closedRowF 5 2 0 0 (x₁ .n) in
+      let y₃ = closedRowF 26 temp 0 0 (x₃ .n) in
       let a₁ = a ++ x₀ ∷ [] in
       let a₂ = a₁ ++ y₁ ∷ [] in
       let a₃ = a₂ ++ x₂ ∷ [] in
@@ -105,7 +105,7 @@ module _ (z : List ℕ) (temp : ℕ) where
   left-rows-law h h₁ (more d (more n k r) r₁) h₂ k₂ rest a g v s q =
       let k₁ = more d (more n k r) r₁ in
       let x₀ = line h (count (more h₁ k₁ (more h₂ k₂ rest))) in
-      let m = x₀ ∷ madeF 5 2 0 0 (suc (count r₁)) ∷ line d (suc (count r)) ∷ madeF 26 temp 0 0 (count k) ∷ [] in
+      let m = x₀ ∷ closedRowF 5 2 0 0 (suc (count r₁)) ∷ line d (suc (count r)) ∷ closedRowF 26 temp 0 0 (count k) ∷ [] in
       let w = rowsOf rest ++ v in
       let f = behind k r r₁ h₂ k₂ in
       let b = rowsOf (one h₂ k₂) in
@@ -127,8 +127,8 @@ module _ (z : List ℕ) (temp : ℕ) where
       → usingRowsF kind y temp (gapped z a (4 + g) v) ≡ gapped z (a ++ rowsOf (declaration kind y (read temp))) g v
   unfolding usingRowsF rowsOf count
   using-rows-law kind y a g v q =
-      let m = madeF 5 kind 0 0 1 ∷ madeF 6 0 1 0 2 ∷ madeF 26 y 0 0 0 ∷ [] in
-      let x = madeF 25 temp 0 0 0 in
+      let m = closedRowF 5 kind 0 0 1 ∷ closedRowF 6 0 1 0 2 ∷ closedRowF 26 y 0 0 0 ∷ [] in
+      let x = closedRowF 25 temp 0 0 0 in
       ap (λ (n : ℕ). usingRowsF kind y temp (gapped z a n v)) (omega arith)
       ∙ ap (λ (b : Buf). emitF b x) (declare-law z kind y a (suc g) v (omega arith))
       ∙ emit-gapped z (a ++ m) g v x (omega (arith, length-append a m))
@@ -209,7 +209,7 @@ module _ (z : List ℕ) (temp : ℕ) where
         z
     unfolding wrapRowsF size count
     wrap-rows-law scope q =
-        let x = madeF 2 scope 0 0 2 in
+        let x = closedRowF 2 scope 0 0 2 in
         let w = rowsOf (more h₃ k₃ r) ++ v in
         let l = length-up in
         rw (left-rows-law h h₁ k₁ h₂ k₂ (more h₃ k₃ r) a 5 v s q, emit-gapped z upTo 4 w x (omega arith))

@@ -7,14 +7,14 @@ use native.Mathlib.Omega.{arith}
 use lib.ListN.{length, length-append}
 use Rattle.meaning.specs.Tree.{Head, hd, Forest, one, count, size, _&_}
 use Rattle.meaning.specs.Shapes.{block}
-use Rattle.tables.specs.Table.{madeF}
+use Rattle.tables.specs.Table.{closedRowF}
 use Rattle.tables.specs.Stream.{Buf}
 use Rattle.tables.specs.declared.Row.{Row}
 use Rattle.representation.specs.Gap.Cells.{rowsOf, gapped, length-rows, rows-&}
 use Rattle.statements.specs.Try.{declareContextF, handlersF, openTryF}
 use Rattle.statements.specs.declared.Parts.{Parts}
 use Rattle.table_laws.specs.Lists.Try.{contextOf, handlersOf, declare-context-law, handlers-law, open-try-law}
-use Rattle.contexts.specs.Lists.{listScope}
+use Rattle.rewrite_contexts.specs.Lists.{listScope}
 use Rattle.table_laws.specs.Streamed.Lists.{try-rows}
 
 context-length : (p : Parts) → length (rowsOf (contextOf p)) ≡ 4
@@ -33,8 +33,8 @@ pub frame-law : (z : List ℕ) (p : Parts) (h : Head) (k : Forest) (write : Buf 
     → handlersF p (write (declareContextF p (openTryF (listScope p) 2 (gapped z a (m + (12 + g)) u))))
     ≡ gapped z (a ++ rowsOf (one (hd 11 3 0 0) (block (listScope p) (contextOf p & one h k) & handlersOf p))) g v
 frame-law z p h k write m a g u v q s w =
-    let a₁ = a ++ (madeF 11 3 0 0 3 ∷ madeF 2 (listScope p) 0 0 2 ∷ []) in
-    let l₁ : length a₁ ≡ length a + 2 = length-append a (madeF 11 3 0 0 3 ∷ madeF 2 (listScope p) 0 0 2 ∷ []) in
+    let a₁ = a ++ (closedRowF 11 3 0 0 3 ∷ closedRowF 2 (listScope p) 0 0 2 ∷ []) in
+    let l₁ : length a₁ ≡ length a + 2 = length-append a (closedRowF 11 3 0 0 3 ∷ closedRowF 2 (listScope p) 0 0 2 ∷ []) in
     let a₂ = a₁ ++ rowsOf (contextOf p) in
     let l₂ : length a₂ ≡ length a + 6 = omega (arith, length-append a₁ (rowsOf (contextOf p)), context-length p) in
     let l₃ : length (a₂ ++ rowsOf (one h k)) ≡ length a₂ + size (one h k) =

@@ -10,20 +10,20 @@ use Rattle.meaning.specs.Tree.{Head, hd, Forest, one, single, count, size, _&_}
 use Rattle.meaning.specs.Shapes.{block, tryStatement}
 use Rattle.meaning.specs.Statements.{takeUp}
 use Rattle.meaning.specs.Charges.{wraps}
-use Rattle.tables.specs.Table.{madeF}
+use Rattle.tables.specs.Table.{closedRowF}
 use Rattle.tables.specs.declared.Row.{Row}
 use Rattle.representation.specs.Gap.Cells.{line, rowsOf, gapped}
 use Rattle.representation.specs.Gap.Rows.{length-snoc, next-gapped, emit-gapped, pass-as-gapped}
 use Rattle.statements.specs.declared.Parts.{Parts}
 use Rattle.table_laws.specs.Lists.TakeUp.{count-taken}
 use Rattle.table_laws.specs.Lists.Try.{contextOf, handlersOf, transform-list-law, try-rows-law}
-use Rattle.contexts.specs.Lists.{blockRowsF, wrappedRowsF}
+use Rattle.rewrite_contexts.specs.Lists.{blockRowsF, wrappedRowsF}
 use Rattle.table_laws.specs.Streamed.Places.{cap-count, one-row, n-gapped}
 
 -- a Try of a first Block and two others
 pub try-rows : (scope : ℕ) (list : Forest) (p : Parts)
     → rowsOf (one (hd 11 3 0 0) (block scope list & handlersOf p))
-    ≡ madeF 11 3 0 0 3 ∷ madeF 2 scope 0 0 (count list) ∷ (rowsOf list ++ rowsOf (handlersOf p))
+    ≡ closedRowF 11 3 0 0 3 ∷ closedRowF 2 scope 0 0 (count list) ∷ (rowsOf list ++ rowsOf (handlersOf p))
 unfolding rowsOf count handlersOf _&_
 try-rows scope list p = one-row (hd 11 3 0 0) (block scope list & handlersOf p)
 
@@ -39,8 +39,8 @@ module _ (z : List ℕ) where
   block-rows-law h k p a g v q s =
       let c = p .context .0 in
       let x = line h (count k) in
-      let y = madeF 11 3 0 0 3 in
-      let w = madeF 2 (h .a) 0 0 (suc (count k)) in
+      let y = closedRowF 11 3 0 0 3 in
+      let w = closedRowF 2 (h .a) 0 0 (suc (count k)) in
       let m = wraps k + (10 + g) in
       let u = rowsOf k ++ v in
       let a₁ = a ++ y ∷ [] in
@@ -60,7 +60,7 @@ module _ (z : List ℕ) where
   -- A RECORD KEEPS ITS ROW, as given, and gets a Try around its list
   pub wrapped-rows-law : (t x : ℕ) (h : Head) (k : Forest) (scope : ℕ) (p : Parts) (a : List Row) (g : ℕ) (v : List Row)
       → length a + (wraps k + (12 + g)) + suc (size k) ≤ 65535 → p .scope .0 + 2 ≤ 65535
-      → wrappedRowsF (madeF t x 0 0 1) scope p (gapped z a (wraps k + (12 + g)) (rowsOf (one h k) ++ v))
+      → wrappedRowsF (closedRowF t x 0 0 1) scope p (gapped z a (wraps k + (12 + g)) (rowsOf (one h k) ++ v))
       ≡ gapped z
       (a
       ++ rowsOf
@@ -70,7 +70,7 @@ module _ (z : List ℕ) where
   unfolding wrappedRowsF count
   wrapped-rows-law t x h k scope p a g v q s =
       let y = line h (count k) in
-      let w = madeF t x 0 0 1 in
+      let w = closedRowF t x 0 0 1 in
       let m = wraps k + (12 + g) in
       let u = rowsOf k ++ v in
       rw (one-row h k, n-gapped z a m y u, cap-count k (omega arith), pass-as-gapped z a m y u w (omega arith))

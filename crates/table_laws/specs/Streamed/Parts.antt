@@ -24,7 +24,7 @@ use Rattle.statements.specs.Plan.{counting, noPlan, planF}
 use Rattle.statements.specs.declared.Counting.{Counting}
 use Rattle.table_laws.specs.Lists.TakeUp.{length-line}
 use Rattle.table_laws.specs.Lists.Plan.{any-usings, cap-sum, parted, row-here, end-here}
-use Rattle.contexts.specs.Tries.{
+use Rattle.rewrite_contexts.specs.Tries.{
   isPartF,
   partRowsF,
   planPartF,

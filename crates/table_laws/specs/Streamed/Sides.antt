@@ -18,7 +18,7 @@ use Rattle.representation.specs.Gap.Cells.{table, line, rowsOf, length-rows}
 use Rattle.representation.specs.Gap.Rows.{a-at, n-at, row-at, length-snoc}
 use Rattle.representation.specs.Gap.Streams.{end-all}
 use Rattle.table_laws.specs.Lists.Plan.{cap-sum, parted}
-use Rattle.for_of.specs.ForOf.{isIdentifierF, takesUsingF, usingSymbolF, bodyAfterF}
+use Rattle.rewrite_for_of.specs.ForOf.{isIdentifierF, takesUsingF, usingSymbolF, bodyAfterF}
 use Rattle.table_laws.specs.Streamed.Places.{one-row, more-rows}
 
 -- the rows of a record with two children and others

@@ -14,7 +14,7 @@ use Rattle.meaning.specs.Statements.{anyAwaitUsing, takeUp}
 use Rattle.meaning.specs.Contexts.{takeUpCases}
 use Rattle.meaning.specs.Charges.{wraps, caseWraps}
 use Rattle.tables.specs.Loops.{turns}
-use Rattle.tables.specs.Stream.{Buf, passF, copyF}
+use Rattle.tables.specs.Stream.{Buf, copyRowF, copyF}
 use Rattle.tables.specs.declared.Row.{Row}
 use Rattle.representation.specs.Gap.Cells.{line, rowsOf, gapped}
 use Rattle.representation.specs.Gap.Rows.{length-snoc, next-gapped, pass-gapped}
@@ -24,8 +24,8 @@ use Rattle.statements.specs.declared.Parts.{Parts}
 use Rattle.table_laws.specs.Lists.TakeUp.{size-taken, count-taken, length-line, take-up-law, first-row}
 use Rattle.table_laws.specs.Lists.Plan.{awaits, any-awaits}
 use Rattle.table_laws.specs.Lists.Try.{contextOf, handlersOf}
-use Rattle.contexts.specs.Lists.{listScope}
-use Rattle.for_switch.specs.Switch.{CasingF, casingF, orAwaitsF, takeUpCaseF, takeUpCasesF, switchRowsF}
+use Rattle.rewrite_contexts.specs.Lists.{listScope}
+use Rattle.rewrite_for_switch.specs.Switch.{CasingF, casingF, orAwaitsF, takeUpCaseF, takeUpCasesF, switchRowsF}
 use Rattle.table_laws.specs.Streamed.Places.{one-row, n-gapped, plan-gapped}
 use Rattle.table_laws.specs.Streamed.Cases.{inCase}
 use Rattle.table_laws.specs.Streamed.Frame.{frame-law}
@@ -74,7 +74,7 @@ module _ (z : List ℕ) where
   case-by : (b : Bool) (ctx : ℕ) (needs : Bool) (h : Head) (k : Forest) (a : List Row) (g : ℕ) (v : List Row)
       → length a + ((if b then wraps k else 0) + g) + suc (size k) ≤ 65535
       → (let b₁ = gapped z a ((if b then wraps k else 0) + g) (line h (count k) ∷ (rowsOf k ++ v)) in
-      if b then casingF (takeUpF (count k) true ctx needs (passF b₁)) (orAwaitsF needs (awaits k)) else casingF (copyF b₁ 1) needs)
+      if b then casingF (takeUpF (count k) true ctx needs (copyRowF b₁)) (orAwaitsF needs (awaits k)) else casingF (copyF b₁ 1) needs)
       ≡ casingF (gapped z (a ++ line h (count k) ∷ rowsOf (below b ctx needs k)) g v) (needsAfter b needs k)
   unfolding orAwaitsF count size
   case-by true ctx needs h k a g v q =
@@ -136,7 +136,7 @@ module _ (z : List ℕ) where
       let k′ = takeUpCases c false k in
       let m = caseWraps k in
       rw (one-row h k, n-gapped z a (m + (12 + g)) x (rowsOf k ++ v))
-      (frame-law z p h k′ (λ b. takeUpCasesF (count k) c (passF b)) m a g (x ∷ (rowsOf k ++ v)) v (omega (arith, size-cases k c false)) s
+      (frame-law z p h k′ (λ b. takeUpCasesF (count k) c (copyRowF b)) m a g (x ∷ (rowsOf k ++ v)) v (omega (arith, size-cases k c false)) s
       (λ a₁ l. ap (takeUpCasesF (count k) c) (pass-gapped z a₁ (m + (6 + g)) x (rowsOf k ++ v) (omega arith))
       ∙ cases-law k c (a₁ ++ x ∷ []) (6 + g) v (omega (arith, length-snoc a₁ x))
       ∙ rw (one-row h k′, count-cases k c false) (simp append-assoc)))

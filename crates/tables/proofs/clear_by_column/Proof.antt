@@ -6,7 +6,7 @@ use Rattle.tables.proofs.clear_by_column.Tie as tie
 returns : tie.Need-returns
 returns c =
     let at-put-by-column = c .before .before in
-    rw (← at-put-by-column .before .made .ensures) (at-put-by-column .put-by-column .ensures)
+    rw (← at-put-by-column .before .closed-row .ensures) (at-put-by-column .put-by-column .ensures)
 
 pub clear-by-column-spec : {M : Type 1} → statement M
 clear-by-column-spec =

@@ -1,4 +1,0 @@
--- `enter_program` on tables.
-pub mod Plan
-pub mod Arrange
-pub mod Program

@@ -1,0 +1,228 @@
+// The For, with its Labels, and the Switch.
+use meaning::RecordId;
+use meaning::ScopeId;
+use meaning::tag;
+use path::Walk;
+use statements::Parts;
+use statements::Plan;
+use tables::Cursor;
+use tables::record;
+ghost use mathlib.Core.Path.{_≡_};
+ghost use mathlib.Core.Bool.{not};
+ghost use lib.Dec.{eqb};
+ghost use Rattle.path.specs.Path.{tables};
+ghost use Rattle.tables.specs.Loops.{until};
+ghost use Rattle.tables.specs.Stream.{buf};
+ghost use Rattle.rewrite_for_switch.specs.For.{isLoopF, nextRow, labelsEndF, planForF, passRowsF, forRowsF, transformForStatementF};
+ghost use Rattle.rewrite_for_switch.specs.Switch.{casing, orAwaitsF, takeUpCaseF, takeUpCasesF, planCaseF, planCasesF, switchRowsF, transformSwitchStatementF};
+
+// ---- for
+
+// The row after another is no Label.
+fn is_loop(records: &[u16], after: u16) -> bool
+    ensures { λ r. ⌜ r ≡ isLoopF (now (records .entry)) after ⌝ }
+{
+    tables::column(records, RecordId(after), record::TAG) != tag::LABEL
+}
+
+// The last of the Labels after a row, each the only child of the one before.
+fn labels_end(records: &[u16], after: u16) -> u16
+    ensures { λ r. ⌜ r ≡ labelsEndF (now (records .entry)) after ⌝ }
+{
+    let mut at = after;
+    while at < tables::LARGEST {
+        if is_loop(records, at) {
+            break;
+        }
+        at += 1;
+    }
+    at
+}
+
+// What the For below the Labels after a row has to take up.
+pub fn plan_for(records: &[u16], after: RecordId) -> Plan
+    ensures { λ r. ⌜ r ≡ planForF (now (records .entry)) (after .0) ⌝ }
+{
+    let at = labels_end(records, after.0);
+    let r = tables::row_after(records, RecordId(at));
+    if r.tag == tag::FOR {
+        statements::plan_list(
+            records,
+            statements::no_plan(RecordId(tables::plus(at, 1))),
+            r.n,
+        )
+    } else {
+        statements::no_plan(RecordId(at))
+    }
+}
+
+// Copies the next n rows.
+fn pass_rows(records: &mut [u16], start: Cursor, n: u16) -> Cursor
+    ensures { λ o. ⌜ buf (now (records .exit)) o ≡ passRowsF n (buf (now (records .entry)) start) ⌝ }
+{
+    let mut q = start;
+    let mut k: u16 = 0;
+    while k < n {
+        q = tables::copy_row(records, q);
+        k += 1;
+    }
+    q
+}
+
+// The For with its Labels goes into the Try.
+fn write_for(records: &mut [u16], q: Cursor, p: Parts) -> Cursor
+    ensures { λ o. ⌜ buf (now (records .exit)) o ≡ forRowsF p (buf (now (records .entry)) q) ⌝ }
+{
+    let labels = tables::minus(labels_end(records, q.read.0), q.read.0);
+    let q1 = statements::open_try(records, q, rewrite_contexts::list_scope(p), 2);
+    let q2 = statements::declare_context(records, q1, p);
+    let q3 = pass_rows(records, q2, labels);
+    let n = tables::column(records, q3.read, record::N);
+    let q4 = tables::copy_row(records, q3);
+    let q5 = statements::take_up(records, q4, n, p.context, false, false);
+    statements::write_handlers(records, q5, p)
+}
+
+// `transform_for_statement`
+pub fn transform_for_statement(
+    records: &mut [u16],
+    scopes: &mut [u16],
+    symbols: &mut [u16],
+    w: Walk,
+    plan: Plan,
+) -> Walk
+    ensures { λ r. ⌜ tables (now (records .exit)) (now (scopes .exit)) (now (symbols .exit)) r ≡ transformForStatementF plan (tables (now (records .entry)) (now (scopes .entry)) (now (symbols .entry)) w) ⌝ }
+{
+    let read = w.gap;
+    let c = creation::for_loop(records, scopes, symbols, w, plan.awaits);
+    let v = w.charge(tables::plus(plan.wraps, statements::WRAPPED_CONTEXT_ROWS));
+    let written = v.gap;
+    write_for(records, Cursor { read, written }, c.parts);
+    v.with_ctx(c.ctx)
+}
+
+// ---- switch
+
+// A Switch's children while they are taken up, and needs_await so far.
+pub struct Casing {
+    pub at: Cursor,
+    pub needs: bool,
+}
+
+// `needs` was so before, or something awaits.
+fn or_awaits(needs: bool, awaits: u16) -> bool
+    ensures { λ o. ⌜ o ≡ orAwaitsF needs awaits ⌝ }
+{
+    if needs {
+        return true;
+    }
+    awaits != 0
+}
+
+// A child of a Switch: the usings of a Case are taken up with the running letter.
+fn take_up_case(records: &mut [u16], s: Casing, p: Parts) -> Casing
+    ensures { λ o. ⌜ casing (now (records .exit)) o ≡ takeUpCaseF (p .context .0) (casing (now (records .entry)) s) ⌝ }
+{
+    let q = s.at;
+    let r = tables::row_after(records, q.read);
+    if r.tag == tag::CASE {
+        let plan = statements::plan_list(
+            records,
+            statements::no_plan(RecordId(tables::plus(q.read.0, 1))),
+            r.n,
+        );
+        let q1 = tables::copy_row(records, q);
+        let at = statements::take_up(records, q1, r.n, p.context, true, s.needs);
+        Casing {
+            at,
+            needs: or_awaits(s.needs, plan.awaits),
+        }
+    } else {
+        let at = tables::copy(records, q, 1);
+        Casing { at, needs: s.needs }
+    }
+}
+
+// The n children of a Switch: the usings of its Cases are taken up.
+fn take_up_cases(records: &mut [u16], start: Cursor, n: u16, p: Parts) -> Cursor
+    ensures { λ o. ⌜ buf (now (records .exit)) o ≡ takeUpCasesF n (p .context .0) (buf (now (records .entry)) start) ⌝ }
+{
+    let mut s = Casing {
+        at: start,
+        needs: false,
+    };
+    let mut k: u16 = 0;
+    while k < n {
+        s = take_up_case(records, s, p);
+        k += 1;
+    }
+    s.at
+}
+
+// One child of a Switch more: the list of a Case is counted.
+fn plan_case(records: &[u16], p: Plan) -> Plan
+    ensures { λ o. ⌜ o ≡ planCaseF (now (records .entry)) p ⌝ }
+{
+    let r = tables::row_after(records, p.at);
+    if r.tag == tag::CASE {
+        let inside = Plan {
+            at: RecordId(tables::plus(p.at.0, 1)),
+            usings: p.usings,
+            awaits: p.awaits,
+            wraps: p.wraps,
+        };
+        statements::plan_list(records, inside, r.n)
+    } else {
+        Plan {
+            at: tables::end_after(records, p.at, 1),
+            usings: p.usings,
+            awaits: p.awaits,
+            wraps: p.wraps,
+        }
+    }
+}
+
+// What the Cases among n children have to take up.
+pub fn plan_cases(records: &[u16], after: RecordId, n: u16) -> Plan
+    ensures { λ o. ⌜ o ≡ planCasesF (now (records .entry)) (after .0) n ⌝ }
+{
+    let mut p = statements::no_plan(after);
+    let mut k: u16 = 0;
+    while k < n {
+        p = plan_case(records, p);
+        k += 1;
+    }
+    p
+}
+
+// The Switch goes into the Try.
+fn write_switch(records: &mut [u16], q: Cursor, p: Parts) -> Cursor
+    ensures { λ o. ⌜ buf (now (records .exit)) o ≡ switchRowsF p (buf (now (records .entry)) q) ⌝ }
+{
+    let n = tables::column(records, q.read, record::N);
+    let q1 = statements::open_try(records, q, rewrite_contexts::list_scope(p), 2);
+    let q2 = statements::declare_context(records, q1, p);
+    let q3 = tables::copy_row(records, q2);
+    let q4 = take_up_cases(records, q3, n, p);
+    statements::write_handlers(records, q4, p)
+}
+
+// `transform_switch_statement`: the context is bound in the current scope.
+pub fn transform_switch_statement(
+    records: &mut [u16],
+    scopes: &mut [u16],
+    symbols: &mut [u16],
+    w: Walk,
+    plan: Plan,
+) -> Walk
+    ensures { λ r. ⌜ tables (now (records .exit)) (now (scopes .exit)) (now (symbols .exit)) r ≡ transformSwitchStatementF plan (tables (now (records .entry)) (now (scopes .entry)) (now (symbols .entry)) w) ⌝ }
+{
+    let cur = path::current_scope(records, w.inner, w.visited.0);
+    let read = w.gap;
+    let old = ScopeId(tables::column(records, read, record::A));
+    let c = creation::for_switch(scopes, symbols, w.ctx, cur, old, plan.awaits);
+    let v = w.charge(tables::plus(plan.wraps, statements::WRAPPED_CONTEXT_ROWS));
+    let written = v.gap;
+    write_switch(records, Cursor { read, written }, c.parts);
+    v.with_ctx(c.ctx)
+}

@@ -1,0 +1,49 @@
+-- `rewrite_program::placing::number_rows` meets its contract. Assumes nothing.
+use mathlib.Core.Path.{_≡_, refl, ap, _∙_}
+use Prim.Native.Nat.{_-_, _≤_}
+use native.Mathlib.Nat.{sub-zero}
+use lib.ListN.{length}
+use Rattle.tables.specs.Loops.{turns, next-turn, last-turn}
+use Rattle.rewrite_program.specs.Placing.{Numbering, numbering, numberOneF, numberRowsF}
+use borrow.Author.Needs.{needs}
+use Rattle.rewrite_program.proofs.placing.number_rows.Statement.{statement}
+use Rattle.rewrite_program.proofs.placing.number_rows.Tie as tie
+
+abbrev Inv-loop : tie.InvT-loop
+Inv-loop records₀ from n first at₀ next₀ k₀ records at next k =
+    (k ≤ n) × (length records ≡ length records₀)
+    × (turns n numberOneF (numbering records₀ at₀ next₀) ≡ turns (n - k) numberOneF (numbering records at next))
+
+abbrev μ-loop : tie.MeasureT-loop
+μ-loop records₀ from n first at₀ next₀ k₀ records at next k = n - k
+
+loop-holds : tie.Need-loop-holds Inv-loop μ-loop
+loop-holds c = (search needs, refl, rw sub-zero)
+
+loop-again : tie.Need-loop-again Inv-loop μ-loop
+unfolding numberOneF
+loop-again c =
+    let at-plus2 = c in
+    let at-plus = at-plus2 .before in
+    let at-put-column = at-plus .before .before .before in
+    let at-loop-test = at-put-column .before .before in
+    let at-loop = at-loop-test .before in (
+      search needs,
+      at-put-column .put-column .kept .0 ∙ at-loop .loop .inv .1,
+      rw (at-put-column .put-column .ensures, at-plus .plus .ensures, at-plus2 .plus2 .ensures)
+          (next-turn _ _ _ _ _ (at-loop .loop .inv .2) (at-loop-test .loop-test .taken)),
+    )
+
+returns : tie.Need-returns Inv-loop μ-loop
+unfolding numberRowsF
+returns c =
+    let at-loop-test = c in
+    let at-loop = at-loop-test .before in
+    ap (λ (s : Numbering). s .rows .t) (last-turn _ _ _ _ _ (at-loop .loop .inv .2) (at-loop-test .loop-test .left))
+
+pub number-rows-spec : {M : Type 1} → statement M
+number-rows-spec =
+    tie.close
+    (tie.spec
+    Inv-loop μ-loop loop-holds (λ c κs. search needs) (λ c κs. search needs) (λ c κs. search needs) (λ c. search needs)
+    (λ c. search needs) loop-again (λ c. search needs) returns)

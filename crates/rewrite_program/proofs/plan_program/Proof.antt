@@ -1,0 +1,39 @@
+-- `rewrite_program::plan_program` meets its contract. Assumes nothing.
+use mathlib.Core.Path.{_≡_}
+use Prim.Native.Nat.{_-_, _≤_}
+use native.Mathlib.Nat.{sub-zero}
+use Rattle.tables.specs.Loops.{turns, next-turn, last-turn}
+use Rattle.rewrite_program.specs.Plan.{planItemF, planProgramF}
+use borrow.Author.Needs.{needs}
+use Rattle.rewrite_program.proofs.plan_program.Statement.{statement}
+use Rattle.rewrite_program.proofs.plan_program.Tie as tie
+
+abbrev Inv-loop : tie.InvT-loop
+Inv-loop records n p₀ k₀ p k =
+    (k ≤ n) × (turns n (planItemF records) p₀ ≡ turns (n - k) (planItemF records) p)
+
+abbrev μ-loop : tie.MeasureT-loop
+μ-loop records n p₀ k₀ p k = n - k
+
+loop-holds : tie.Need-loop-holds Inv-loop μ-loop
+loop-holds c = (search needs, rw sub-zero)
+
+loop-again : tie.Need-loop-again Inv-loop μ-loop
+loop-again c =
+    let at-plan-item = c in
+    let at-loop-test = at-plan-item .before in
+    let at-loop = at-loop-test .before in
+    (search needs, rw (at-plan-item .plan-item .ensures) (next-turn _ _ _ _ _ (at-loop .loop .inv .1) (at-loop-test .loop-test .taken)))
+
+returns : tie.Need-returns Inv-loop μ-loop
+unfolding planProgramF
+returns c =
+    let at-loop-test = c in
+    let at-loop = at-loop-test .before in
+    last-turn _ _ _ _ _ (at-loop .loop .inv .1) (at-loop-test .loop-test .left)
+
+pub plan-program-spec : {M : Type 1} → statement M
+plan-program-spec =
+    tie.close
+    (tie.spec
+    Inv-loop μ-loop loop-holds (λ c κs. search needs) (λ c. search needs) (λ c. search needs) loop-again returns)

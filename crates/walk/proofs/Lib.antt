@@ -1,0 +1,2 @@
+-- Laws of the arms of a match.
+mod Arms
