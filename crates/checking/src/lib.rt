@@ -1,12 +1,13 @@
 // Checking a tree file on its bytes, and the figures of what it is lowered to.
 use figures::Figured;
+use figures::tally;
+use figures::tally::Role;
+use figures::tally::Tally;
 use meaning::Field;
 use meaning::Place;
 use meaning::Reading;
 use meaning::Rows;
 use meaning::ScopeId;
-use tallies::Tally;
-use tallies::Up;
 ghost use mathlib.Core.Path.{_≡_};
 ghost use mathlib.Core.Bool.{_||_};
 ghost use Prim.Native.Nat.{_≤_};
@@ -104,7 +105,7 @@ fn refusal(r: Reading) -> Answer
 // ---- leaves: plain records without scope and children, passed at once
 
 // A field with this tag may stand here, and is whole with `len` bytes of numbers; its tag is not looked at.
-fn is_whole(file: &[u8], place: Place, tag: u8, len: u16, at: usize) -> bool
+fn is_whole(file: &[u8], place: Place, tag: u16, len: u16, at: usize) -> bool
     ensures { λ r. ⌜ r ≡ isWhole (now (file .entry)) place tag len at ⌝ }
 {
     if file.len() <= at {
@@ -133,7 +134,7 @@ fn expression_size(file: &[u8], place: Place, at: usize) -> u32
 }
 
 // The same of a 25 or 26, which has a symbol row and never children.
-fn mention_size(file: &[u8], place: Place, symbols: usize, tag: u8, at: usize) -> u32
+fn mention_size(file: &[u8], place: Place, symbols: usize, tag: u16, at: usize) -> u32
     ensures { λ r. ⌜ r ≡ mentionSize (now (file .entry)) place symbols tag at ⌝ }
 {
     if !is_whole(file, place, tag, 2, at) {
@@ -150,16 +151,16 @@ fn mention_size(file: &[u8], place: Place, symbols: usize, tag: u8, at: usize) -
 }
 
 // The bytes of the leaf at an offset, or 0 where there is none or its check could refuse it.
-fn leaf_size(file: &[u8], place: Place, up: Up, symbols: usize, levels: u16, at: usize) -> u32
+fn leaf_size(file: &[u8], place: Place, up: Role, symbols: usize, levels: u16, at: usize) -> u32
     ensures { λ r. ⌜ r ≡ leafSize (now (file .entry)) place up symbols levels at ⌝ }
 {
     if levels == 0 {
         return 0;
     }
-    if !tallies::is_plain(up) {
+    if !tally::is_plain(up) {
         return 0;
     }
-    let tag = fields::byte(file, at);
+    let tag = fields::tag_at(file, at);
     match tag {
         24 => expression_size(file, place, at),
         25 => mention_size(file, place, symbols, 25, at),
@@ -176,7 +177,7 @@ fn check_entered(
     marks: &mut [u8],
     rows: RowCounts,
     place: Place,
-    up: Up,
+    up: Role,
     cur: ScopeId,
     before: Tally,
     at: usize,
@@ -196,8 +197,8 @@ fn check_entered(
     let Answer::Next(next, kids) = inside else {
         return inside;
     };
-    let inserted = tallies::inserts(file, rows.scopes, rows.symbols, up, x);
-    Answer::Next(next, tallies::add_record(before, up, inserted, x, kids))
+    let inserted = tally::inserts(file, rows.scopes, rows.symbols, up, x);
+    Answer::Next(next, tally::add_record(before, up, inserted, x, kids))
 }
 
 // A record at a place that is no expression's.
@@ -206,7 +207,7 @@ fn check_statement(
     marks: &mut [u8],
     rows: RowCounts,
     place: Place,
-    up: Up,
+    up: Role,
     cur: ScopeId,
     before: Tally,
     at: usize,
@@ -224,7 +225,7 @@ fn check_expression(
     marks: &mut [u8],
     rows: RowCounts,
     place: Place,
-    up: Up,
+    up: Role,
     cur: ScopeId,
     before: Tally,
     at: usize,
@@ -242,7 +243,7 @@ fn check_child(
     marks: &mut [u8],
     rows: RowCounts,
     place: Place,
-    up: Up,
+    up: Role,
     cur: ScopeId,
     before: Tally,
     at: usize,
@@ -253,7 +254,7 @@ fn check_child(
     let size = leaf_size(file, place, up, rows.symbols as usize, levels, at);
     if size != 0 {
         let next = at + (size as usize);
-        return Answer::Next(next, tallies::add_leaf(before, size));
+        return Answer::Next(next, tally::add_leaf(before, size));
     }
     match place {
         Place::Expression | Place::SwitchExpression => check_expression(
@@ -277,7 +278,7 @@ fn check_children(
     marks: &mut [u8],
     rows: RowCounts,
     place: Place,
-    up: Up,
+    up: Role,
     x: Field,
     cur: ScopeId,
     levels: u16,
@@ -286,7 +287,7 @@ fn check_children(
 {
     let n = rules::children_of(x);
     let mut at = x.next;
-    let mut t = tallies::no_tally();
+    let mut t = tally::no_tally();
     let mut k: u16 = 0;
     while k < n {
         let here = rules::place_of(place, x, k);
@@ -295,7 +296,7 @@ fn check_children(
             marks,
             rows,
             here,
-            tallies::up_in(file, up, x, k),
+            tally::role_in(file, up, x, k),
             cur,
             t,
             at,
@@ -428,9 +429,9 @@ fn check_tree(file: &[u8], marks: &mut [u8], rows: RowCounts, at: usize) -> Answ
         marks,
         rows,
         Place::Program,
-        Up::Plain,
+        Role::Plain,
         ScopeId(0),
-        tallies::no_tally(),
+        tally::no_tally(),
         at,
         64,
     );

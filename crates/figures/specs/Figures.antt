@@ -6,8 +6,8 @@ use lib.Dec.{eqb, leb}
 use Rattle.meaning.specs.Tree.{if_then_else_}
 use Rattle.meaning.specs.Charges.{Figures}
 use Rattle.meaning.specs.Reading.{Outcome, accepted, refused}
-use Rattle.tallies.specs.Tally.{tallyFigures}
-use Rattle.tallies.specs.declared.Tally.{Tally}
+use Rattle.figures.specs.Tally.{tallyFigures}
+use Rattle.figures.specs.declared.tally.Tally.{Tally}
 use Rattle.figures.specs.declared.FinalFigures.{FinalFigures}
 use Rattle.figures.specs.declared.Figured.{Figured}
 use Rattle.figures.specs.declared.Figured.the-variants.{Fine, Refused}

@@ -1,5 +1,8 @@
 // 01's figures of a tally: what the lowered file comes to.
-use tallies::Tally;
+pub mod tally;
+use meaning::mode;
+use meaning::refusal;
+use tally::Tally;
 ghost use mathlib.Core.Path.{_≡_};
 ghost use mathlib.Core.Bool.{_&&_};
 ghost use Prim.Native.Nat.{_+_, _*_, _≤_};

@@ -48,7 +48,7 @@ pub enum Place {
 
 // A field: its tag, its numbers filled up with 0, and the offset behind it.
 pub struct Field {
-    pub tag: u8,
+    pub tag: u16,
     pub a: u16,
     pub b: u16,
     pub c: u16,

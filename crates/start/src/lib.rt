@@ -150,7 +150,7 @@ fn next_at(file: &[u8], at: usize) -> usize
     requires { ⌜ at ≤ 1000000 ⌝ }
     ensures { λ r. ⌜ r ≡ fieldOf (now (file .entry)) at .next ⌝ }
 {
-    let len = fields::numbers_of(fields::byte(file, at));
+    let len = fields::numbers_of(fields::tag_at(file, at));
     at + (3 + 2 * (len as usize))
 }
 
@@ -159,7 +159,7 @@ fn field_at(file: &[u8], at: usize) -> Field
     requires { ⌜ at ≤ 1000000 ⌝ }
     ensures { λ r. ⌜ r ≡ fieldOf (now (file .entry)) at ⌝ }
 {
-    let tag = fields::byte(file, at);
+    let tag = fields::tag_at(file, at);
     let len = fields::numbers_of(tag);
     Field {
         tag: tag,
@@ -188,7 +188,7 @@ fn row_of(x: Field) -> Row
     let count = rules::own_numbers(x.tag);
     let n = rules::children_of(x);
     tables::made(
-        x.tag as u16,
+        x.tag,
         own_number(count, 0, x.a),
         own_number(count, 1, x.b),
         own_number(count, 2, x.c),

@@ -13,9 +13,9 @@ returns c =
     let at-number-at2 = at-number-at3 .before in
     let at-number-at = at-number-at2 .before in
     let at-numbers-of = at-number-at .before in
-    let at-byte = at-numbers-of .before in
+    let at-tag-at = at-numbers-of .before in
     rw (
-      ← at-byte .byte .ensures,
+      ← at-tag-at .tag-at .ensures,
       ← at-numbers-of .numbers-of .ensures,
       ← at-number-at .number-at .ensures,
       ← at-number-at2 .number-at2 .ensures,

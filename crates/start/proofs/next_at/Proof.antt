@@ -9,8 +9,8 @@ returns : tie.Need-returns
 unfolding fieldOf fieldBytes
 returns c =
     let at-numbers-of = c in
-    let at-byte = at-numbers-of .before in
-    rw (← at-byte .byte .ensures, ← at-numbers-of .numbers-of .ensures)
+    let at-tag-at = at-numbers-of .before in
+    rw (← at-tag-at .tag-at .ensures, ← at-numbers-of .numbers-of .ensures)
 
 pub next-at-spec : {M : Type 1} → statement M
 next-at-spec =
