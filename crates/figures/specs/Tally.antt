@@ -14,7 +14,23 @@ use Rattle.meaning.specs.Grammar.{two}
 use Rattle.meaning.specs.Statements.{isUsing}
 use Rattle.meaning.specs.ForOf.{bindsIdentifier, boundSymbol, bindsName}
 use Rattle.meaning.specs.Program.{keepsDefault}
-use Rattle.meaning.specs.Charges.{Figures, figures}
+use Rattle.meaning.specs.Charges.{
+  Figures,
+  figures,
+  ofBlock,
+  ofBody,
+  context,
+  forOf,
+  forOfBlock,
+  programBlock,
+  topLevelClass,
+  exportedClass,
+  contextCharge,
+  lineCharge,
+  callBytes,
+  lineBytes,
+  specifierBytes,
+}
 use Rattle.figures.specs.declared.tally.Tally.{Tally}
 use Rattle.figures.specs.declared.tally.Role.{Role}
 use Rattle.figures.specs.declared.tally.Role.the-variants.{
@@ -290,6 +306,37 @@ tallyOf asRead ups k (more h kids r) =
 
 -- ---- 01's figures of a tally
 
+-- the bytes that each line adds, with those of its scopes and symbols
+abbrev pub blockCost : ℕ
+blockCost = 126
+
+abbrev pub partCost : ℕ
+partCost = 140
+
+abbrev pub forOfCost : ℕ
+forOfCost = 37
+
+abbrev pub forOfBlockCost : ℕ
+forOfBlockCost = 51
+
+abbrev pub programCost : ℕ
+programCost = 14
+
+abbrev pub classCost : ℕ
+classCost = 32
+
+abbrev pub exportCost : ℕ
+exportCost = 43
+
+-- THEY ARE what 01 charges.
+pub costs-charged
+    : (blockCost ≡ lineCharge (context ofBlock) .bytes) × (partCost ≡ lineCharge (context ofBody) .bytes)
+    × (forOfCost ≡ lineCharge forOf .bytes) × (forOfBlockCost ≡ lineCharge forOfBlock .bytes)
+    × (programCost ≡ lineCharge programBlock .bytes) × (classCost ≡ lineCharge topLevelClass .bytes)
+    × (exportCost ≡ lineCharge exportedClass .bytes)
+unfolding lineCharge contextCharge
+costs-charged = (refl, refl, refl, refl, refl, refl, refl)
+
 unfoldable pub tallyFigures : Tally → Figures
 tallyFigures t =
     figures
@@ -298,5 +345,6 @@ tallyFigures t =
     (3 * t .blocks + 4 * t .parts + t .«for_of_blocks» + t .programs)
     (2 * t .blocks + 2 * t .parts + t .«for_ofs» + t .«for_of_blocks» + t .classes + t .exports)
     (t .blocks + t .parts)
-    (t .bytes + 126 * t .blocks + 140 * t .parts + 9 * t .wrapped + 37 * t .«for_ofs» + 51 * t .«for_of_blocks» + 14 * t .programs
-    + 32 * t .classes + 43 * t .exports + 4 * t .declarations + 7 * t .names)
+    (t .bytes + blockCost * t .blocks + partCost * t .parts + callBytes * t .wrapped + forOfCost * t .«for_ofs»
+    + forOfBlockCost * t .«for_of_blocks» + programCost * t .programs + classCost * t .classes + exportCost * t .exports
+    + lineBytes * t .declarations + specifierBytes * t .names)

@@ -1,7 +1,7 @@
 -- A silent record is charged nothing.
 -- Assumes nothing.
 use mathlib.Core.Path.{_≡_, refl}
-use mathlib.Core.Bool.{Bool, true, false, not, _&&_}
+use mathlib.Core.Bool.{Bool, true, false, not, and-false}
 use mathlib.Core.List.{[], _∷_}
 use Prim.Native.Nat.{ℕ, _≤_, _<_}
 use native.Mathlib.Nat.{add-zero}
@@ -22,10 +22,6 @@ exporting : (roleIndex Item < roleIndex Default) × (roleIndex Item < roleIndex 
     × (roleIndex Item < roleIndex Held) × (roleIndex Item < roleIndex (Body 0))
 unfolding roleIndex
 exporting = (omega arith, omega arith, omega arith, omega arith, omega arith)
-
-and-fails : (a : Bool) → (a && false) ≡ false
-and-fails true = refl
-and-fails false = refl
 
 module _ (u : Role) (inserts : Bool) (h : Head) (n : ℕ) (kids : Tally) (is : isSilent u (h .tag) ≡ true) where
   tests : (oneOf (1 ∷ 2 ∷ 5 ∷ 7 ∷ 9 ∷ 10 ∷ 14 ∷ 15 ∷ 16 ∷ []) (h .tag) ≡ false) × (roleIndex u ≤ roleIndex Item)
@@ -51,4 +47,4 @@ module _ (u : Role) (inserts : Bool) (h : Head) (n : ℕ) (kids : Tally) (is : i
       let n₁₄ = or-none (eqb t 14) _ (n₁₀ .1) in
       let n₁₅ = or-none (eqb t 15) _ (n₁₄ .1) in
       let n₁₆ = or-none (eqb t 16) _ (n₁₅ .1) in
-      simp (n₁ .0, n₂ .0, n₅ .0, n₇ .0, n₉ .0, n₁₀ .0, n₁₄ .0, n₁₅ .0, n₁₆ .0, no-role (roleIndex Default) (exporting .0), no-role (roleIndex Exported) (exporting .1), no-role (roleIndex ExportedName) (exporting .2), no-role (roleIndex Held) (exporting .3), no-role (roleIndex (Body 0)) (exporting .4), and-fails, add-zero)
+      simp (n₁ .0, n₂ .0, n₅ .0, n₇ .0, n₉ .0, n₁₀ .0, n₁₄ .0, n₁₅ .0, n₁₆ .0, no-role (roleIndex Default) (exporting .0), no-role (roleIndex Exported) (exporting .1), no-role (roleIndex ExportedName) (exporting .2), no-role (roleIndex Held) (exporting .3), no-role (roleIndex (Body 0)) (exporting .4), and-false, add-zero)
