@@ -12,7 +12,7 @@ ghost use lib.Seq.{sets};
 ghost use Rattle.meaning.specs.Numbers.Tag;
 ghost use Rattle.meaning.specs.Tree.{oneOf};
 ghost use Rattle.meaning.specs.File.{numbersOf, headBytes, fieldBytes, twoBytes};
-ghost use Rattle.meaning.specs.Grammar.{statements, expressions, allowed, two, number, fieldAt};
+ghost use Rattle.meaning.specs.Grammar.{statements, expressions, allowed, two, number, fieldOf, fieldAt};
 
 // ---- sizes in bytes
 
@@ -21,21 +21,37 @@ pub const TAG_BYTES: usize = 1;
 pub const NUMBER_BYTES: usize = 2;
 pub const HEAD_BYTES: usize = TAG_BYTES + NUMBER_BYTES;
 
-// Whole fields: the head, and as many numbers as the tag has.
-pub const SETTINGS_BYTES: usize = 7;
-pub const SCOPE_BYTES: usize = 7;
-pub const SYMBOL_BYTES: usize = 11;
-pub const DECLARATION_BYTES: usize = 7;
-pub const DECLARATOR_BYTES: usize = 9;
-pub const EXPRESSION_BYTES: usize = 7;
+// A field with so many numbers.
+const ONE_NUMBER: usize = HEAD_BYTES + NUMBER_BYTES;
+const TWO_NUMBERS: usize = ONE_NUMBER + NUMBER_BYTES;
+const THREE_NUMBERS: usize = TWO_NUMBERS + NUMBER_BYTES;
+const FOUR_NUMBERS: usize = THREE_NUMBERS + NUMBER_BYTES;
 
-// The largest field: four numbers.
-pub const MOST_FIELD_BYTES: usize = 11;
+// No field has more.
+pub const MOST_FIELD_BYTES: usize = FOUR_NUMBERS;
+
+// Fields by their tags; an export is a DefaultExport or an ExportedDeclaration, and a mention a Read or a Name.
+pub const SETTINGS_BYTES: usize = TWO_NUMBERS;
+pub const SCOPE_BYTES: usize = TWO_NUMBERS;
+pub const SYMBOL_BYTES: usize = FOUR_NUMBERS;
+pub const BLOCK_BYTES: usize = TWO_NUMBERS;
+pub const DECLARATION_BYTES: usize = TWO_NUMBERS;
+pub const DECLARATOR_BYTES: usize = THREE_NUMBERS;
+pub const TRY_BYTES: usize = TWO_NUMBERS;
+pub const CATCH_BYTES: usize = FOUR_NUMBERS;
+pub const MODULE_LINE_BYTES: usize = THREE_NUMBERS;
+pub const EXPORT_BYTES: usize = ONE_NUMBER;
+pub const SPECIFIER_BYTES: usize = TWO_NUMBERS;
+pub const EXPRESSION_BYTES: usize = TWO_NUMBERS;
+pub const MENTION_BYTES: usize = ONE_NUMBER;
+pub const CALL_BYTES: usize = THREE_NUMBERS;
+pub const LOAD_BYTES: usize = TWO_NUMBERS;
+pub const STEP_BYTES: usize = THREE_NUMBERS;
 
 // ---- bytes and fields
 
 // The byte at an offset, or 0 behind the end.
-pub fn byte(file: &[u8], at: usize) -> u8
+fn byte(file: &[u8], at: usize) -> u8
     ensures { λ r. ⌜ r ≡ getD (now (file .entry)) at 0 ⌝ }
 {
     if at < file.len() { file[at] } else { 0 }
@@ -125,6 +141,7 @@ pub fn bytes_of(tag: u16) -> u16
 
 // ---- which tags a place takes
 
+// A statement.
 fn is_statement(tag: u16) -> bool
     ensures { λ r. ⌜ r ≡ oneOf statements tag ⌝ }
 {
@@ -143,6 +160,7 @@ fn is_statement(tag: u16) -> bool
     }
 }
 
+// An expression.
 fn is_expression(tag: u16) -> bool
     ensures { λ r. ⌜ r ≡ oneOf expressions tag ⌝ }
 {
@@ -157,6 +175,7 @@ fn is_expression(tag: u16) -> bool
     }
 }
 
+// What may stand in Program.
 fn is_program_item(tag: u16) -> bool
     ensures { λ r. ⌜ r ≡ oneOf (Tag.Declaration ∷ Tag.ModuleLine ∷ Tag.DefaultExport ∷ Tag.ExportedDeclaration ∷ statements) tag ⌝ }
 {
@@ -169,6 +188,7 @@ fn is_program_item(tag: u16) -> bool
     }
 }
 
+// What may stand in a list of statements.
 fn is_list_item(tag: u16) -> bool
     ensures { λ r. ⌜ r ≡ oneOf (Tag.Declaration ∷ statements) tag ⌝ }
 {
@@ -178,6 +198,7 @@ fn is_list_item(tag: u16) -> bool
     }
 }
 
+// What may stand in a Plain.
 fn is_plain_item(tag: u16) -> bool
     ensures { λ r. ⌜ r ≡ oneOf (statements ++ expressions) tag ⌝ }
 {
@@ -197,6 +218,7 @@ fn is_left(tag: u16) -> bool
     }
 }
 
+// What may stand in a Class.
 fn is_class_item(tag: u16) -> bool
     ensures { λ r. ⌜ r ≡ oneOf (Tag.StaticBlock ∷ expressions) tag ⌝ }
 {
@@ -206,6 +228,7 @@ fn is_class_item(tag: u16) -> bool
     }
 }
 
+// What an ExportedDeclaration may export.
 fn is_exported(tag: u16) -> bool
     ensures { λ r. ⌜ r ≡ oneOf (Tag.Declaration ∷ Tag.Function ∷ Tag.Class ∷ []) tag ⌝ }
 {
@@ -287,6 +310,34 @@ fn field_at(file: &[u8], place: Place, at: usize) -> Reading
         d: read_number(file, at, len, 3),
         next: at + (HEAD_BYTES + NUMBER_BYTES * (len as usize)),
     })
+}
+
+// Number i of the field at an offset that may not be whole, or 0 where a field of its tag has no such number.
+fn number_of(file: &[u8], at: usize, len: u8, i: u8) -> u16
+    requires { ⌜ at ≤ 4000000000 ⌝ }
+    ensures { λ r. ⌜ r ≡ number (now (file .entry)) at len i ⌝ }
+{
+    if i < len {
+        return read_two(file, at + HEAD_BYTES + NUMBER_BYTES * (i as usize));
+    }
+    0
+}
+
+// The field at an offset, whatever stands there: nothing is checked, and a missing byte reads as 0.
+pub fn field_of(file: &[u8], at: usize) -> Field
+    requires { ⌜ at ≤ 4000000000 ⌝ }
+    ensures { λ r. ⌜ r ≡ fieldOf (now (file .entry)) at ⌝ }
+{
+    let tag = tag_at(file, at);
+    let len = numbers_of(tag);
+    Field {
+        tag: tag,
+        a: number_of(file, at, len, 0),
+        b: number_of(file, at, len, 1),
+        c: number_of(file, at, len, 2),
+        d: number_of(file, at, len, 3),
+        next: at + (HEAD_BYTES + NUMBER_BYTES * (len as usize)),
+    }
 }
 
 // ---- the file reader

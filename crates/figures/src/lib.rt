@@ -1,8 +1,20 @@
 // 01's figures of a tally: what the lowered file comes to.
 pub mod tally;
+use fields::BLOCK_BYTES;
+use fields::CALL_BYTES;
+use fields::CATCH_BYTES;
+use fields::DECLARATION_BYTES;
+use fields::DECLARATOR_BYTES;
+use fields::EXPORT_BYTES;
+use fields::LOAD_BYTES;
+use fields::MENTION_BYTES;
+use fields::MODULE_LINE_BYTES;
 use fields::SCOPE_BYTES;
 use fields::SETTINGS_BYTES;
+use fields::SPECIFIER_BYTES;
+use fields::STEP_BYTES;
 use fields::SYMBOL_BYTES;
+use fields::TRY_BYTES;
 use meaning::mode;
 use meaning::refusal;
 use tally::Tally;
@@ -49,21 +61,32 @@ const BLOCK_SCOPES: u64 = 3;
 const PART_SCOPES: u64 = 4;
 const CONTEXT_SYMBOLS: u64 = 2;
 
+// The bytes of the records that are made: of a var with one name; of a context, which is a Try with the context's declaration, a Catch
+// with a Step and a last Block with a Step; and of a Module line with a Specifier and a var, in place of an export.
+const VAR_BYTES: usize = DECLARATION_BYTES + DECLARATOR_BYTES + MENTION_BYTES;
+const CONTEXT_BYTES: usize = TRY_BYTES
+    + (VAR_BYTES + LOAD_BYTES)
+    + (CATCH_BYTES + MENTION_BYTES + BLOCK_BYTES + STEP_BYTES)
+    + (BLOCK_BYTES + STEP_BYTES);
+const NEW_EXPORT_BYTES: usize = MODULE_LINE_BYTES + SPECIFIER_BYTES + VAR_BYTES - EXPORT_BYTES;
+
 // The bytes of scope and symbol rows.
 const SCOPE: u64 = SCOPE_BYTES as u64;
 const SYMBOL: u64 = SYMBOL_BYTES as u64;
 
 // The bytes that each line adds: those of its records, its scopes and its symbols.
-const BLOCK_COST: u64 = 83 + SCOPE * BLOCK_SCOPES + SYMBOL * CONTEXT_SYMBOLS;
-const PART_COST: u64 = 90 + SCOPE * PART_SCOPES + SYMBOL * CONTEXT_SYMBOLS;
-const CALL_COST: u64 = 9;
-const FOR_OF_COST: u64 = 26 + SYMBOL;
-const FOR_OF_BLOCK_COST: u64 = 33 + SCOPE + SYMBOL;
-const PROGRAM_COST: u64 = 7 + SCOPE;
-const CLASS_COST: u64 = 21 + SYMBOL;
-const EXPORT_COST: u64 = 32 + SYMBOL;
-const LINE_COST: u64 = 4;
-const NAME_COST: u64 = 7;
+const BLOCK_COST: u64 = (CONTEXT_BYTES as u64) + SCOPE * BLOCK_SCOPES + SYMBOL * CONTEXT_SYMBOLS;
+const PART_COST: u64 = ((CONTEXT_BYTES + BLOCK_BYTES) as u64)
+    + SCOPE * PART_SCOPES
+    + SYMBOL * CONTEXT_SYMBOLS;
+const CALL_COST: u64 = CALL_BYTES as u64;
+const FOR_OF_COST: u64 = ((VAR_BYTES + MENTION_BYTES) as u64) + SYMBOL;
+const FOR_OF_BLOCK_COST: u64 = ((BLOCK_BYTES + VAR_BYTES + MENTION_BYTES) as u64) + SCOPE + SYMBOL;
+const PROGRAM_COST: u64 = (BLOCK_BYTES as u64) + SCOPE;
+const CLASS_COST: u64 = (VAR_BYTES as u64) + SYMBOL;
+const EXPORT_COST: u64 = (NEW_EXPORT_BYTES as u64) + SYMBOL;
+const LINE_COST: u64 = (MODULE_LINE_BYTES - EXPORT_BYTES) as u64;
+const NAME_COST: u64 = SPECIFIER_BYTES as u64;
 
 // ---- sums over the lines; each is far below the largest number
 

@@ -9,7 +9,7 @@ ghost use mathlib.Core.List.{List, [], _∷_};
 ghost use Prim.Native.Nat.{ℕ, _+_, _*_, _-_, _<_, _≤_};
 ghost use lib.ListN.{length};
 ghost use lib.Seq.{sets};
-ghost use Rattle.notation.specs.Notation.{Part, isDigit, isSpace, withDigit, numbered, fielded, dotted, after, limit, mayPart, mayStand, encoded, spelled};
+ghost use Rattle.notation.specs.Notation.{Part, digit0, isDigit, isSpace, withDigit, numbered, fielded, dotted, after, limit, mayPart, mayStand, encoded, spelled};
 ghost use Rattle.notation.specs.Spots.{spotAt, Reads};
 ghost use Rattle.notation.specs.Stored.{fileOf};
 
@@ -74,15 +74,15 @@ fn is_space(c: u8) -> bool
 
 // The value with one digit more.
 fn value_with(s: Spot, c: u8) -> u32
-    requires { ⌜ 48 ≤ c ⌝ }
-    ensures { λ r. ⌜ r ≡ s .value * 10 + (c - 48) ⌝ }
+    requires { ⌜ digit0 ≤ c ⌝ }
+    ensures { λ r. ⌜ r ≡ s .value * 10 + (c - digit0) ⌝ }
 {
     (s.value as u32) * 10 + ((c - b'0') as u32)
 }
 
 // Behind a digit.
 fn with_digit(s: Spot, c: u8) -> Spot
-    requires { ⌜ 48 ≤ c ⌝ }
+    requires { ⌜ digit0 ≤ c ⌝ }
     ensures { λ r. ⌜ ((p : Part) → Reads p s → Reads (withDigit c p) r) ⌝ }
     ensures { λ r. ⌜ r .at + 2 * r .count ≡ s .at + 2 * s .count ⌝ }
 {
@@ -269,6 +269,7 @@ pub fn encode(text: &[u8], file: &mut [u8]) -> usize
 
 // ---- from bytes to the notation
 
+// A byte as a number to print.
 fn wide(b: u8) -> u64 {
     b as u64
 }

@@ -6,6 +6,7 @@ use Prim.Native.Nat.{ℕ, zero, suc, _+_, _*_, _%_}
 use lib.ListN.{getD, take}
 use lib.Seq.{sets}
 use lib.Dec.{ltb}
+use Rattle.meaning.specs.Numbers.Tag
 use Rattle.meaning.specs.Tree.{if_then_else_}
 use Rattle.meaning.specs.File.{numbersOf, ownNumbers, twoBytes, field}
 use Rattle.tables.specs.Table.{rowF}
@@ -19,11 +20,11 @@ fieldWith t a b c d = field t (take (numbersOf t) (a ∷ b ∷ c ∷ d ∷ []))
 -- ---- rows
 
 unfoldable pub scopeBytes : List ℕ → ℕ → List ℕ
-scopeBytes t k = fieldWith 41 (getD t (k * 2) 0) (getD t (k * 2 + 1) 0) 0 0
+scopeBytes t k = fieldWith Tag.Scope (getD t (k * 2) 0) (getD t (k * 2 + 1) 0) 0 0
 
 unfoldable pub symbolBytes : List ℕ → ℕ → List ℕ
 symbolBytes t k =
-    fieldWith 42 (getD t (k * 5) 0) (getD t (k * 5 + 1) 0) (getD t (k * 5 + 2) 0) (getD t (k * 5 + 3) 0)
+    fieldWith Tag.Symbol (getD t (k * 5) 0) (getD t (k * 5 + 1) 0) (getD t (k * 5 + 2) 0) (getD t (k * 5 + 3) 0)
 
 -- a record's own number, or n behind them
 unfoldable pub ownOr : ℕ → ℕ → ℕ → ℕ → ℕ
@@ -70,7 +71,7 @@ numbersOver h at l r o =
 unfoldable pub fileBytes : List ℕ → List ℕ → List ℕ → Walk → List ℕ
 fileBytes r s y w =
     let x = w .ctx in
-    fieldWith 40 (x .mode) (x .esm) 0 0
+    fieldWith Tag.Settings (x .mode) (x .esm) 0 0
     ++ (rowsBytes (scopeBytes s) 0 (x .scopes)
     ++ (rowsBytes (symbolBytes y) 0 (x .symbols)
     ++ rowsBytes (recordAt r) 0 (w .visited .0)))
