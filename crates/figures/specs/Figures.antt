@@ -15,6 +15,10 @@ use Rattle.figures.specs.declared.FinalFigures.{FinalFigures}
 use Rattle.figures.specs.declared.Figured.{Figured}
 use Rattle.figures.specs.declared.Figured.the-variants.{Fine, Refused}
 
+-- no part of a sum is larger: a counter has 32 bits, and few are added
+abbrev pub mostPart : ℕ
+mostPart = 2000000000000
+
 -- the runtime helper, once, if there is a context
 unfoldable pub helperF : ℕ → ℕ → ℕ
 helperF mode contexts = if eqb mode Mode.Runtime && not (eqb contexts 0) then 1 else 0

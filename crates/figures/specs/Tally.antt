@@ -306,6 +306,34 @@ tallyOf asRead ups k (more h kids r) =
 
 -- ---- 01's figures of a tally
 
+-- the rows that each line adds
+abbrev pub blockRecords : ℕ
+blockRecords = 11
+
+abbrev pub partRecords : ℕ
+partRecords = 12
+
+abbrev pub forOfRecords : ℕ
+forOfRecords = 4
+
+abbrev pub forOfBlockRecords : ℕ
+forOfBlockRecords = 5
+
+abbrev pub classRecords : ℕ
+classRecords = 3
+
+abbrev pub exportRecords : ℕ
+exportRecords = 4
+
+abbrev pub blockScopes : ℕ
+blockScopes = 3
+
+abbrev pub partScopes : ℕ
+partScopes = 4
+
+abbrev pub contextSymbols : ℕ
+contextSymbols = 2
+
 -- the bytes that each line adds, with those of its scopes and symbols
 abbrev pub blockCost : ℕ
 blockCost = 126
@@ -329,6 +357,15 @@ abbrev pub exportCost : ℕ
 exportCost = 43
 
 -- THEY ARE what 01 charges.
+pub rows-charged
+    : (blockRecords ≡ lineCharge (context ofBlock) .records) × (partRecords ≡ lineCharge (context ofBody) .records)
+    × (forOfRecords ≡ lineCharge forOf .records) × (forOfBlockRecords ≡ lineCharge forOfBlock .records)
+    × (classRecords ≡ lineCharge topLevelClass .records) × (exportRecords ≡ lineCharge exportedClass .records)
+    × (blockScopes ≡ lineCharge (context ofBlock) .scopes) × (partScopes ≡ lineCharge (context ofBody) .scopes)
+    × (contextSymbols ≡ lineCharge (context ofBlock) .symbols) × (contextSymbols ≡ lineCharge (context ofBody) .symbols)
+unfolding lineCharge contextCharge
+rows-charged = (refl, refl, refl, refl, refl, refl, refl, refl, refl, refl)
+
 pub costs-charged
     : (blockCost ≡ lineCharge (context ofBlock) .bytes) × (partCost ≡ lineCharge (context ofBody) .bytes)
     × (forOfCost ≡ lineCharge forOf .bytes) × (forOfBlockCost ≡ lineCharge forOfBlock .bytes)
@@ -340,10 +377,10 @@ costs-charged = (refl, refl, refl, refl, refl, refl, refl)
 unfoldable pub tallyFigures : Tally → Figures
 tallyFigures t =
     figures
-    (t .records + 11 * t .blocks + 12 * t .parts + t .wrapped + 4 * t .«for_ofs» + 5 * t .«for_of_blocks» + t .programs
-    + 3 * t .classes + 4 * t .exports + t .names)
-    (3 * t .blocks + 4 * t .parts + t .«for_of_blocks» + t .programs)
-    (2 * t .blocks + 2 * t .parts + t .«for_ofs» + t .«for_of_blocks» + t .classes + t .exports)
+    (t .records + blockRecords * t .blocks + partRecords * t .parts + t .wrapped + forOfRecords * t .«for_ofs»
+    + forOfBlockRecords * t .«for_of_blocks» + t .programs + classRecords * t .classes + exportRecords * t .exports + t .names)
+    (blockScopes * t .blocks + partScopes * t .parts + t .«for_of_blocks» + t .programs)
+    (contextSymbols * t .blocks + contextSymbols * t .parts + t .«for_ofs» + t .«for_of_blocks» + t .classes + t .exports)
     (t .blocks + t .parts)
     (t .bytes + blockCost * t .blocks + partCost * t .parts + callBytes * t .wrapped + forOfCost * t .«for_ofs»
     + forOfBlockCost * t .«for_of_blocks» + programCost * t .programs + classCost * t .classes + exportCost * t .exports

@@ -24,8 +24,8 @@ ghost use Prim.Native.Nat.{_+_, _*_, _≤_};
 ghost use lib.Dec.{eqb, leb};
 ghost use Rattle.meaning.specs.Numbers.Mode;
 ghost use Rattle.meaning.specs.Charges.{callBytes, lineBytes, specifierBytes};
-ghost use Rattle.figures.specs.Tally.{blockCost, partCost, forOfCost, forOfBlockCost, programCost, classCost, exportCost};
-ghost use Rattle.figures.specs.Figures.{helperF, finalF, figuredF};
+ghost use Rattle.figures.specs.Tally.{blockRecords, partRecords, forOfRecords, forOfBlockRecords, classRecords, exportRecords, blockScopes, partScopes, contextSymbols, blockCost, partCost, forOfCost, forOfBlockCost, programCost, classCost, exportCost};
+ghost use Rattle.figures.specs.Figures.{mostPart, helperF, finalF, figuredF};
 
 // Records, scopes and symbols of the lowered file, contexts made, and its length in bytes.
 pub struct FinalFigures {
@@ -93,15 +93,15 @@ const NAME_COST: u64 = SPECIFIER_BYTES as u64;
 // All contexts.
 fn contexts_of(t: Tally) -> u64
     ensures value { λ r. ⌜ r ≡ t .blocks + t .parts ⌝ }
-    ensures bound { λ r. ⌜ r ≤ 8589934590 ⌝ }
+    ensures bound { λ r. ⌜ r ≤ mostPart ⌝ }
 {
     (t.blocks as u64) + (t.parts as u64)
 }
 
 // Records read, and those of contexts.
 fn context_records(t: Tally) -> u64
-    ensures value { λ r. ⌜ r ≡ t .records + 11 * t .blocks + 12 * t .parts + t .wrapped ⌝ }
-    ensures bound { λ r. ⌜ r ≤ 107374182375 ⌝ }
+    ensures value { λ r. ⌜ r ≡ t .records + blockRecords * t .blocks + partRecords * t .parts + t .wrapped ⌝ }
+    ensures bound { λ r. ⌜ r ≤ mostPart ⌝ }
 {
     (t.records as u64)
         + BLOCK_RECORDS * (t.blocks as u64)
@@ -111,8 +111,8 @@ fn context_records(t: Tally) -> u64
 
 // Records of ForOfs and of Program's new Block.
 fn for_of_records(t: Tally) -> u64
-    ensures value { λ r. ⌜ r ≡ 4 * t .«for_ofs» + 5 * t .«for_of_blocks» + t .programs ⌝ }
-    ensures bound { λ r. ⌜ r ≤ 42949672950 ⌝ }
+    ensures value { λ r. ⌜ r ≡ forOfRecords * t .«for_ofs» + forOfBlockRecords * t .«for_of_blocks» + t .programs ⌝ }
+    ensures bound { λ r. ⌜ r ≤ mostPart ⌝ }
 {
     FOR_OF_RECORDS * (t.for_ofs as u64)
         + FOR_OF_BLOCK_RECORDS * (t.for_of_blocks as u64)
@@ -121,16 +121,16 @@ fn for_of_records(t: Tally) -> u64
 
 // Records of Program's items.
 fn item_records(t: Tally) -> u64
-    ensures value { λ r. ⌜ r ≡ 3 * t .classes + 4 * t .exports + t .names ⌝ }
-    ensures bound { λ r. ⌜ r ≤ 34359738360 ⌝ }
+    ensures value { λ r. ⌜ r ≡ classRecords * t .classes + exportRecords * t .exports + t .names ⌝ }
+    ensures bound { λ r. ⌜ r ≤ mostPart ⌝ }
 {
     CLASS_RECORDS * (t.classes as u64) + EXPORT_RECORDS * (t.exports as u64) + (t.names as u64)
 }
 
 // Scopes of contexts, of ForOfs and of Program's new Block.
 fn new_scopes(t: Tally) -> u64
-    ensures value { λ r. ⌜ r ≡ 3 * t .blocks + 4 * t .parts + t .«for_of_blocks» + t .programs ⌝ }
-    ensures bound { λ r. ⌜ r ≤ 38654705655 ⌝ }
+    ensures value { λ r. ⌜ r ≡ blockScopes * t .blocks + partScopes * t .parts + t .«for_of_blocks» + t .programs ⌝ }
+    ensures bound { λ r. ⌜ r ≤ mostPart ⌝ }
 {
     BLOCK_SCOPES * (t.blocks as u64)
         + PART_SCOPES * (t.parts as u64)
@@ -140,8 +140,8 @@ fn new_scopes(t: Tally) -> u64
 
 // Symbols of contexts, and of ForOfs whose using goes into the body.
 fn context_symbols(t: Tally) -> u64
-    ensures value { λ r. ⌜ r ≡ 2 * t .blocks + 2 * t .parts + t .«for_ofs» ⌝ }
-    ensures bound { λ r. ⌜ r ≤ 21474836475 ⌝ }
+    ensures value { λ r. ⌜ r ≡ contextSymbols * t .blocks + contextSymbols * t .parts + t .«for_ofs» ⌝ }
+    ensures bound { λ r. ⌜ r ≤ mostPart ⌝ }
 {
     CONTEXT_SYMBOLS * (t.blocks as u64)
         + CONTEXT_SYMBOLS * (t.parts as u64)
@@ -151,7 +151,7 @@ fn context_symbols(t: Tally) -> u64
 // Symbols of other ForOfs, and of Program's items.
 fn item_symbols(t: Tally) -> u64
     ensures value { λ r. ⌜ r ≡ t .«for_of_blocks» + t .classes + t .exports ⌝ }
-    ensures bound { λ r. ⌜ r ≤ 12884901885 ⌝ }
+    ensures bound { λ r. ⌜ r ≤ mostPart ⌝ }
 {
     (t.for_of_blocks as u64) + (t.classes as u64) + (t.exports as u64)
 }
@@ -159,7 +159,7 @@ fn item_symbols(t: Tally) -> u64
 // Bytes of the records read, and of contexts.
 fn context_bytes(t: Tally) -> u64
     ensures value { λ r. ⌜ r ≡ t .bytes + blockCost * t .blocks + partCost * t .parts + callBytes * t .wrapped ⌝ }
-    ensures bound { λ r. ⌜ r ≤ 1185410973420 ⌝ }
+    ensures bound { λ r. ⌜ r ≤ mostPart ⌝ }
 {
     (t.bytes as u64)
         + BLOCK_COST * (t.blocks as u64)
@@ -170,7 +170,7 @@ fn context_bytes(t: Tally) -> u64
 // Bytes of ForOfs and of Program's new Block.
 fn for_of_bytes(t: Tally) -> u64
     ensures value { λ r. ⌜ r ≡ forOfCost * t .«for_ofs» + forOfBlockCost * t .«for_of_blocks» + programCost * t .programs ⌝ }
-    ensures bound { λ r. ⌜ r ≤ 438086664090 ⌝ }
+    ensures bound { λ r. ⌜ r ≤ mostPart ⌝ }
 {
     FOR_OF_COST * (t.for_ofs as u64)
         + FOR_OF_BLOCK_COST * (t.for_of_blocks as u64)
@@ -180,7 +180,7 @@ fn for_of_bytes(t: Tally) -> u64
 // Bytes of Program's items.
 fn item_bytes(t: Tally) -> u64
     ensures value { λ r. ⌜ r ≡ classCost * t .classes + exportCost * t .exports + lineBytes * t .declarations + specifierBytes * t .names ⌝ }
-    ensures bound { λ r. ⌜ r ≤ 369367187370 ⌝ }
+    ensures bound { λ r. ⌜ r ≤ mostPart ⌝ }
 {
     CLASS_COST * (t.classes as u64)
         + EXPORT_COST * (t.exports as u64)

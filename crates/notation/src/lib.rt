@@ -9,6 +9,7 @@ ghost use mathlib.Core.List.{List, [], _∷_};
 ghost use Prim.Native.Nat.{ℕ, _+_, _*_, _-_, _<_, _≤_};
 ghost use lib.ListN.{length};
 ghost use lib.Seq.{sets};
+ghost use Rattle.meaning.specs.File.{headBytes};
 ghost use Rattle.notation.specs.Notation.{Part, digit0, isDigit, isSpace, withDigit, numbered, fielded, dotted, after, limit, mayPart, mayStand, encoded, spelled};
 ghost use Rattle.notation.specs.Spots.{spotAt, Reads};
 ghost use Rattle.notation.specs.Stored.{fileOf};
@@ -289,7 +290,7 @@ fn show_gap(fd: i32, at: usize) {
 
 // The place behind the field at a place; the place itself if no whole field stands there: it is cut, or its length is odd.
 fn field_end(file: &[u8], at: usize) -> usize
-    ensures { λ r. ⌜ (at < r → (at + 3 ≤ r) × (r ≤ length (now (file .entry)))) ⌝ }
+    ensures { λ r. ⌜ (at < r → (at + headBytes ≤ r) × (r ≤ length (now (file .entry)))) ⌝ }
 {
     if file.len() < HEAD_BYTES {
         return at;
@@ -325,7 +326,7 @@ fn show_numbers(fd: i32, file: &[u8], first: usize, count: usize)
 
 // The field from a place to another.
 fn show_field(fd: i32, file: &[u8], at: usize, end: usize)
-    requires { ⌜ (at + 3 ≤ end) × (end ≤ length (now file)) ⌝ }
+    requires { ⌜ (at + headBytes ≤ end) × (end ≤ length (now file)) ⌝ }
 {
     show_gap(fd, at);
     io::print_decimal(fd, wide(file[at]));

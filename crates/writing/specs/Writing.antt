@@ -13,6 +13,20 @@ use Rattle.tables.specs.Table.{rowF}
 use Rattle.tables.specs.declared.Row.{Row}
 use Rattle.path.specs.declared.Walk.{Walk}
 
+-- A field has at most so many bytes. The settings and 65,535 fields of each kind: the symbol rows begin at the first of these offsets at
+-- most, the records at the second, and every field at the third.
+abbrev pub mostBytes : ℕ
+mostBytes = 11
+
+abbrev pub mostFirst : ℕ
+mostFirst = 500000
+
+abbrev pub mostTree : ℕ
+mostTree = 1500000
+
+abbrev pub mostOffset : ℕ
+mostOffset = 2500000
+
 -- a field with as many of these numbers as its tag has
 unfoldable pub fieldWith : ℕ → ℕ → ℕ → ℕ → ℕ → List ℕ
 fieldWith t a b c d = field t (take (numbersOf t) (a ∷ b ∷ c ∷ d ∷ []))

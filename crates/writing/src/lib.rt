@@ -1,7 +1,6 @@
 // The file in the tables, written to the lent output.
 //
-// Bytes go to an offset; past the end of the output nothing is stored. An offset is at most 65,535 fields of 11 bytes for each kind of row,
-// and the settings.
+// Bytes go to an offset; past the end of the output nothing is stored.
 use fields::HEAD_BYTES;
 use fields::MOST_FIELD_BYTES;
 use fields::NUMBER_BYTES;
@@ -20,8 +19,8 @@ ghost use lib.Dec.{ltb};
 ghost use lib.ListN.{length, set};
 ghost use lib.Seq.{sets};
 ghost use Rattle.meaning.specs.Tree.{if_then_else_};
-ghost use Rattle.meaning.specs.File.{twoBytes};
-ghost use Rattle.writing.specs.Writing.{fieldWith, ownOr, scopeBytes, symbolBytes, recordBytes, rowsBytes, recordAt, fileBytes, lesserOf, pickOf, lastOf, numbersOver};
+ghost use Rattle.meaning.specs.File.{headBytes, settingsBytes, twoBytes};
+ghost use Rattle.writing.specs.Writing.{mostBytes, mostFirst, mostTree, mostOffset, fieldWith, ownOr, scopeBytes, symbolBytes, recordBytes, rowsBytes, recordAt, fileBytes, lesserOf, pickOf, lastOf, numbersOver};
 
 // The numbers of a scope row and of a symbol row in the lent tables.
 const SCOPE_NUMBERS: usize = 2;
@@ -35,8 +34,8 @@ const THIRD_AT: usize = SECOND_AT + NUMBER_BYTES;
 
 // Number i of the field at an offset, if it has as many.
 fn put_number(out: &mut [u8], at: usize, count: u8, i: u8, v: u16)
-    requires { ⌜ at ≤ 2500000 ⌝ }
-    ensures { λ _. ⌜ now (out .exit) ≡ (if ltb i count then sets (now (out .entry)) (at + 3 + 2 * i) (twoBytes (v ∷ [])) else now (out .entry)) ⌝ }
+    requires { ⌜ at ≤ mostOffset ⌝ }
+    ensures { λ _. ⌜ now (out .exit) ≡ (if ltb i count then sets (now (out .entry)) (at + headBytes + 2 * i) (twoBytes (v ∷ [])) else now (out .entry)) ⌝ }
 {
     if i < count {
         fields::put_two(out, at + HEAD_BYTES + NUMBER_BYTES * (i as usize), v);
@@ -45,7 +44,7 @@ fn put_number(out: &mut [u8], at: usize, count: u8, i: u8, v: u16)
 
 // A field with as many of these numbers as its tag has.
 fn put_field(out: &mut [u8], at: usize, tag: u16, a: u16, b: u16, c: u16, d: u16)
-    requires { ⌜ (at ≤ 2500000) × (tag ≤ 255) ⌝ }
+    requires { ⌜ (at ≤ mostOffset) × (tag ≤ 255) ⌝ }
     ensures { λ _. ⌜ now (out .exit) ≡ sets (now (out .entry)) at (fieldWith tag a b c d) ⌝ }
 {
     let count = fields::numbers_of(tag);
@@ -61,7 +60,7 @@ fn put_field(out: &mut [u8], at: usize, tag: u16, a: u16, b: u16, c: u16, d: u16
 
 // The scope rows, behind the settings.
 fn put_scopes(out: &mut [u8], scopes: &[u16], count: u16)
-    ensures { λ _. ⌜ now (out .exit) ≡ sets (now (out .entry)) 7 (rowsBytes (scopeBytes (now (scopes .entry))) 0 count) ⌝ }
+    ensures { λ _. ⌜ now (out .exit) ≡ sets (now (out .entry)) settingsBytes (rowsBytes (scopeBytes (now (scopes .entry))) 0 count) ⌝ }
 {
     let mut k: u16 = 0;
     while k < count {
@@ -81,7 +80,7 @@ fn put_scopes(out: &mut [u8], scopes: &[u16], count: u16)
 
 // Symbol row k, counted from 0.
 fn put_symbol(out: &mut [u8], to: usize, symbols: &[u16], k: u16)
-    requires { ⌜ to ≤ 2500000 ⌝ }
+    requires { ⌜ to ≤ mostOffset ⌝ }
     ensures { λ _. ⌜ now (out .exit) ≡ sets (now (out .entry)) to (symbolBytes (now (symbols .entry)) k) ⌝ }
 {
     let at = (k as usize) * SYMBOL_NUMBERS;
@@ -101,7 +100,7 @@ fn put_symbol(out: &mut [u8], to: usize, symbols: &[u16], k: u16)
 
 // The symbol rows, from an offset on.
 fn put_symbols(out: &mut [u8], first: usize, symbols: &[u16], count: u16)
-    requires { ⌜ first ≤ 500000 ⌝ }
+    requires { ⌜ first ≤ mostFirst ⌝ }
     ensures { λ _. ⌜ now (out .exit) ≡ sets (now (out .entry)) first (rowsBytes (symbolBytes (now (symbols .entry))) 0 count) ⌝ }
 {
     let mut k: u16 = 0;
@@ -122,7 +121,7 @@ fn own_or(own: u8, i: u8, v: u16, n: u16) -> u16
 
 // A record at an offset where it may not fit; the offset behind it.
 fn put_record(out: &mut [u8], at: usize, r: Row) -> usize
-    requires { ⌜ at ≤ 2500000 ⌝ }
+    requires { ⌜ at ≤ mostOffset ⌝ }
     ensures bytes { λ _. ⌜ now (out .exit) ≡ sets (now (out .entry)) at (recordBytes r) ⌝ }
     ensures next { λ e. ⌜ e ≡ at + length (recordBytes r) ⌝ }
 {
@@ -143,7 +142,7 @@ fn put_record(out: &mut [u8], at: usize, r: Row) -> usize
 
 // The records from a row on, where they may not fit.
 fn put_rest(out: &mut [u8], first: usize, records: &[u16], from: u16, count: u16)
-    requires { ⌜ first ≤ 1500000 + 11 * from ⌝ }
+    requires { ⌜ first ≤ mostTree + mostBytes * from ⌝ }
     ensures { λ _. ⌜ now (out .exit) ≡ sets (now (out .entry)) first (rowsBytes (recordAt (now (records .entry))) from (count - from)) ⌝ }
 {
     let mut at = first;
@@ -170,7 +169,7 @@ fn put_two_at(out: &mut [u8], at: usize, v: u16)
 
 // A tag, and the length of so many numbers.
 fn put_head(out: &mut [u8], at: usize, tag: u16, count: u8)
-    requires { ⌜ (tag ≤ 255) × (count ≤ 4) × (at + 3 ≤ length (now out)) ⌝ }
+    requires { ⌜ (tag ≤ 255) × (count ≤ 4) × (at + headBytes ≤ length (now out)) ⌝ }
     ensures { λ _. ⌜ now (out .exit) ≡ sets (set (now (out .entry)) at tag) (at + 1) (twoBytes (2 * count ∷ [])) ⌝ }
 {
     out[at] = tag as u8;
@@ -202,7 +201,7 @@ fn either(test: bool, v: u16, w: u16) -> u16
 
 // The last number of a record, which goes to the offset `last`.
 fn last_number(at: usize, last: usize, children: bool, r: Row) -> u16
-    requires { ⌜ at ≤ 2500000 ⌝ }
+    requires { ⌜ at ≤ mostOffset ⌝ }
     ensures { λ v. ⌜ v ≡ lastOf children at last r ⌝ }
 {
     let n = r.n;
@@ -213,7 +212,7 @@ fn last_number(at: usize, last: usize, children: bool, r: Row) -> u16
 
 // The numbers of a record, of which the last goes to the offset `last`. A number behind it is stored there too, and the last one over it.
 fn put_numbers(out: &mut [u8], at: usize, last: usize, children: bool, r: Row)
-    requires { ⌜ (at ≤ 2500000) × (at + 3 ≤ last) × (last + 2 ≤ length (now out)) ⌝ }
+    requires { ⌜ (at ≤ mostOffset) × (at + headBytes ≤ last) × (last + 2 ≤ length (now out)) ⌝ }
     ensures { λ _. ⌜ now (out .exit) ≡ numbersOver children at last r (now (out .entry)) ⌝ }
 {
     put_two_at(out, at + HEAD_BYTES, r.a);
@@ -224,7 +223,7 @@ fn put_numbers(out: &mut [u8], at: usize, last: usize, children: bool, r: Row)
 
 // A record at an offset; the offset behind it.
 fn put_whole(out: &mut [u8], at: usize, r: Row) -> usize
-    requires { ⌜ (at ≤ 2500000) × (at + 11 ≤ length (now out)) ⌝ }
+    requires { ⌜ (at ≤ mostOffset) × (at + mostBytes ≤ length (now out)) ⌝ }
     ensures bytes { λ _. ⌜ now (out .exit) ≡ sets (now (out .entry)) at (recordBytes r) ⌝ }
     ensures next { λ e. ⌜ e ≡ at + length (recordBytes r) ⌝ }
 {
@@ -241,7 +240,7 @@ fn put_whole(out: &mut [u8], at: usize, r: Row) -> usize
 
 // All records, the last of them where they may not fit.
 fn put_records(out: &mut [u8], tree: usize, records: &[u16], count: u16)
-    requires { ⌜ tree ≤ 1500000 ⌝ }
+    requires { ⌜ tree ≤ mostTree ⌝ }
     ensures { λ _. ⌜ now (out .exit) ≡ sets (now (out .entry)) tree (rowsBytes (recordAt (now (records .entry))) 0 count) ⌝ }
 {
     let mut at = tree;
