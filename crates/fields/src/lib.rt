@@ -18,34 +18,54 @@ ghost use Rattle.meaning.specs.Grammar.{statements, expressions, allowed, two, 
 
 // A field: its tag, then the length of its numbers and the numbers themselves.
 pub const TAG_BYTES: usize = 1;
+
 pub const NUMBER_BYTES: usize = 2;
+
 pub const HEAD_BYTES: usize = TAG_BYTES + NUMBER_BYTES;
 
 // A field with so many numbers.
 const ONE_NUMBER: usize = HEAD_BYTES + NUMBER_BYTES;
+
 const TWO_NUMBERS: usize = ONE_NUMBER + NUMBER_BYTES;
+
 const THREE_NUMBERS: usize = TWO_NUMBERS + NUMBER_BYTES;
+
 const FOUR_NUMBERS: usize = THREE_NUMBERS + NUMBER_BYTES;
 
-// No field has more.
+// The largest field.
 pub const MOST_FIELD_BYTES: usize = FOUR_NUMBERS;
 
 // Fields by their tags; an export is a DefaultExport or an ExportedDeclaration, and a mention a Read or a Name.
 pub const SETTINGS_BYTES: usize = TWO_NUMBERS;
+
 pub const SCOPE_BYTES: usize = TWO_NUMBERS;
+
 pub const SYMBOL_BYTES: usize = FOUR_NUMBERS;
+
 pub const BLOCK_BYTES: usize = TWO_NUMBERS;
+
 pub const DECLARATION_BYTES: usize = TWO_NUMBERS;
+
 pub const DECLARATOR_BYTES: usize = THREE_NUMBERS;
+
 pub const TRY_BYTES: usize = TWO_NUMBERS;
+
 pub const CATCH_BYTES: usize = FOUR_NUMBERS;
+
 pub const MODULE_LINE_BYTES: usize = THREE_NUMBERS;
+
 pub const EXPORT_BYTES: usize = ONE_NUMBER;
+
 pub const SPECIFIER_BYTES: usize = TWO_NUMBERS;
+
 pub const EXPRESSION_BYTES: usize = TWO_NUMBERS;
+
 pub const MENTION_BYTES: usize = ONE_NUMBER;
+
 pub const CALL_BYTES: usize = THREE_NUMBERS;
+
 pub const LOAD_BYTES: usize = TWO_NUMBERS;
+
 pub const STEP_BYTES: usize = THREE_NUMBERS;
 
 // ---- bytes and fields
@@ -120,12 +140,7 @@ pub fn numbers_of(tag: u16) -> u8
         | tag::LOAD
         | tag::SETTINGS => 2,
         tag::BLOCK | tag::DECLARATION | tag::CASE | tag::SCOPE => 2,
-        tag::PLAIN
-        | tag::DECLARATOR
-        | tag::FOR_OF
-        | tag::MODULE_LINE
-        | tag::CALL
-        | tag::STEP => 3,
+        tag::PLAIN | tag::DECLARATOR | tag::FOR_OF | tag::MODULE_LINE | tag::CALL | tag::STEP => 3,
         tag::CATCH | tag::CLASS | tag::SYMBOL => 4,
         tag::FUNCTION => 4,
         _ => 0,
@@ -165,12 +180,7 @@ fn is_expression(tag: u16) -> bool
     ensures { λ r. ⌜ r ≡ oneOf expressions tag ⌝ }
 {
     match tag {
-        tag::FUNCTION
-        | tag::CLASS
-        | tag::EXPRESSION
-        | tag::READ
-        | tag::CALL
-        | tag::LOAD => true,
+        tag::FUNCTION | tag::CLASS | tag::EXPRESSION | tag::READ | tag::CALL | tag::LOAD => true,
         _ => false,
     }
 }
@@ -180,10 +190,8 @@ fn is_program_item(tag: u16) -> bool
     ensures { λ r. ⌜ r ≡ oneOf (Tag.Declaration ∷ Tag.ModuleLine ∷ Tag.DefaultExport ∷ Tag.ExportedDeclaration ∷ statements) tag ⌝ }
 {
     match tag {
-        tag::DECLARATION
-        | tag::MODULE_LINE
-        | tag::DEFAULT_EXPORT
-        | tag::EXPORTED_DECLARATION => true,
+        tag::DECLARATION | tag::MODULE_LINE | tag::DEFAULT_EXPORT | tag::EXPORTED_DECLARATION =>
+            true,
         _ => is_statement(tag),
     }
 }

@@ -1,5 +1,6 @@
 // 01's figures of a tally: what the lowered file comes to.
 pub mod tally;
+
 use fields::BLOCK_BYTES;
 use fields::CALL_BYTES;
 use fields::CATCH_BYTES;
@@ -46,46 +47,63 @@ pub enum Figured {
 
 // The records of a context: a Block statement's, and another record's, which has a Block more around its list.
 const BLOCK_RECORDS: u64 = 11;
+
 const PART_RECORDS: u64 = 12;
 
-// Those of a ForOf whose using goes into its body, and of one whose body gets a Block.
+// The records of a ForOf whose using goes into its body, and of one whose body gets a Block.
 const FOR_OF_RECORDS: u64 = 4;
+
 const FOR_OF_BLOCK_RECORDS: u64 = 5;
 
-// Those of a class of Program, and of an exported one or a default export.
+// The records of a class of Program, and of an exported one or a default export.
 const CLASS_RECORDS: u64 = 3;
+
 const EXPORT_RECORDS: u64 = 4;
 
 // The scopes and symbols of a context.
 const BLOCK_SCOPES: u64 = 3;
+
 const PART_SCOPES: u64 = 4;
+
 const CONTEXT_SYMBOLS: u64 = 2;
 
 // The bytes of the records that are made: of a var with one name; of a context, which is a Try with the context's declaration, a Catch
 // with a Step and a last Block with a Step; and of a Module line with a Specifier and a var, in place of an export.
 const VAR_BYTES: usize = DECLARATION_BYTES + DECLARATOR_BYTES + MENTION_BYTES;
+
 const CONTEXT_BYTES: usize = TRY_BYTES
     + (VAR_BYTES + LOAD_BYTES)
     + (CATCH_BYTES + MENTION_BYTES + BLOCK_BYTES + STEP_BYTES)
     + (BLOCK_BYTES + STEP_BYTES);
+
 const NEW_EXPORT_BYTES: usize = MODULE_LINE_BYTES + SPECIFIER_BYTES + VAR_BYTES - EXPORT_BYTES;
 
 // The bytes of scope and symbol rows.
 const SCOPE: u64 = SCOPE_BYTES as u64;
+
 const SYMBOL: u64 = SYMBOL_BYTES as u64;
 
 // The bytes that each line adds: those of its records, its scopes and its symbols.
 const BLOCK_COST: u64 = (CONTEXT_BYTES as u64) + SCOPE * BLOCK_SCOPES + SYMBOL * CONTEXT_SYMBOLS;
+
 const PART_COST: u64 = ((CONTEXT_BYTES + BLOCK_BYTES) as u64)
     + SCOPE * PART_SCOPES
     + SYMBOL * CONTEXT_SYMBOLS;
+
 const CALL_COST: u64 = CALL_BYTES as u64;
+
 const FOR_OF_COST: u64 = ((VAR_BYTES + MENTION_BYTES) as u64) + SYMBOL;
+
 const FOR_OF_BLOCK_COST: u64 = ((BLOCK_BYTES + VAR_BYTES + MENTION_BYTES) as u64) + SCOPE + SYMBOL;
+
 const PROGRAM_COST: u64 = (BLOCK_BYTES as u64) + SCOPE;
+
 const CLASS_COST: u64 = (VAR_BYTES as u64) + SYMBOL;
+
 const EXPORT_COST: u64 = (NEW_EXPORT_BYTES as u64) + SYMBOL;
+
 const LINE_COST: u64 = (MODULE_LINE_BYTES - EXPORT_BYTES) as u64;
+
 const NAME_COST: u64 = SPECIFIER_BYTES as u64;
 
 // ---- sums over the lines; each is far below the largest number
@@ -143,9 +161,7 @@ fn context_symbols(t: Tally) -> u64
     ensures value { λ r. ⌜ r ≡ contextSymbols * t .blocks + contextSymbols * t .parts + t .«for_ofs» ⌝ }
     ensures bound { λ r. ⌜ r ≤ mostPart ⌝ }
 {
-    CONTEXT_SYMBOLS * (t.blocks as u64)
-        + CONTEXT_SYMBOLS * (t.parts as u64)
-        + (t.for_ofs as u64)
+    CONTEXT_SYMBOLS * (t.blocks as u64) + CONTEXT_SYMBOLS * (t.parts as u64) + (t.for_ofs as u64)
 }
 
 // Symbols of other ForOfs, and of Program's items.

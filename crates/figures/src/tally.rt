@@ -30,12 +30,16 @@ ghost use Rattle.figures.specs.Tally.{roleIndex, isRole, roleOf, bodyRol
 
 // Where the numbers of a ForOf's using stand, from its Declaration on: its kind, its Declarator's pattern, and its Name's symbol.
 const KIND_AT: usize = HEAD_BYTES;
+
 const PATTERN_AT: usize = DECLARATION_BYTES + HEAD_BYTES;
+
 const SYMBOL_AT: usize = DECLARATION_BYTES + DECLARATOR_BYTES + HEAD_BYTES;
 
 // Which number of a symbol row: its name, its scope, and whether it was made.
 const NAME: u8 = 0;
+
 const SCOPE: u8 = 2;
+
 const MADE: u8 = 3;
 
 // Counters stop at the largest number of 32 bits.
@@ -231,9 +235,7 @@ fn row_number(file: &[u8], at: u32, i: u16, j: u8) -> u16
 {
     fields::read_two(
         file,
-        (at as usize)
-            + SYMBOL_BYTES * (i as usize)
-            + (HEAD_BYTES + NUMBER_BYTES * (j as usize)),
+        (at as usize) + SYMBOL_BYTES * (i as usize) + (HEAD_BYTES + NUMBER_BYTES * (j as usize)),
     )
 }
 
@@ -505,7 +507,11 @@ fn wraps_of(role: Role, x: Field, kids: Tally) -> u32
     ensures { λ r. ⌜ r ≡ capped ((if eqb (x .tag) Tag.Declaration then kids .wraps else 0)
         + oneIf (isRole role Role.Held && eqb (x .tag) Tag.Declarator && ltb (headOf x .b) (childrenOf x))) ⌝ }
 {
-    plus_if(number_if(x.tag == tag::DECLARATION, kids.wraps), has_initializer(role, x), 1)
+    plus_if(
+        number_if(x.tag == tag::DECLARATION, kids.wraps),
+        has_initializer(role, x),
+        1,
+    )
 }
 
 // A record that may be charged for, with the tally of its children.

@@ -22,6 +22,7 @@ const MOST_BEFORE: usize = 32766;
 
 // A tag is one byte, and a number two.
 const MOST_TAG: u32 = 255;
+
 const MOST_NUMBER: u32 = 65535;
 
 // Whether a text is spelled right, or the place of the first character that may not stand where it does.

@@ -31,6 +31,7 @@ const SCOPE_FLAGS: u16 = scope_flag::STRICT
     + scope_flag::STATIC_BLOCK
     + scope_flag::FUNCTION
     + scope_flag::TOP;
+
 const SYMBOL_FLAGS: u16 = symbol_flag::FUNCTION_SCOPED
     + symbol_flag::BLOCK_SCOPED
     + symbol_flag::CONST

@@ -10,6 +10,7 @@ use notation::Spelling;
 
 // The most bytes of a file, and characters of a text.
 const MOST_BYTES: usize = 65536;
+
 const MOST_CHARACTERS: usize = 262144;
 
 // To standard output.

@@ -24,10 +24,12 @@ ghost use Rattle.writing.specs.Writing.{mostBytes, mostFirst, mostTree, 
 
 // The numbers of a scope row and of a symbol row in the lent tables.
 const SCOPE_NUMBERS: usize = 2;
+
 const SYMBOL_NUMBERS: usize = 5;
 
 // Where the second and the third number of a field stand, from its tag on.
 const SECOND_AT: usize = HEAD_BYTES + NUMBER_BYTES;
+
 const THIRD_AT: usize = SECOND_AT + NUMBER_BYTES;
 
 // ---- fields
