@@ -29,9 +29,9 @@ use Rattle.meaning.specs.declared.Place.the-variants.{ForOfLeft, ForOfDeclarato
 use Rattle.meaning.specs.declared.Field.{Field}
 use Rattle.parsing.specs.Parsed.{RecordAt, Parsed, parsed-none, parsed-more}
 use Rattle.parsing.specs.Fields.{only-tag}
-use Rattle.tallies.specs.Tally.{bodyOf, bodyUp}
-use Rattle.tallies.specs.declared.Up.{Up}
-use Rattle.tallies.specs.declared.Up.the-variants.{Plain, Body}
+use Rattle.figures.specs.Tally.{bodyOf, bodyRole}
+use Rattle.figures.specs.declared.tally.Role.{Role}
+use Rattle.figures.specs.declared.tally.Role.the-variants.{Plain, Body}
 
 -- ---- the three fields that decide
 
@@ -96,7 +96,7 @@ bound-is h none r = refl
 bound-is h (more h₁ k₁ r₁) r = refl
 
 -- what a Declarator binds, in the tree and in the bytes
-identifierOf : Forest → Up
+identifierOf : Forest → Role
 identifierOf t = if bindsIdentifier t then Body (boundSymbol t) else Plain
 
 module _ {f : List ℕ} {syms : ℕ} where
@@ -140,9 +140,9 @@ body-if h k r = go (isUsing h)
     go true = refl
     go false = refl
 
-up-if : (f : List ℕ) (at : ℕ) → bodyUp f at
+up-if : (f : List ℕ) (at : ℕ) → bodyRole f at
     ≡ (if eqb (getD f at 0) 5 then (if oneOf (3 ∷ 4 ∷ []) (two f (at + 3)) then (if eqb (two f (at + 10)) 0 then Body (two f (at + 19)) else Plain) else Plain) else Plain)
-unfolding bodyUp
+unfolding bodyRole
 up-if f at = go (eqb (getD f at 0) 5) (oneOf (3 ∷ 4 ∷ []) (two f (at + 3))) (eqb (two f (at + 10)) 0)
   where
     go : (a b c : Bool) → (if a && b && c then Body (two f (at + 19)) else Plain)
@@ -186,7 +186,7 @@ module _ {f : List ℕ} {syms : ℕ} {p : Place} {cur at : ℕ} {m : List ℕ} {
 
 -- the children of a ForOf as read
 pub body-is : {f : List ℕ} {syms : ℕ} {place : ℕ → Place} {cur at next : ℕ} {m o : List ℕ} {t : Forest} → place 0 ≡ ForOfLeft
-    → 1 ≤ count t → Parsed f syms place 0 cur at m t next o → bodyOf t ≡ bodyUp f at
+    → 1 ≤ count t → Parsed f syms place 0 cur at m t next o → bodyOf t ≡ bodyRole f at
 unfolding count
 body-is p n parsed-none = absurd (omega arith)
 body-is {f} {at = at} p n (parsed-more {k = kids} y k r) =

@@ -9,10 +9,10 @@ use borrow.Author.Tests.{ne-eqb}
 use Rattle.meaning.specs.Tree.{if_then_else_, Head}
 use Rattle.meaning.specs.File.{fieldBytes}
 use Rattle.meaning.specs.Statements.{isUsing}
-use Rattle.tallies.specs.declared.Up.the-variants.{Item, Exported, ExportedName, Held}
-use Rattle.tallies.specs.Tally.{isUp, isBlock, isBody, isExport, oneIf, takesUp, takesUpCases, getsContext, itemsKept, capped, cap, _⊞_, noTally, own}
-use Rattle.tallies.specs.declared.Tally.{Tally}
-use Rattle.tallies.specs.declared.Up.{Up}
+use Rattle.figures.specs.declared.tally.Role.the-variants.{Item, Exported, ExportedName, Held}
+use Rattle.figures.specs.Tally.{isRole, isBlock, isBody, isExport, oneIf, takesUp, takesUpCases, getsContext, itemsKept, capped, cap, _⊞_, noTally, own}
+use Rattle.figures.specs.declared.tally.Tally.{Tally}
+use Rattle.figures.specs.declared.tally.Role.{Role}
 
 -- ---- numbers
 
@@ -145,7 +145,7 @@ pub ⊞-none : (t : Tally) → t ⊞ noTally ≡ t
 
 -- ---- a record's own
 
-module _ (u : Up) (inserts : Bool) (h : Head) (n : ℕ) (t : Tally) where
+module _ (u : Role) (inserts : Bool) (h : Head) (n : ℕ) (t : Tally) where
   pub own-cap : cap (own u inserts h n (cap t)) ≡ cap (own u inserts h n t)
   unfolding own takesUp takesUpCases getsContext itemsKept
   own-cap =
@@ -158,17 +158,17 @@ module _ (u : Up) (inserts : Bool) (h : Head) (n : ℕ) (t : Tally) where
         «for_ofs» = (one (t .«for_ofs») (oneIf (isBody u && inserts))) i;
         «for_of_blocks» = (one (t .«for_of_blocks») (oneIf (isBody u && not inserts))) i;
         programs = (one (t .programs) (oneIf ((takesUp (h .tag) (t .usings)) && eqb (h .tag) 1))) i;
-        classes = (unless-one (eqb (h .tag) 1 && eqb (t .usings) 0) (t .classes) (oneIf (isUp u Item && eqb (h .tag) 15))) i;
+        classes = (unless-one (eqb (h .tag) 1 && eqb (t .usings) 0) (t .classes) (oneIf (isRole u Item && eqb (h .tag) 15))) i;
         exports = (unless-one (eqb (h .tag) 1 && eqb (t .usings) 0) (t .exports) (oneIf (isExport u h))) i;
-        declarations = (unless-one (eqb (h .tag) 1 && eqb (t .usings) 0) (t .declarations) (oneIf (isUp u Exported && eqb (h .tag) 5))) i;
-        names = (unless-one (eqb (h .tag) 1 && eqb (t .usings) 0) (t .names) (oneIf (isUp u ExportedName && eqb (h .tag) 26))) i;
+        declarations = (unless-one (eqb (h .tag) 1 && eqb (t .usings) 0) (t .declarations) (oneIf (isRole u Exported && eqb (h .tag) 5))) i;
+        names = (unless-one (eqb (h .tag) 1 && eqb (t .usings) 0) (t .names) (oneIf (isRole u ExportedName && eqb (h .tag) 26))) i;
         usings = capped (oneIf (isUsing h));
-        wraps = (if-one (eqb (h .tag) 5) (t .wraps) (oneIf (isUp u Held && eqb (h .tag) 6 && ltb (h .b) n))) i;
+        wraps = (if-one (eqb (h .tag) 5) (t .wraps) (oneIf (isRole u Held && eqb (h .tag) 6 && ltb (h .b) n))) i;
         «case_usings» = (if-alone (eqb (h .tag) 10) (t .usings)) i;
         «case_wraps» = (if-alone (eqb (h .tag) 10) (t .wraps)) i;
       })
 
 -- one record more
-pub add-cap : (s : Tally) (u : Up) (inserts : Bool) (h : Head) (n : ℕ) (t : Tally)
+pub add-cap : (s : Tally) (u : Role) (inserts : Bool) (h : Head) (n : ℕ) (t : Tally)
     → cap (cap s ⊞ cap (own u inserts h n (cap t))) ≡ cap (s ⊞ own u inserts h n t)
 add-cap s u inserts h n t = ap (λ (o : Tally). cap (cap s ⊞ o)) (own-cap u inserts h n t) ∙ cap-⊞ s (own u inserts h n t)

@@ -12,8 +12,8 @@ use Rattle.meaning.specs.File.{File}
 use Rattle.meaning.specs.Reading.{Outcome, accepted, refused, _>>=_, _>>_, ensure, readFile}
 use Rattle.meaning.specs.Charges.{Figures, figures, _⊕_, lineCharge, total, helperLines, finalFigures}
 use Rattle.meaning.specs.Lowering.{checkMode, checkFile, figuresOf}
-use Rattle.tallies.specs.Tally.{cap, tallyFigures}
-use Rattle.tallies.specs.declared.Tally.{Tally}
+use Rattle.figures.specs.Tally.{cap, tallyFigures}
+use Rattle.figures.specs.declared.tally.Tally.{Tally}
 use Rattle.figures.specs.Figures.{helperF, finalF, figuredF, shownFigures, figuredOf}
 use Rattle.figures.specs.declared.FinalFigures.{FinalFigures}
 use Rattle.figures.specs.declared.Figured.{Figured}

@@ -20,9 +20,9 @@ use Rattle.meaning.specs.declared.Rows.{Rows}
 use Rattle.meaning.specs.declared.Rows.the-variants.{Read, Refused as RefusedRows}
 use Rattle.parsing.specs.Fields.{field-is, scopes-are, symbols-are}
 use Rattle.parsing.specs.Files.{settings-are, scopes-length, symbols-length}
-use Rattle.tallies.specs.Tally.{noTally, _⊞_, cap, tallyOf}
-use Rattle.tallies.specs.declared.Tally.{Tally}
-use Rattle.tallies.specs.declared.Up.the-variants.{Plain}
+use Rattle.figures.specs.Tally.{noTally, _⊞_, cap, tallyOf}
+use Rattle.figures.specs.declared.tally.Tally.{Tally}
+use Rattle.figures.specs.declared.tally.Role.the-variants.{Plain}
 use Rattle.checking.specs.declared.Layout.{Layout}
 use Rattle.checking.specs.declared.Whole.{Whole}
 use Rattle.checking.specs.declared.Whole.the-variants.{Accepted, Refused as RefusedFile}

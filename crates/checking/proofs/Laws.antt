@@ -21,10 +21,10 @@ use Rattle.meaning.specs.declared.Rows.{Rows}
 use Rattle.meaning.specs.declared.Rows.the-variants.{Read, Refused as RefusedRows}
 use Rattle.checking.specs.declared.Answer.{Answer}
 use Rattle.checking.specs.declared.Answer.the-variants.{Next, Refused as RefusedAnswer}
-use Rattle.tallies.specs.Tally.{insertsIn, noTally, _⊞_, cap, own}
-use Rattle.tallies.specs.declared.Tally.{Tally}
-use Rattle.tallies.specs.declared.Up.{Up}
-use Rattle.tallies.specs.declared.Up.the-variants.{Plain}
+use Rattle.figures.specs.Tally.{insertsIn, noTally, _⊞_, cap, own}
+use Rattle.figures.specs.declared.tally.Tally.{Tally}
+use Rattle.figures.specs.declared.tally.Role.{Role}
+use Rattle.figures.specs.declared.tally.Role.the-variants.{Plain}
 use Rattle.checking.specs.Flat.{
   Entered,
   Past,
@@ -48,18 +48,18 @@ use Rattle.checking.specs.Flat.{
 -- ---- one record: refused on entering, too deep, refused inside, or fine
 
 -- a record is entered, and then what is left of it
-record-is : (l : ℕ) (f : List ℕ) (scopes syms : ℕ) (p : Place) (u : Up) (cur : ℕ) (t : Tally) (at : ℕ) (m : List ℕ)
+record-is : (l : ℕ) (f : List ℕ) (scopes syms : ℕ) (p : Place) (u : Role) (cur : ℕ) (t : Tally) (at : ℕ) (m : List ℕ)
     → recordF l f scopes syms p u cur t at m ≡ afterF l f scopes syms p u cur t at (enterF f syms p cur at m)
 unfolding recordF childrenF afterF
 record-is zero f scopes syms p u cur t at m = refl
 record-is (suc l) f scopes syms p u cur t at m = refl
 
-pub record-entered : (l : ℕ) (f : List ℕ) (scopes syms : ℕ) (p : Place) (u : Up) (cur : ℕ) (t : Tally) (at : ℕ) (m : List ℕ)
+pub record-entered : (l : ℕ) (f : List ℕ) (scopes syms : ℕ) (p : Place) (u : Role) (cur : ℕ) (t : Tally) (at : ℕ) (m : List ℕ)
     (e : Outcome Entered) (o : Outcome Past) → e ≡ enterF f syms p cur at m → o ≡ afterF l f scopes syms p u cur t at e
     → o ≡ recordF l f scopes syms p u cur t at m
 record-entered l f scopes syms p u cur t at m e o enters after = rw (record-is l f scopes syms p u cur t at m, ← enters, after)
 
-module _ (l : ℕ) (f : List ℕ) (scopes syms : ℕ) (p : Place) (u : Up) (cur : ℕ) (t : Tally) (at : ℕ) (m₁ : List ℕ)
+module _ (l : ℕ) (f : List ℕ) (scopes syms : ℕ) (p : Place) (u : Role) (cur : ℕ) (t : Tally) (at : ℕ) (m₁ : List ℕ)
     (d : Reading) where
   pub after-refused : (c q : ℕ) (a : Answer) (m₂ : List ℕ) → d ≡ RefusedField c q → a ≡ refusalOf d
       → past a m₂ ≡ afterF l f scopes syms p u cur t at (entered d m₁)

@@ -28,8 +28,8 @@ use Rattle.meaning.specs.Statements.{isUsing}
 use Rattle.meaning.specs.declared.Place.{Place}
 use Rattle.meaning.specs.declared.Field.{Field}
 use Rattle.meaning.specs.declared.Reading.the-variants.{Whole}
-use Rattle.tallies.specs.Tally.{
-  upIndex,
+use Rattle.figures.specs.Tally.{
+  roleIndex,
   insertsIn,
   takesUp,
   takesUpCases,
@@ -42,9 +42,9 @@ use Rattle.tallies.specs.Tally.{
   cap,
   own,
 }
-use Rattle.tallies.specs.declared.Tally.{Tally}
-use Rattle.tallies.specs.declared.Up.{Up}
-use Rattle.tallies.specs.declared.Up.the-variants.{
+use Rattle.figures.specs.declared.tally.Tally.{Tally}
+use Rattle.figures.specs.declared.tally.Role.{Role}
+use Rattle.figures.specs.declared.tally.Role.the-variants.{
   Plain,
   Part,
   Item,
@@ -142,13 +142,13 @@ module _ (f : List ℕ) (syms : ℕ) (p : Place) (at : ℕ) where
         inside = s .inside;
       }) none
 
-  leaf-passed : (l : ℕ) (u : Up) → Passed (leafSize f p u syms l at)
-  unfolding leafSize expressionSize mentionSize numbersOf hasChildren ownNumbers fieldBytes number right scopeOf headOf childrenOf own takesUp takesUpCases getsContext isExport itemsKept isUsing upIndex
+  leaf-passed : (l : ℕ) (u : Role) → Passed (leafSize f p u syms l at)
+  unfolding leafSize expressionSize mentionSize numbersOf hasChildren ownNumbers fieldBytes number right scopeOf headOf childrenOf own takesUp takesUpCases getsContext isExport itemsKept isUsing roleIndex
   leaf-passed l u =
       let first : at + 3 + 2 * 0 ≡ at + 3 = omega arith in
       let second : at + 3 + 2 * 1 ≡ at + 5 = omega arith in
       let row = isRow syms (two f (at + 3)) in
-      if-passed (not (eqb l 0) && eqb (upIndex u) 0) _ 0 (λ _.
+      if-passed (not (eqb l 0) && eqb (roleIndex u) 0) _ 0 (λ _.
       if-passed _ _ _ (λ e.
       field-passed 24 2 (eqb (two f (at + 5)) 0) refl (λ _. refl) refl (λ z. rw second (eqb-true _ _ z)) refl (eqb-true _ _ e))
       (if-passed _ _ _ (λ e. field-passed 25 1 row refl (λ r. rw first r) refl (λ _. refl) refl (eqb-true _ _ e))
@@ -169,8 +169,8 @@ passes : (b : Bool) (x : ℕ) → ((if b then x else 0) ≡ 0 → ⊥) → b ≡
 passes true x n = refl
 passes false x n = absurd (n refl)
 
-plain-is : (u : Up) → upIndex u ≡ 0 → u ≡ Plain
-unfolding upIndex
+plain-is : (u : Role) → roleIndex u ≡ 0 → u ≡ Plain
+unfolding roleIndex
 plain-is Plain e = refl
 plain-is Part e = cc
 plain-is Item e = cc
@@ -181,7 +181,7 @@ plain-is ExportedName e = cc
 plain-is Held e = cc
 plain-is (Body y) e = cc
 
-module _ (l : ℕ) (f : List ℕ) (syms : ℕ) (p : Place) (u : Up) (at size : ℕ) (is-size : size ≡ leafSize f p u syms l at)
+module _ (l : ℕ) (f : List ℕ) (syms : ℕ) (p : Place) (u : Role) (at size : ℕ) (is-size : size ≡ leafSize f p u syms l at)
     (some : size ≡ 0 → ⊥) where
   leaf : Leaf f syms p at size
   leaf = rw is-size (leaf-passed f syms p at l u (rw is-size at some))

@@ -40,9 +40,9 @@ use Rattle.meaning.specs.declared.Reading.{Reading}
 use Rattle.meaning.specs.declared.Reading.the-variants.{Whole, Refused as RefusedField}
 use Rattle.parsing.specs.Parsed.{Parsed}
 use Rattle.parsing.specs.Records.{forest-parsed}
-use Rattle.tallies.specs.Tally.{upOf, bodyOf, bodyUp, insertsIn, noTally, _⊞_, cap, own, tallyOf}
-use Rattle.tallies.specs.declared.Tally.{Tally}
-use Rattle.tallies.specs.declared.Up.{Up}
+use Rattle.figures.specs.Tally.{roleOf, bodyOf, bodyRole, insertsIn, noTally, _⊞_, cap, own, tallyOf}
+use Rattle.figures.specs.declared.tally.Tally.{Tally}
+use Rattle.figures.specs.declared.tally.Role.{Role}
 use Rattle.checking.specs.Flat.{Entered, Past, enterF, upsF, addF, listF, recordF}
 use Rattle.checking.proofs.Cap.{⊞-assoc, none-⊞, ⊞-none, add-cap}
 use Rattle.checking.proofs.Body.{is-eq, and-inv, body-is}
@@ -50,12 +50,12 @@ use Rattle.checking.proofs.Body.{is-eq, and-inv, body-is}
 -- ---- what an accepted list of children tells
 
 -- only a ForOf looks at what its body is
-ups-same : (u : Up) (t : ℕ) (held : Bool) (b₁ b₂ : Up) (is : Bool) → eqb t 8 ≡ is → (eqb t 8 ≡ true → b₁ ≡ b₂) → upOf u t held b₁ ≡ upOf u t held b₂
-unfolding upOf
-ups-same u t held b₁ b₂ true e h = ap (upOf u t held) (h e)
+ups-same : (u : Role) (t : ℕ) (held : Bool) (b₁ b₂ : Role) (is : Bool) → eqb t 8 ≡ is → (eqb t 8 ≡ true → b₁ ≡ b₂) → roleOf u t held b₁ ≡ roleOf u t held b₂
+unfolding roleOf
+ups-same u t held b₁ b₂ true e h = ap (roleOf u t held) (h e)
 ups-same u t held b₁ b₂ false e h = λ i k. pointwise k i
   where
-    pointwise : (k : ℕ) → upOf u t held b₁ k ≡ upOf u t held b₂ k
+    pointwise : (k : ℕ) → roleOf u t held b₁ k ≡ roleOf u t held b₂ k
     pointwise k = rw e
 
 -- a ForOf has three children, and a Declaration or an expression first
@@ -68,17 +68,17 @@ unfolding placeOf
 forOf-place p x t = rw t
 
 -- what the children of a record are to it, in the bytes and in the tree
-ups-are : (f : List ℕ) (syms : ℕ) (p : Place) (u : Up) (x : Field) {cur next : ℕ} {m o : List ℕ} {t : Forest} → right p syms x ≡ true
+ups-are : (f : List ℕ) (syms : ℕ) (p : Place) (u : Role) (x : Field) {cur next : ℕ} {m o : List ℕ} {t : Forest} → right p syms x ≡ true
     → count t ≡ childrenOf x → Parsed f syms (placeOf p x) 0 cur (x .next) m t next o
-    → upOf u (x .tag) (isUsing (headOf x)) (bodyOf t) ≡ upsF f u x
+    → roleOf u (x .tag) (isUsing (headOf x)) (bodyOf t) ≡ upsF f u x
 ups-are f syms p u x {t = t} r n k =
-    ups-same u (x .tag) (isUsing (headOf x)) (bodyOf t) (bodyUp f (x .next)) (eqb (x .tag) 8) refl (λ e.
+    ups-same u (x .tag) (isUsing (headOf x)) (bodyOf t) (bodyRole f (x .next)) (eqb (x .tag) 8) refl (λ e.
     let tag = is-eq (x .tag) 8 e in
     body-is (forOf-place p x tag) (omega (arith, n, forOf-kids p syms x tag r)) k)
 
 -- ---- answers
 
-abbrev pub forget : List Symbol → (ℕ → Up) → ℕ → Tally → Outcome Records → Outcome Past
+abbrev pub forget : List Symbol → (ℕ → Role) → ℕ → Tally → Outcome Records → Outcome Past
 forget ys ups k t (accepted r) = accepted (record { next = r .next; marks = r .marks; tally = cap (t ⊞ tallyOf ys ups k (r .forest)) })
 forget ys ups k t (refused c p) = refused c p
 
@@ -86,10 +86,10 @@ abbrev join : Head → Records → Records → Records
 join h k b = record { forest = more h (k .forest) (b .forest); next = b .next; marks = b .marks }
 
 -- a record's own tally, from the tree
-abbrev ownIn : List Symbol → Up → Head → Forest → Tally
-ownIn ys u h kids = own u (insertsIn ys u h) h (count kids) (tallyOf ys (upOf u (h .tag) (isUsing h) (bodyOf kids)) 0 kids)
+abbrev ownIn : List Symbol → Role → Head → Forest → Tally
+ownIn ys u h kids = own u (insertsIn ys u h) h (count kids) (tallyOf ys (roleOf u (h .tag) (isUsing h) (bodyOf kids)) 0 kids)
 
-module _ (ys : List Symbol) (ups : ℕ → Up) (k : ℕ) (t : Tally) where
+module _ (ys : List Symbol) (ups : ℕ → Role) (k : ℕ) (t : Tally) where
   joined : (h : Head) (kids : Records) (o : Outcome Records)
       → forget ys ups k t (o >>= (λ b. accepted (join h kids b))) ≡ forget ys ups (suc k) (t ⊞ ownIn ys (ups k) h (kids .forest)) o
   unfolding tallyOf
@@ -99,7 +99,7 @@ module _ (ys : List Symbol) (ups : ℕ → Up) (k : ℕ) (t : Tally) where
   joined h kids (refused c p) = refl
 
   -- `added` adds the record to the tally before it, from the tally of its children
-  after-kids : (h : Head) (upsIn : ℕ → Up) (o : Outcome Records) (oF : Outcome Past) (added : Tally → Tally)
+  after-kids : (h : Head) (upsIn : ℕ → Role) (o : Outcome Records) (oF : Outcome Past) (added : Tally → Tally)
       (rest : Records → Outcome Records) (restF : Past → Outcome Past)
       → forget ys upsIn 0 noTally o ≡ oF
       → ((kids : Records) → o ≡ accepted kids → cap (t ⊞ ownIn ys (ups k) h (kids .forest)) ≡ added (cap (noTally ⊞ tallyOf ys upsIn 0 (kids .forest))))
@@ -135,14 +135,14 @@ abbrev Inside : Type 0
 Inside = Place → Field → ℕ → ℕ → List ℕ → Outcome Records
 
 abbrev InsideF : Type 0
-InsideF = Place → Up → ℕ → ℕ → Entered → Outcome Past
+InsideF = Place → Role → ℕ → ℕ → Entered → Outcome Past
 
 module _ (f : List ℕ) (scopes syms : ℕ) where
   abbrev pub asRead : List Symbol
   asRead = symbolsIn f syms (7 + 7 * scopes)
 
   -- one record by `enterF` and what its children answer
-  abbrev oneF : InsideF → Place → Up → ℕ → Tally → ℕ → List ℕ → Outcome Past
+  abbrev oneF : InsideF → Place → Role → ℕ → Tally → ℕ → List ℕ → Outcome Past
   oneF insideF p u cur t at m =
       enterF f syms p cur at m >>= (λ e.
       insideF p u cur at e >>= (λ q.
@@ -151,18 +151,18 @@ module _ (f : List ℕ) (scopes syms : ℕ) where
   -- the record's own tally, from the tree and in the code
   Sums : Inside → Type 0
   Sums inside =
-      (p : Place) (u : Up) (x : Field) (at cur : ℕ) (m : List ℕ) (t : Tally) (kids : Records)
+      (p : Place) (u : Role) (x : Field) (at cur : ℕ) (m : List ℕ) (t : Tally) (kids : Records)
       → right p syms x ≡ true
       → inside p x at cur m ≡ accepted kids
       → cap (t ⊞ ownIn asRead u (headOf x) (kids .forest))
       ≡ addF f scopes syms u x (cap t) (cap (noTally ⊞ tallyOf asRead (upsF f u x) 0 (kids .forest)))
 
   link-list : (inside : Inside) (insideF : InsideF)
-      → ((p : Place) (u : Up) (x : Field) (at cur : ℕ) (m : List ℕ)
+      → ((p : Place) (u : Role) (x : Field) (at cur : ℕ) (m : List ℕ)
       → forget asRead (upsF f u x) 0 noTally (inside p x at (below cur (scopeOf (headOf x))) m)
       ≡ insideF p u cur at (record { field = x; marks = m }))
       → Sums inside
-      → (place : ℕ → Place) (ups : ℕ → Up) (cur n k : ℕ) (t : Tally) (at : ℕ) (m : List ℕ)
+      → (place : ℕ → Place) (ups : ℕ → Role) (cur n k : ℕ) (t : Tally) (at : ℕ) (m : List ℕ)
       → forget asRead ups k t (readList inside f syms place cur k n at m)
       ≡ listF (λ j s a m₁. oneF insideF (place j) (ups j) cur s a m₁) n k (cap t) at m
   unfolding readList listF enterF Sums tallyOf
@@ -193,9 +193,9 @@ module _ (f : List ℕ) (scopes syms : ℕ) where
   unfolding Sums headOf
   sums l p u x at cur m t kids r e =
       let q = forest-parsed f syms l (placeOf p x) cur 0 (childrenOf x) (x .next) m kids e in
-      ap (λ (n : ℕ). cap (t ⊞ own u (insertsIn asRead u (headOf x)) (headOf x) n (tallyOf asRead (upOf u (x .tag) (isUsing (headOf x)) (bodyOf (kids .forest))) 0 (kids .forest))))
+      ap (λ (n : ℕ). cap (t ⊞ own u (insertsIn asRead u (headOf x)) (headOf x) n (tallyOf asRead (roleOf u (x .tag) (isUsing (headOf x)) (bodyOf (kids .forest))) 0 (kids .forest))))
       (q .1)
-      ∙ ap (λ (v : ℕ → Up). cap (t ⊞ own u (insertsIn asRead u (headOf x)) (headOf x) (childrenOf x) (tallyOf asRead v 0 (kids .forest))))
+      ∙ ap (λ (v : ℕ → Role). cap (t ⊞ own u (insertsIn asRead u (headOf x)) (headOf x) (childrenOf x) (tallyOf asRead v 0 (kids .forest))))
       (ups-are f syms p u x r (q .1) (q .0))
       ∙ sym (add-cap t u (insertsIn asRead u (headOf x)) (headOf x) (childrenOf x) (tallyOf asRead (upsF f u x) 0 (kids .forest)))
       ∙ ap (λ (s : Tally). addF f scopes syms u x (cap t) (cap s)) (sym (none-⊞ (tallyOf asRead (upsF f u x) 0 (kids .forest))))
@@ -204,7 +204,7 @@ module _ (f : List ℕ) (scopes syms : ℕ) where
   unfolding Sums
   no-sums p u x at cur m t kids r e = absurd (let z : _≡_ {A = ℕ} 0 1 = cc in omega arith)
 
-  pub link-forest : (l : ℕ) (place : ℕ → Place) (ups : ℕ → Up) (cur n k : ℕ) (t : Tally) (at : ℕ) (m : List ℕ)
+  pub link-forest : (l : ℕ) (place : ℕ → Place) (ups : ℕ → Role) (cur n k : ℕ) (t : Tally) (at : ℕ) (m : List ℕ)
       → forget asRead ups k t (readForest l f syms place cur k n at m)
       ≡ listF (λ j s a m₁. recordF l f scopes syms (place j) (ups j) cur s a m₁) n k (cap t) at m
   unfolding readForest recordF

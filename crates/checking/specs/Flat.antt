@@ -23,10 +23,10 @@ use Rattle.checking.specs.declared.Layout.{Layout}
 use Rattle.checking.specs.declared.Whole.{Whole}
 use Rattle.checking.specs.declared.Whole.the-variants.{Accepted, Refused as RefusedFile}
 use Rattle.meaning.specs.Statements.{isUsing}
-use Rattle.tallies.specs.Tally.{upIndex, upOf, bodyUp, insertsIn, noTally, _⊞_, cap, own}
-use Rattle.tallies.specs.declared.Tally.{Tally}
-use Rattle.tallies.specs.declared.Up.{Up}
-use Rattle.tallies.specs.declared.Up.the-variants.{Plain}
+use Rattle.figures.specs.Tally.{roleIndex, roleOf, bodyRole, insertsIn, noTally, _⊞_, cap, own}
+use Rattle.figures.specs.declared.tally.Tally.{Tally}
+use Rattle.figures.specs.declared.tally.Role.{Role}
+use Rattle.figures.specs.declared.tally.Role.the-variants.{Plain}
 
 -- ---- answers of the code, with the marks that it leaves
 
@@ -67,10 +67,10 @@ unfoldable pub mentionSize : List ℕ → Place → ℕ → ℕ → ℕ → ℕ
 mentionSize f p syms tag at = if isWhole f p tag 2 at && isRow syms (two f (at + 3)) then 5 else 0
 
 -- the bytes of the leaf at an offset, or 0 where there is none
-unfoldable pub leafSize : List ℕ → Place → Up → ℕ → ℕ → ℕ → ℕ
+unfoldable pub leafSize : List ℕ → Place → Role → ℕ → ℕ → ℕ → ℕ
 leafSize f p u syms l at =
     let tag = getD f at 0 in
-    if not (eqb l 0) && eqb (upIndex u) 0
+    if not (eqb l 0) && eqb (roleIndex u) 0
     then (if eqb tag 24 then expressionSize f p at
     else if eqb tag 25 then mentionSize f p syms 25 at
     else if eqb tag 26 then mentionSize f p syms 26 at
@@ -88,11 +88,11 @@ enterF f syms p cur at m = do
   accepted (record { field = x; marks = naming m (scopeOf (headOf x)) })
 
 -- what child k is to a record
-abbrev pub upsF : List ℕ → Up → Field → ℕ → Up
-upsF f u x k = upOf u (x .tag) (isUsing (headOf x)) (bodyUp f (x .next)) k
+abbrev pub upsF : List ℕ → Role → Field → ℕ → Role
+upsF f u x k = roleOf u (x .tag) (isUsing (headOf x)) (bodyRole f (x .next)) k
 
 -- the tally before a record, with the record and its children's tally
-abbrev pub addF : List ℕ → ℕ → ℕ → Up → Field → Tally → Tally → Tally
+abbrev pub addF : List ℕ → ℕ → ℕ → Role → Field → Tally → Tally → Tally
 addF f scopes syms u x t kids =
     cap (t ⊞ cap (own u (insertsIn (symbolsIn f syms (7 + 7 * scopes)) u (headOf x)) (headOf x) (childrenOf x) kids))
 
@@ -104,7 +104,7 @@ listF one (suc n) k t at m = do
   listF one n (k + 1) (q .tally) (q .next) (q .marks)
 
 -- one record, with levels left; it is `u` to the one around it, and the tally before it is t
-unfoldable pub recordF : ℕ → List ℕ → ℕ → ℕ → Place → Up → ℕ → Tally → ℕ → List ℕ → Outcome Past
+unfoldable pub recordF : ℕ → List ℕ → ℕ → ℕ → Place → Role → ℕ → Tally → ℕ → List ℕ → Outcome Past
 recordF zero f scopes syms p u cur t at m = do
   e ← enterF f syms p cur at m
   refused 6 at
@@ -122,22 +122,22 @@ recordF (suc l) f scopes syms p u cur t at m = do
   accepted (record { next = q .next; marks = q .marks; tally = addF f scopes syms u (e .field) t (q .tally) })
 
 -- the children of a record at p
-unfoldable pub childrenF : ℕ → List ℕ → ℕ → ℕ → Place → Up → Field → ℕ → List ℕ → Outcome Past
+unfoldable pub childrenF : ℕ → List ℕ → ℕ → ℕ → Place → Role → Field → ℕ → List ℕ → Outcome Past
 childrenF l f scopes syms p u x cur m =
     listF (λ k t a m₁. recordF l f scopes syms (placeOf p x k) (upsF f u x k) cur t a m₁) (childrenOf x) 0 noTally (x .next) m
 
 -- the same with the levels of the record itself
-abbrev pub kidsF : ℕ → List ℕ → ℕ → ℕ → Place → Up → ℕ → ℕ → Field → List ℕ → Outcome Past
+abbrev pub kidsF : ℕ → List ℕ → ℕ → ℕ → Place → Role → ℕ → ℕ → Field → List ℕ → Outcome Past
 kidsF zero f scopes syms p u cur at x m = refused 6 at
 kidsF (suc l) f scopes syms p u cur at x m = childrenF l f scopes syms p u x (below cur (scopeOf (headOf x))) m
 
 -- a record behind its children
-abbrev pub addedF : List ℕ → ℕ → ℕ → Up → Tally → Field → Past → Outcome Past
+abbrev pub addedF : List ℕ → ℕ → ℕ → Role → Tally → Field → Past → Outcome Past
 addedF f scopes syms u t x q =
     accepted (record { next = q .next; marks = q .marks; tally = addF f scopes syms u x t (q .tally) })
 
 -- what is left of recordF when a record was entered
-unfoldable pub afterF : ℕ → List ℕ → ℕ → ℕ → Place → Up → ℕ → Tally → ℕ → Outcome Entered → Outcome Past
+unfoldable pub afterF : ℕ → List ℕ → ℕ → ℕ → Place → Role → ℕ → Tally → ℕ → Outcome Entered → Outcome Past
 afterF l f scopes syms p u cur t at o = do
   e ← o
   q ← kidsF l f scopes syms p u cur at (e .field) (e .marks)

@@ -1,13 +1,24 @@
 // Checking a tree file on its bytes, and the figures of what it is lowered to.
 use figures::Figured;
 use figures::FinalFigures;
+use figures::tally;
+use figures::tally::Role;
+use figures::tally::Tally;
+use fields::EXPRESSION_BYTES;
+use fields::HEAD_BYTES;
+use fields::MENTION_BYTES;
+use fields::NUMBER_A;
+use fields::NUMBER_B;
+use fields::SCOPE_BYTES;
+use fields::SETTINGS_BYTES;
 use meaning::Field;
 use meaning::Place;
 use meaning::Reading;
 use meaning::Rows;
 use meaning::ScopeId;
-use tallies::Tally;
-use tallies::Up;
+use meaning::mode;
+use meaning::refusal;
+use meaning::tag;
 ghost use mathlib.Core.Path.{_≡_};
 ghost use mathlib.Core.Bool.{_||_};
 ghost use Prim.Native.Nat.{_≤_, min};
@@ -15,11 +26,28 @@ ghost use lib.ListN.{getD, length, replicate};
 ghost use lib.Dec.{eqb};
 ghost use Rattle.meaning.specs.Tree.{if_then_else_};
 ghost use Rattle.meaning.specs.Grammar.{mayName, naming, unnamed};
-ghost use Rattle.meaning.specs.Reading.{scopeAt, symbolAt, readScopes, readSymbols, readFile};
+ghost use Rattle.meaning.specs.Numbers.Tag;
+ghost use Rattle.meaning.specs.Reading.{scopeAt, symbolAt, mostRows, readScopes, readSymbols, readFile};
 ghost use Rattle.meaning.specs.Lowering.{checkFile, figuresOf};
 ghost use Rattle.figures.specs.Figures.{figuredOf};
 ghost use Rattle.checking.specs.Flat.{isWhole, expressionSize, mentionSize, leafSize, entered, enterF, refusalOf, past, recordF, childrenF, afterF, rowsRefusal, treeF, fileRefusal, fileRows, withRecords, runAnswer, rowsF, fileF, checkedOf};
 ghost use Rattle.checking.specs.Survey.{withFigures, surveyedOf};
+
+// A file holds so many bytes at most, and its records so many levels; more rows than such a file has.
+const MOST_BYTES: usize = 65535;
+
+const MOST_LEVELS: u16 = 64;
+
+const MOST_ROWS: usize = 9362;
+
+// The numbers of a leaf in bytes, and the whole field.
+const EXPRESSION_LENGTH: u16 = (EXPRESSION_BYTES - HEAD_BYTES) as u16;
+
+const EXPRESSION_SIZE: u32 = EXPRESSION_BYTES as u32;
+
+const MENTION_LENGTH: u16 = (MENTION_BYTES - HEAD_BYTES) as u16;
+
+const MENTION_SIZE: u32 = MENTION_BYTES as u32;
 
 // The offset behind what was checked and the tally so far, or a refusal's number and place.
 enum Answer {
@@ -77,7 +105,7 @@ fn name_scope(file: &[u8], marks: &mut [u8], cur: ScopeId, s: ScopeId) -> bool
     if marks.len() < n {
         return false;
     }
-    if fields::read_two(file, 7 * n + 3) != cur.0 {
+    if fields::read_two(file, SCOPE_BYTES * n + NUMBER_A) != cur.0 {
         return false;
     }
     if marks[n - 1] != 0 {
@@ -103,10 +131,10 @@ fn enter_record(
         return read;
     };
     if !rules::is_right(place, symbols, x) {
-        return Reading::Refused(5, at);
+        return Reading::Refused(refusal::WRONG_NUMBER, at);
     }
     if !name_scope(file, marks, cur, rules::scope_in(x)) {
-        return Reading::Refused(5, at);
+        return Reading::Refused(refusal::WRONG_NUMBER, at);
     }
     read
 }
@@ -124,13 +152,13 @@ fn refusal(r: Reading) -> Answer
 // ---- leaves: plain records without scope and children, passed at once
 
 // A field with this tag may stand here, and is whole with `len` bytes of numbers; its tag is not looked at.
-fn is_whole(file: &[u8], place: Place, tag: u8, len: u16, at: usize) -> bool
+fn is_whole(file: &[u8], place: Place, tag: u16, len: u16, at: usize) -> bool
     ensures { λ r. ⌜ r ≡ isWhole (now (file .entry)) place tag len at ⌝ }
 {
     if file.len() <= at {
         return false;
     }
-    if file.len() - at < 3 + (len as usize) {
+    if file.len() - at < HEAD_BYTES + (len as usize) {
         return false;
     }
     if !fields::is_allowed(place, tag) {
@@ -139,51 +167,51 @@ fn is_whole(file: &[u8], place: Place, tag: u8, len: u16, at: usize) -> bool
     fields::read_two(file, at + 1) == len
 }
 
-// The bytes of the 24 at an offset where it is right and has no children, or 0.
+// The bytes of the Expression at an offset where it is right and has no children, or 0.
 fn expression_size(file: &[u8], place: Place, at: usize) -> u32
     ensures { λ r. ⌜ r ≡ expressionSize (now (file .entry)) place at ⌝ }
 {
-    if !is_whole(file, place, 24, 4, at) {
+    if !is_whole(file, place, tag::EXPRESSION, EXPRESSION_LENGTH, at) {
         return 0;
     }
-    if fields::read_two(file, at + 5) != 0 {
+    if fields::read_two(file, at + NUMBER_B) != 0 {
         return 0;
     }
-    7
+    EXPRESSION_SIZE
 }
 
-// The same of a 25 or 26, which has a symbol row and never children.
-fn mention_size(file: &[u8], place: Place, symbols: usize, tag: u8, at: usize) -> u32
+// The bytes of the Read or Name at an offset where it names a symbol row, or 0.
+fn mention_size(file: &[u8], place: Place, symbols: usize, tag: u16, at: usize) -> u32
     ensures { λ r. ⌜ r ≡ mentionSize (now (file .entry)) place symbols tag at ⌝ }
 {
-    if !is_whole(file, place, tag, 2, at) {
+    if !is_whole(file, place, tag, MENTION_LENGTH, at) {
         return 0;
     }
-    let row = fields::read_two(file, at + 3) as usize;
+    let row = fields::read_two(file, at + NUMBER_A) as usize;
     if row < 1 {
         return 0;
     }
     if symbols < row {
         return 0;
     }
-    5
+    MENTION_SIZE
 }
 
 // The bytes of the leaf at an offset, or 0 where there is none or its check could refuse it.
-fn leaf_size(file: &[u8], place: Place, up: Up, symbols: usize, levels: u16, at: usize) -> u32
+fn leaf_size(file: &[u8], place: Place, up: Role, symbols: usize, levels: u16, at: usize) -> u32
     ensures { λ r. ⌜ r ≡ leafSize (now (file .entry)) place up symbols levels at ⌝ }
 {
     if levels == 0 {
         return 0;
     }
-    if !tallies::is_plain(up) {
+    if !tally::is_plain(up) {
         return 0;
     }
-    let tag = fields::byte(file, at);
+    let tag = fields::tag_at(file, at);
     match tag {
-        24 => expression_size(file, place, at),
-        25 => mention_size(file, place, symbols, 25, at),
-        26 => mention_size(file, place, symbols, 26, at),
+        tag::EXPRESSION => expression_size(file, place, at),
+        tag::READ => mention_size(file, place, symbols, tag::READ, at),
+        tag::NAME => mention_size(file, place, symbols, tag::NAME, at),
         _ => 0,
     }
 }
@@ -196,7 +224,7 @@ fn check_entered(
     marks: &mut [u8],
     rows: RowCounts,
     place: Place,
-    up: Up,
+    up: Role,
     cur: ScopeId,
     before: Tally,
     at: usize,
@@ -209,15 +237,15 @@ fn check_entered(
         return refusal(read);
     };
     if levels == 0 {
-        return Answer::Refused(6, at);
+        return Answer::Refused(refusal::TOO_DEEP, at);
     }
     let below = rules::scope_below(cur, rules::scope_in(x));
     let inside = check_children(file, marks, rows, place, up, x, below, levels - 1);
     let Answer::Next(next, kids) = inside else {
         return inside;
     };
-    let inserted = tallies::inserts(file, rows.scopes, rows.symbols, up, x);
-    Answer::Next(next, tallies::add_record(before, up, inserted, x, kids))
+    let inserted = tally::inserts(file, rows.scopes, rows.symbols, up, x);
+    Answer::Next(next, tally::add_record(before, up, inserted, x, kids))
 }
 
 // A record at a place that is no expression's.
@@ -226,7 +254,7 @@ fn check_statement(
     marks: &mut [u8],
     rows: RowCounts,
     place: Place,
-    up: Up,
+    up: Role,
     cur: ScopeId,
     before: Tally,
     at: usize,
@@ -244,7 +272,7 @@ fn check_expression(
     marks: &mut [u8],
     rows: RowCounts,
     place: Place,
-    up: Up,
+    up: Role,
     cur: ScopeId,
     before: Tally,
     at: usize,
@@ -262,7 +290,7 @@ fn check_child(
     marks: &mut [u8],
     rows: RowCounts,
     place: Place,
-    up: Up,
+    up: Role,
     cur: ScopeId,
     before: Tally,
     at: usize,
@@ -273,7 +301,7 @@ fn check_child(
     let size = leaf_size(file, place, up, rows.symbols as usize, levels, at);
     if size != 0 {
         let next = at + (size as usize);
-        return Answer::Next(next, tallies::add_leaf(before, size));
+        return Answer::Next(next, tally::add_leaf(before, size));
     }
     match place {
         Place::Expression | Place::SwitchExpression => check_expression(
@@ -297,7 +325,7 @@ fn check_children(
     marks: &mut [u8],
     rows: RowCounts,
     place: Place,
-    up: Up,
+    up: Role,
     x: Field,
     cur: ScopeId,
     levels: u16,
@@ -306,7 +334,7 @@ fn check_children(
 {
     let n = rules::children_of(x);
     let mut at = x.next;
-    let mut t = tallies::no_tally();
+    let mut t = tally::no_tally();
     let mut k: u16 = 0;
     while k < n {
         let here = rules::place_of(place, x, k);
@@ -315,7 +343,7 @@ fn check_children(
             marks,
             rows,
             here,
-            tallies::up_in(file, up, x, k),
+            tally::role_in(file, up, x, k),
             cur,
             t,
             at,
@@ -351,7 +379,7 @@ fn read_scope(file: &[u8], k: usize, at: usize) -> Reading
         return read;
     };
     if !rules::scope_right(k, x) {
-        return Reading::Refused(5, at);
+        return Reading::Refused(refusal::WRONG_NUMBER, at);
     }
     read
 }
@@ -364,24 +392,24 @@ fn read_symbol(file: &[u8], scopes: usize, at: usize) -> Reading
         return read;
     };
     if !rules::symbol_right(scopes, x) {
-        return Reading::Refused(5, at);
+        return Reading::Refused(refusal::WRONG_NUMBER, at);
     }
     read
 }
 
 fn more_scopes(file: &[u8], k: usize, at: usize) -> bool
-    ensures { λ r. ⌜ r ≡ (eqb k 0 || eqb (getD (now (file .entry)) at 0) 41) ⌝ }
+    ensures { λ r. ⌜ r ≡ (eqb k 0 || eqb (getD (now (file .entry)) at 0) Tag.Scope) ⌝ }
 {
     if k == 0 {
         return true;
     }
-    fields::read_tag(file, at) == 41
+    fields::read_tag(file, at) == tag::SCOPE
 }
 
 fn more_symbols(file: &[u8], at: usize) -> bool
-    ensures { λ r. ⌜ r ≡ eqb (getD (now (file .entry)) at 0) 42 ⌝ }
+    ensures { λ r. ⌜ r ≡ eqb (getD (now (file .entry)) at 0) Tag.Symbol ⌝ }
 {
-    fields::read_tag(file, at) == 42
+    fields::read_tag(file, at) == tag::SYMBOL
 }
 
 pub fn read_scopes(file: &[u8], from: usize) -> Rows
@@ -389,7 +417,7 @@ pub fn read_scopes(file: &[u8], from: usize) -> Rows
 {
     let mut k: usize = 0;
     let mut at: usize = from;
-    while k < 9362 {
+    while k < MOST_ROWS {
         if !more_scopes(file, k, at) {
             return Rows::Read(k, at);
         }
@@ -408,7 +436,7 @@ pub fn read_symbols(file: &[u8], scopes: usize, from: usize) -> Rows
 {
     let mut k: usize = 0;
     let mut at: usize = from;
-    while k < 9362 {
+    while k < MOST_ROWS {
         if !more_symbols(file, at) {
             return Rows::Read(k, at);
         }
@@ -440,7 +468,7 @@ fn first_unnamed(marks: &[u8]) -> usize
 
 // The tree, what stands behind it, and the lowest unnamed row.
 fn check_tree(file: &[u8], marks: &mut [u8], rows: RowCounts, at: usize) -> Answer
-    requires { ⌜ length (now marks) ≤ 9362 ⌝ }
+    requires { ⌜ length (now marks) ≤ mostRows ⌝ }
     ensures { λ r. ⌜ r ≡ treeF (now (file .entry)) (rows .scopes) (rows .symbols) at (now (marks .entry)) ⌝ }
 {
     let a = check_statement(
@@ -448,31 +476,31 @@ fn check_tree(file: &[u8], marks: &mut [u8], rows: RowCounts, at: usize) -> Answ
         marks,
         rows,
         Place::Program,
-        Up::Plain,
+        Role::Plain,
         ScopeId(0),
-        tallies::no_tally(),
+        tally::no_tally(),
         at,
-        64,
+        MOST_LEVELS,
     );
     let Answer::Next(next, t) = a else {
         return a;
     };
     if next < file.len() {
-        return Answer::Refused(7, next);
+        return Answer::Refused(refusal::BYTES_BEHIND, next);
     }
     let u = first_unnamed(marks);
     if u < marks.len() {
-        return Answer::Refused(5, 7 + 7 * u);
+        return Answer::Refused(refusal::WRONG_NUMBER, SETTINGS_BYTES + SCOPE_BYTES * u);
     }
     Answer::Next(next, t)
 }
 
 // The same, with no row marked.
 fn check_unmarked(file: &[u8], rows: RowCounts, at: usize) -> Answer
-    requires { ⌜ rows .scopes ≤ 9362 ⌝ }
+    requires { ⌜ rows .scopes ≤ mostRows ⌝ }
     ensures { λ r. ⌜ r ≡ treeF (now (file .entry)) (rows .scopes) (rows .symbols) at (replicate (rows .scopes) 0) ⌝ }
 {
-    let mut marks = [0u8; 9362];
+    let mut marks = [0u8; MOST_ROWS];
     let scopes = rows.scopes as usize;
     check_tree(file, &mut marks[..scopes], rows, at)
 }
@@ -559,18 +587,18 @@ fn check_rows(file: &[u8], settings: Field) -> Whole
 fn check_whole(file: &[u8]) -> Whole
     ensures { λ r. ⌜ r ≡ fileF (now (file .entry)) ⌝ }
 {
-    if 65535 < file.len() {
-        return Whole::Refused(1, 65535);
+    if MOST_BYTES < file.len() {
+        return Whole::Refused(refusal::TOO_LONG, MOST_BYTES);
     }
     let read = fields::read_field(file, Place::Settings, 0);
     let Reading::Whole(s) = read else {
         return file_refusal(read);
     };
-    if 2 < s.a {
-        return Whole::Refused(5, 0);
+    if mode::INLINE < s.a {
+        return Whole::Refused(refusal::WRONG_NUMBER, 0);
     }
     if 1 < s.b {
-        return Whole::Refused(5, 0);
+        return Whole::Refused(refusal::WRONG_NUMBER, 0);
     }
     check_rows(file, s)
 }

@@ -1,31 +1,99 @@
-// Fields of a tree file: what stands at an offset, whether it may, and which numbers are right.
+// Fields of a tree file: the field at an offset, whether its tag may stand there, and the file reader.
 use meaning::Field;
 use meaning::Place;
 use meaning::Reading;
+use meaning::refusal;
+use meaning::tag;
 ghost use mathlib.Core.Path.{_≡_};
 ghost use mathlib.Core.List.{[], _∷_, _++_};
 ghost use Prim.Native.Nat.{_+_, _*_, _≤_};
-ghost use lib.ListN.{getD, length};
+ghost use lib.ListN.{getD, length, set};
+ghost use lib.Seq.{sets};
+ghost use Rattle.meaning.specs.Numbers.Tag;
 ghost use Rattle.meaning.specs.Tree.{oneOf};
-ghost use Rattle.meaning.specs.File.{numbersOf};
-ghost use Rattle.meaning.specs.Grammar.{statements, expressions, allowed, two, number, fieldAt};
+ghost use Rattle.meaning.specs.File.{numbersOf, headBytes, fieldBytes, twoBytes};
+ghost use Rattle.meaning.specs.Grammar.{statements, expressions, allowed, two, number, fieldOf, fieldAt};
+
+// ---- sizes in bytes
+
+// A field: its tag, then the length of its numbers and the numbers themselves.
+pub const TAG_BYTES: usize = 1;
+
+pub const NUMBER_BYTES: usize = 2;
+
+pub const HEAD_BYTES: usize = TAG_BYTES + NUMBER_BYTES;
+
+// Where the numbers of a field stand.
+pub const NUMBER_A: usize = HEAD_BYTES;
+
+pub const NUMBER_B: usize = NUMBER_A + NUMBER_BYTES;
+
+pub const NUMBER_C: usize = NUMBER_B + NUMBER_BYTES;
+
+pub const NUMBER_D: usize = NUMBER_C + NUMBER_BYTES;
+
+// A field with so many numbers.
+const ONE_NUMBER: usize = HEAD_BYTES + NUMBER_BYTES;
+
+const TWO_NUMBERS: usize = ONE_NUMBER + NUMBER_BYTES;
+
+const THREE_NUMBERS: usize = TWO_NUMBERS + NUMBER_BYTES;
+
+const FOUR_NUMBERS: usize = THREE_NUMBERS + NUMBER_BYTES;
+
+// The largest field.
+pub const MOST_FIELD_BYTES: usize = FOUR_NUMBERS;
+
+// Fields by their tags; an export is a DefaultExport or an ExportedDeclaration, and a mention a Read or a Name.
+pub const SETTINGS_BYTES: usize = TWO_NUMBERS;
+
+pub const SCOPE_BYTES: usize = TWO_NUMBERS;
+
+pub const SYMBOL_BYTES: usize = FOUR_NUMBERS;
+
+pub const BLOCK_BYTES: usize = TWO_NUMBERS;
+
+pub const DECLARATION_BYTES: usize = TWO_NUMBERS;
+
+pub const DECLARATOR_BYTES: usize = THREE_NUMBERS;
+
+pub const TRY_BYTES: usize = TWO_NUMBERS;
+
+pub const CATCH_BYTES: usize = FOUR_NUMBERS;
+
+pub const MODULE_LINE_BYTES: usize = THREE_NUMBERS;
+
+pub const EXPORT_BYTES: usize = ONE_NUMBER;
+
+pub const SPECIFIER_BYTES: usize = TWO_NUMBERS;
+
+pub const EXPRESSION_BYTES: usize = TWO_NUMBERS;
+
+pub const MENTION_BYTES: usize = ONE_NUMBER;
+
+pub const CALL_BYTES: usize = THREE_NUMBERS;
+
+pub const LOAD_BYTES: usize = TWO_NUMBERS;
+
+pub const STEP_BYTES: usize = THREE_NUMBERS;
 
 // ---- bytes and fields
 
 // The byte at an offset, or 0 behind the end.
-pub fn byte(file: &[u8], at: usize) -> u8
+fn byte(file: &[u8], at: usize) -> u8
     ensures { λ r. ⌜ r ≡ getD (now (file .entry)) at 0 ⌝ }
 {
     if at < file.len() { file[at] } else { 0 }
 }
 
+// Two bytes as a number, high byte first.
 fn join(high: u8, low: u8) -> u16
     ensures { λ r. ⌜ r ≡ high * 256 + low ⌝ }
 {
     (high as u16) * 256 + (low as u16)
 }
 
-// Two bytes as a number, high byte first; a missing byte reads as 0.
+// The number at an offset; a missing byte reads as 0.
 pub fn read_two(file: &[u8], at: usize) -> u16
     ensures { λ r. ⌜ r ≡ two (now (file .entry)) at ⌝ }
 {
@@ -38,133 +106,193 @@ pub fn read_two(file: &[u8], at: usize) -> u16
     join(high, low)
 }
 
+// Stores a byte; past the end nothing happens.
+pub fn put(file: &mut [u8], at: usize, b: u8)
+    ensures { λ _. ⌜ now (file .exit) ≡ set (now (file .entry)) at b ⌝ }
+{
+    if at < file.len() {
+        file[at] = b;
+    }
+}
+
+// Stores a number, high byte first.
+pub fn put_two(file: &mut [u8], at: usize, n: u16)
+    requires { ⌜ at ≤ 4000000000 ⌝ }
+    ensures { λ _. ⌜ now (file .exit) ≡ sets (now (file .entry)) at (twoBytes (n ∷ [])) ⌝ }
+{
+    put(file, at, (n / 256) as u8);
+    put(file, at + 1, (n % 256) as u8);
+}
+
+// The tag at an offset, or 0 behind the end.
+pub fn tag_at(file: &[u8], at: usize) -> u16
+    ensures { λ r. ⌜ r ≡ getD (now (file .entry)) at 0 ⌝ }
+{
+    byte(file, at) as u16
+}
+
 // How many numbers a tag has. No arm has two tags in a row, which would be tested as a range: so the compiler makes a table.
-pub fn numbers_of(tag: u8) -> u8
+pub fn numbers_of(tag: u16) -> u8
     ensures { λ r. ⌜ r ≡ numbersOf tag ⌝ }
 {
     match tag {
-        14 | 18 | 25 => 1,
-        19 | 26 => 1,
-        1 | 4 | 7 | 9 | 11 | 16 | 20 | 24 | 28 | 40 => 2,
-        2 | 5 | 10 | 41 => 2,
-        3 | 6 | 8 | 17 | 27 | 29 => 3,
-        12 | 15 | 42 => 4,
-        13 => 4,
+        tag::BODY | tag::DEFAULT_EXPORT | tag::READ => 1,
+        tag::EXPORTED_DECLARATION | tag::NAME => 1,
+        tag::PROGRAM
+        | tag::LABEL
+        | tag::FOR
+        | tag::SWITCH
+        | tag::TRY
+        | tag::STATIC_BLOCK
+        | tag::SPECIFIER
+        | tag::EXPRESSION
+        | tag::LOAD
+        | tag::SETTINGS => 2,
+        tag::BLOCK | tag::DECLARATION | tag::CASE | tag::SCOPE => 2,
+        tag::PLAIN | tag::DECLARATOR | tag::FOR_OF | tag::MODULE_LINE | tag::CALL | tag::STEP => 3,
+        tag::CATCH | tag::CLASS | tag::SYMBOL => 4,
+        tag::FUNCTION => 4,
         _ => 0,
     }
 }
 
-fn is_statement(tag: u8) -> bool
+// The bytes of a field of this tag.
+pub fn bytes_of(tag: u16) -> u16
+    ensures { λ r. ⌜ r ≡ fieldBytes tag ⌝ }
+{
+    (HEAD_BYTES + NUMBER_BYTES * (numbers_of(tag) as usize)) as u16
+}
+
+// ---- which tags a place takes
+
+// A statement.
+fn is_statement(tag: u16) -> bool
     ensures { λ r. ⌜ r ≡ oneOf statements tag ⌝ }
 {
     match tag {
-        2 | 3 | 4 | 7 | 8 | 9 | 11 | 13 | 15 | 29 => true,
+        tag::BLOCK
+        | tag::PLAIN
+        | tag::LABEL
+        | tag::FOR
+        | tag::FOR_OF
+        | tag::SWITCH
+        | tag::TRY
+        | tag::FUNCTION
+        | tag::CLASS
+        | tag::STEP => true,
         _ => false,
     }
 }
 
-fn is_expression(tag: u8) -> bool
+// An expression.
+fn is_expression(tag: u16) -> bool
     ensures { λ r. ⌜ r ≡ oneOf expressions tag ⌝ }
 {
     match tag {
-        13 | 15 | 24 | 25 | 27 | 28 => true,
+        tag::FUNCTION | tag::CLASS | tag::EXPRESSION | tag::READ | tag::CALL | tag::LOAD => true,
         _ => false,
     }
 }
 
-fn is_program_item(tag: u8) -> bool
-    ensures { λ r. ⌜ r ≡ oneOf (5 ∷ 17 ∷ 18 ∷ 19 ∷ statements) tag ⌝ }
+// What may stand in Program.
+fn is_program_item(tag: u16) -> bool
+    ensures { λ r. ⌜ r ≡ oneOf (Tag.Declaration ∷ Tag.ModuleLine ∷ Tag.DefaultExport ∷ Tag.ExportedDeclaration ∷ statements) tag ⌝ }
 {
     match tag {
-        5 | 17 | 18 | 19 => true,
+        tag::DECLARATION | tag::MODULE_LINE | tag::DEFAULT_EXPORT | tag::EXPORTED_DECLARATION =>
+            true,
         _ => is_statement(tag),
     }
 }
 
-fn is_list_item(tag: u8) -> bool
-    ensures { λ r. ⌜ r ≡ oneOf (5 ∷ statements) tag ⌝ }
+// What may stand in a list of statements.
+fn is_list_item(tag: u16) -> bool
+    ensures { λ r. ⌜ r ≡ oneOf (Tag.Declaration ∷ statements) tag ⌝ }
 {
     match tag {
-        5 => true,
+        tag::DECLARATION => true,
         _ => is_statement(tag),
     }
 }
 
-fn is_plain_item(tag: u8) -> bool
+// What may stand in a Plain.
+fn is_plain_item(tag: u16) -> bool
     ensures { λ r. ⌜ r ≡ oneOf (statements ++ expressions) tag ⌝ }
 {
     match tag {
-        24 | 25 | 27 | 28 => true,
+        tag::EXPRESSION | tag::READ | tag::CALL | tag::LOAD => true,
         _ => is_statement(tag),
     }
 }
 
 // What may stand left in a For or a ForOf.
-fn is_left(tag: u8) -> bool
-    ensures { λ r. ⌜ r ≡ oneOf (5 ∷ expressions) tag ⌝ }
+fn is_left(tag: u16) -> bool
+    ensures { λ r. ⌜ r ≡ oneOf (Tag.Declaration ∷ expressions) tag ⌝ }
 {
     match tag {
-        5 => true,
+        tag::DECLARATION => true,
         _ => is_expression(tag),
     }
 }
 
-fn is_class_item(tag: u8) -> bool
-    ensures { λ r. ⌜ r ≡ oneOf (16 ∷ expressions) tag ⌝ }
+// What may stand in a Class.
+fn is_class_item(tag: u16) -> bool
+    ensures { λ r. ⌜ r ≡ oneOf (Tag.StaticBlock ∷ expressions) tag ⌝ }
 {
     match tag {
-        16 => true,
+        tag::STATIC_BLOCK => true,
         _ => is_expression(tag),
     }
 }
 
-fn is_exported(tag: u8) -> bool
-    ensures { λ r. ⌜ r ≡ oneOf (5 ∷ 13 ∷ 15 ∷ []) tag ⌝ }
+// What an ExportedDeclaration may export.
+fn is_exported(tag: u16) -> bool
+    ensures { λ r. ⌜ r ≡ oneOf (Tag.Declaration ∷ Tag.Function ∷ Tag.Class ∷ []) tag ⌝ }
 {
     match tag {
-        5 | 13 | 15 => true,
+        tag::DECLARATION | tag::FUNCTION | tag::CLASS => true,
         _ => false,
     }
 }
 
 // Whether a tag may stand at a place.
-pub fn is_allowed(place: Place, tag: u8) -> bool
+pub fn is_allowed(place: Place, tag: u16) -> bool
     ensures { λ r. ⌜ r ≡ allowed place tag ⌝ }
 {
     match place {
-        Place::Settings => tag == 40,
-        Place::ScopeRow => tag == 41,
-        Place::SymbolRow => tag == 42,
-        Place::Program => tag == 1,
+        Place::Settings => tag == tag::SETTINGS,
+        Place::ScopeRow => tag == tag::SCOPE,
+        Place::SymbolRow => tag == tag::SYMBOL,
+        Place::Program => tag == tag::PROGRAM,
         Place::ProgramItem => is_program_item(tag),
         Place::ListItem => is_list_item(tag),
         Place::Statement => is_statement(tag),
         Place::PlainItem => is_plain_item(tag),
-        Place::Declarator => tag == 6,
-        Place::ForOfDeclarator => tag == 6,
-        Place::Name => tag == 26,
+        Place::Declarator => tag == tag::DECLARATOR,
+        Place::ForOfDeclarator => tag == tag::DECLARATOR,
+        Place::Name => tag == tag::NAME,
         Place::ForLeft => is_left(tag),
         Place::ForOfLeft => is_left(tag),
         Place::Expression => is_expression(tag),
         Place::SwitchExpression => is_expression(tag),
-        Place::Case => tag == 10,
-        Place::TryPart => tag == 2,
-        Place::Catch => tag == 12,
-        Place::Body => tag == 14,
+        Place::Case => tag == tag::CASE,
+        Place::TryPart => tag == tag::BLOCK,
+        Place::Catch => tag == tag::CATCH,
+        Place::Body => tag == tag::BODY,
         Place::ClassItem => is_class_item(tag),
         Place::DefaultExport => is_expression(tag),
         Place::ExportedDeclaration => is_exported(tag),
-        Place::Specifier => tag == 20,
+        Place::Specifier => tag == tag::SPECIFIER,
     }
 }
 
 // Number i of the whole field at an offset, or 0 where the field has no such number.
 fn read_number(file: &[u8], at: usize, len: u8, i: u8) -> u16
-    requires { ⌜ at + (3 + 2 * len) ≤ length (now file) ⌝ }
+    requires { ⌜ at + (headBytes + 2 * len) ≤ length (now file) ⌝ }
     ensures { λ r. ⌜ r ≡ number (now (file .entry)) at len i ⌝ }
 {
     if i < len {
-        let from = at + 3 + 2 * (i as usize);
+        let from = at + HEAD_BYTES + NUMBER_BYTES * (i as usize);
         return join(file[from], file[from + 1]);
     }
     0
@@ -175,21 +303,21 @@ fn field_at(file: &[u8], place: Place, at: usize) -> Reading
     ensures { λ r. ⌜ r ≡ fieldAt (now (file .entry)) place at ⌝ }
 {
     if file.len() <= at {
-        return Reading::Refused(2, at);
+        return Reading::Refused(refusal::CUT, at);
     }
-    if file.len() - at < 3 {
-        return Reading::Refused(2, at);
+    if file.len() - at < HEAD_BYTES {
+        return Reading::Refused(refusal::CUT, at);
     }
-    let tag = byte(file, at);
+    let tag = tag_at(file, at);
     if !is_allowed(place, tag) {
-        return Reading::Refused(3, at);
+        return Reading::Refused(refusal::WRONG_TAG, at);
     }
     let len = numbers_of(tag);
-    if (read_two(file, at + 1) as usize) != 2 * (len as usize) {
-        return Reading::Refused(4, at);
+    if (read_two(file, at + TAG_BYTES) as usize) != NUMBER_BYTES * (len as usize) {
+        return Reading::Refused(refusal::WRONG_LENGTH, at);
     }
-    if file.len() - at - 3 < 2 * (len as usize) {
-        return Reading::Refused(2, at);
+    if file.len() - at - HEAD_BYTES < NUMBER_BYTES * (len as usize) {
+        return Reading::Refused(refusal::CUT, at);
     }
     Reading::Whole(Field {
         tag: tag,
@@ -197,8 +325,36 @@ fn field_at(file: &[u8], place: Place, at: usize) -> Reading
         b: read_number(file, at, len, 1),
         c: read_number(file, at, len, 2),
         d: read_number(file, at, len, 3),
-        next: at + (3 + 2 * (len as usize)),
+        next: at + (HEAD_BYTES + NUMBER_BYTES * (len as usize)),
     })
+}
+
+// Number i of the field at an offset that may not be whole, or 0 where a field of its tag has no such number.
+fn number_of(file: &[u8], at: usize, len: u8, i: u8) -> u16
+    requires { ⌜ at ≤ 4000000000 ⌝ }
+    ensures { λ r. ⌜ r ≡ number (now (file .entry)) at len i ⌝ }
+{
+    if i < len {
+        return read_two(file, at + HEAD_BYTES + NUMBER_BYTES * (i as usize));
+    }
+    0
+}
+
+// The field at an offset, whatever stands there: nothing is checked, and a missing byte reads as 0.
+pub fn field_of(file: &[u8], at: usize) -> Field
+    requires { ⌜ at ≤ 4000000000 ⌝ }
+    ensures { λ r. ⌜ r ≡ fieldOf (now (file .entry)) at ⌝ }
+{
+    let tag = tag_at(file, at);
+    let len = numbers_of(tag);
+    Field {
+        tag: tag,
+        a: number_of(file, at, len, 0),
+        b: number_of(file, at, len, 1),
+        c: number_of(file, at, len, 2),
+        d: number_of(file, at, len, 3),
+        next: at + (HEAD_BYTES + NUMBER_BYTES * (len as usize)),
+    }
 }
 
 // ---- the file reader
@@ -218,10 +374,10 @@ impl<'a> Reader<'a> {
     }
 
     // The tag at the offset, or 0 behind the end.
-    pub fn tag(self) -> u8
+    pub fn tag(self) -> u16
         ensures { λ r. ⌜ r ≡ getD (now (self .entry .file)) (self .entry .at) 0 ⌝ }
     {
-        byte(self.file, self.at)
+        tag_at(self.file, self.at)
     }
 
     // The field at the offset: head cut, tag, length, payload cut.
@@ -233,7 +389,7 @@ impl<'a> Reader<'a> {
 }
 
 // The tag at an offset of a file.
-pub fn read_tag(file: &[u8], at: usize) -> u8
+pub fn read_tag(file: &[u8], at: usize) -> u16
     ensures { λ r. ⌜ r ≡ getD (now (file .entry)) at 0 ⌝ }
 {
     Reader::new(file, at).tag()

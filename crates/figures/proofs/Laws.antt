@@ -3,8 +3,8 @@
 use mathlib.Core.Path.{_≡_}
 use Prim.Native.Nat.{ℕ, _+_, _*_}
 use native.Mathlib.Omega.{arith}
-use Rattle.tallies.specs.Tally.{tallyFigures}
-use Rattle.tallies.specs.declared.Tally.{Tally}
+use Rattle.figures.specs.Tally.{tallyFigures}
+use Rattle.figures.specs.declared.tally.Tally.{Tally}
 use Rattle.figures.specs.declared.FinalFigures.{FinalFigures}
 use Rattle.figures.specs.Figures.{helperF, finalF}
 

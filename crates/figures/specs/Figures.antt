@@ -3,18 +3,25 @@
 use mathlib.Core.Bool.{not, _&&_}
 use Prim.Native.Nat.{ℕ, _+_, _*_}
 use lib.Dec.{eqb, leb}
+use Rattle.meaning.specs.Numbers.Mode
+use Rattle.meaning.specs.Numbers.Refusal
 use Rattle.meaning.specs.Tree.{if_then_else_}
+use Rattle.meaning.specs.File.{settingsBytes, scopeBytes, symbolBytes}
 use Rattle.meaning.specs.Charges.{Figures}
 use Rattle.meaning.specs.Reading.{Outcome, accepted, refused}
-use Rattle.tallies.specs.Tally.{tallyFigures}
-use Rattle.tallies.specs.declared.Tally.{Tally}
+use Rattle.figures.specs.Tally.{tallyFigures}
+use Rattle.figures.specs.declared.tally.Tally.{Tally}
 use Rattle.figures.specs.declared.FinalFigures.{FinalFigures}
 use Rattle.figures.specs.declared.Figured.{Figured}
 use Rattle.figures.specs.declared.Figured.the-variants.{Fine, Refused}
 
+-- no part of a sum is larger: a counter has 32 bits, and few are added
+abbrev pub mostPart : ℕ
+mostPart = 2000000000000
+
 -- the runtime helper, once, if there is a context
 unfoldable pub helperF : ℕ → ℕ → ℕ
-helperF mode contexts = if eqb mode 0 && not (eqb contexts 0) then 1 else 0
+helperF mode contexts = if eqb mode Mode.Runtime && not (eqb contexts 0) then 1 else 0
 
 unfoldable pub finalF : ℕ → ℕ → ℕ → Tally → FinalFigures
 finalF mode scopes symbols t =
@@ -25,13 +32,13 @@ finalF mode scopes symbols t =
       scopes = scopes + g .scopes;
       symbols = symbols + g .symbols + h;
       contexts = g .contexts;
-      bytes = 7 + 7 * scopes + 11 * symbols + g .bytes + 11 * h;
+      bytes = settingsBytes + scopeBytes * scopes + symbolBytes * symbols + g .bytes + symbolBytes * h;
     }
 
 -- 8: inline with a context to make
 unfoldable pub figuredF : ℕ → ℕ → ℕ → Tally → Figured
 figuredF mode scopes symbols t =
-    if eqb mode 2 && leb 1 (tallyFigures t .contexts) then Refused 8 0 else Fine (finalF mode scopes symbols t)
+    if eqb mode Mode.Inline && leb 1 (tallyFigures t .contexts) then Refused Refusal.InlineContext 0 else Fine (finalF mode scopes symbols t)
 
 -- 01's answer: the figures, or number and place
 abbrev pub shownFigures : Figures → FinalFigures

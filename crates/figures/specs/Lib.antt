@@ -1,2 +1,3 @@
 -- What the code of this crate computes.
+pub mod Tally
 pub mod Figures

@@ -1,16 +1,16 @@
 // The types that the definitions and the code share, and the numbers that 01 gives a meaning, by name.
-pub mod tag;
-pub mod kind;
 pub mod form;
-pub mod line_form;
-pub mod parts;
-pub mod mode;
-pub mod letter;
-pub mod step_form;
-pub mod scope_flag;
-pub mod symbol_flag;
+pub mod kind;
 pub mod known_name;
+pub mod letter;
+pub mod line_form;
+pub mod mode;
+pub mod parts;
 pub mod refusal;
+pub mod scope_flag;
+pub mod step_form;
+pub mod symbol_flag;
+pub mod tag;
 
 // Numbers of scope, symbol and record rows, from 1 on; 0 is none.
 pub struct ScopeId(pub u16);
@@ -48,7 +48,7 @@ pub enum Place {
 
 // A field: its tag, its numbers filled up with 0, and the offset behind it.
 pub struct Field {
-    pub tag: u8,
+    pub tag: u16,
     pub a: u16,
     pub b: u16,
     pub c: u16,

@@ -31,16 +31,37 @@ fieldFrom (t ∷ ns) = t % 256 ∷ twoBytes (2 * length ns % 65536 ∷ ns)
 
 -- ---- a character more
 
+abbrev pub lineEnd : ℕ
+lineEnd = 10
+
+abbrev pub space : ℕ
+space = 32
+
+abbrev pub comma : ℕ
+comma = 44
+
+abbrev pub dot : ℕ
+dot = 46
+
+abbrev pub digit0 : ℕ
+digit0 = 48
+
+abbrev pub digit9 : ℕ
+digit9 = 57
+
+abbrev pub colon : ℕ
+colon = 58
+
 unfoldable pub isDigit : ℕ → Bool
-isDigit c = leb 48 c && leb c 57
+isDigit c = leb digit0 c && leb c digit9
 
 -- a space or a line end
 unfoldable pub isSpace : ℕ → Bool
-isSpace c = eqb c 32 || eqb c 10
+isSpace c = eqb c space || eqb c lineEnd
 
 -- a number keeps to two bytes
 unfoldable pub withDigit : ℕ → Part → Part
-withDigit c p = part (p .bytes) (p .numbers) true ((p .value * 10 + (c - 48)) % 65536)
+withDigit c p = part (p .bytes) (p .numbers) true ((p .value * 10 + (c - digit0)) % 65536)
 
 -- the digits, if there are any, are a number of the field
 unfoldable pub numbered : Part → Part
@@ -59,7 +80,7 @@ unfoldable pub after : ℕ → Part → Part
 after c p =
     if isDigit c then withDigit c p
     else if isSpace c then fielded (numbered p)
-    else if eqb c 46 then dotted (numbered p)
+    else if eqb c dot then dotted (numbered p)
     else numbered p
 
 unfoldable pub read : Part → List ℕ → Part
@@ -72,7 +93,7 @@ most = 1000000000
 
 -- THE BYTES of a text, whose end is a space; a longer text has none
 unfoldable pub encoded : List ℕ → List ℕ
-encoded text = if leb (length text) most then after 32 (read nothing text) .bytes else []
+encoded text = if leb (length text) most then after space (read nothing text) .bytes else []
 
 -- ---- which texts are spelled right
 
@@ -83,19 +104,19 @@ limit p = if eqb (length (p .numbers)) 0 then 255 else 65535
 -- behind a number, with so many before it in its field: a colon or a dot behind the first, a comma behind another; a field has at most
 -- 32,767 numbers behind its tag
 unfoldable pub mayPart : ℕ → ℕ → Bool
-mayPart c k = if eqb k 0 then eqb c 58 || eqb c 46 else eqb c 44 && leb k 32766
+mayPart c k = if eqb k 0 then eqb c colon || eqb c dot else eqb c comma && leb k 32766
 
 -- A number fits, and has digits. Fields and single bytes are parted by spaces and line ends, any number of them.
 unfoldable pub mayStand : ℕ → Part → Bool
 mayStand c p =
     let k = length (p .numbers) in
-    if isDigit c then leb (p .value * 10 + (c - 48)) (limit p)
+    if isDigit c then leb (p .value * 10 + (c - digit0)) (limit p)
     else if p .digits then isSpace c || mayPart c k
     else isSpace c && eqb k 0
 
 -- the first character that may not stand where it does; the end counts as a space
 unfoldable pub spelledFrom : Part → ℕ → List ℕ → Spelling
-spelledFrom p i [] = if mayStand 32 p then Right else Wrong i
+spelledFrom p i [] = if mayStand space p then Right else Wrong i
 spelledFrom p i (c ∷ text) = if mayStand c p then spelledFrom (after c p) (i + 1) text else Wrong i
 
 unfoldable pub spelled : List ℕ → Spelling

@@ -9,7 +9,7 @@ use native.Mathlib.Omega.{arith}
 use lib.ListN.{length, getD, length-append}
 use borrow.Author.Tests.{leb-true, eq-eqb, ne-eqb}
 use Rattle.meaning.specs.File.{twoBytes}
-use Rattle.notation.specs.Notation.{Part, isDigit, fieldFrom, numbered, fielded, dotted}
+use Rattle.notation.specs.Notation.{Part, digit0, digit9, isDigit, fieldFrom, numbered, fielded, dotted}
 use Rattle.notation.specs.declared.Spot.{Spot}
 
 -- no digits are read yet
@@ -27,9 +27,9 @@ both-left : (a b : Bool) → (a && b) ≡ true → a ≡ true
 both-left true b e = refl
 both-left false b e = e
 
-pub digit-low : (c : ℕ) → isDigit c ≡ true → 48 ≤ c
+pub digit-low : (c : ℕ) → isDigit c ≡ true → digit0 ≤ c
 unfolding isDigit
-digit-low c e = leb-true 48 c (both-left (leb 48 c) (leb c 57) e)
+digit-low c e = leb-true digit0 c (both-left (leb digit0 c) (leb c digit9) e)
 
 pub two-length : (ns : List ℕ) → length (twoBytes ns) ≡ 2 * length ns
 unfolding twoBytes

@@ -11,7 +11,7 @@ use lib.Seq.{sets, set-comm}
 use borrow.Author.Tests.{eqb-true}
 use Rattle.meaning.specs.Tree.{if_then_else_}
 use Rattle.meaning.specs.File.{twoBytes}
-use Rattle.notation.specs.Notation.{Part, isDigit, isSpace, fieldFrom, numbered, fielded, dotted, after}
+use Rattle.notation.specs.Notation.{Part, space, isDigit, isSpace, fieldFrom, numbered, fielded, dotted, after}
 use Rattle.notation.specs.Spots.{Reads, two-length}
 use Rattle.notation.specs.declared.Spot.{Spot}
 
@@ -140,6 +140,6 @@ file-rest out p true = dotted-by out p _ refl
 file-rest out p false = refl
 
 -- a space leaves no field open
-pub file-end : (out : List ℕ) (p : Part) → fileOf out (after 32 p) ≡ sets out 0 (after 32 p .bytes)
+pub file-end : (out : List ℕ) (p : Part) → fileOf out (after space p) ≡ sets out 0 (after space p .bytes)
 unfolding fileOf opened after isDigit isSpace fielded
 file-end out p = refl

@@ -9,7 +9,7 @@ use lib.ListN.{length, getD, take, drop, drop-of-length-le}
 use lib.Seq.{take-suc, take-all, drop-cons}
 use borrow.Author.Tests.{le-leb}
 use Rattle.meaning.specs.Tree.{if_then_else_}
-use Rattle.notation.specs.Notation.{Part, nothing, after, read, most, encoded, mayStand, spelledFrom}
+use Rattle.notation.specs.Notation.{Part, nothing, space, after, read, most, encoded, mayStand, spelledFrom}
 use Rattle.notation.specs.Spots.{Reads, spotAt}
 use Rattle.notation.specs.Stored.{opened, fileOf}
 use Rattle.notation.specs.declared.Spelling.the-variants.{Right, Wrong}
@@ -40,7 +40,7 @@ module _ (text : List ℕ) (i : ℕ) where
   unfolding reached
   reached-more h = rw (add-one, take-suc text i 0) (read-more (take i text) (getD text i 0) nothing)
 
-  pub encoded-end : length text ≤ most → length text ≤ i → encoded text ≡ after 32 (reached text i) .bytes
+  pub encoded-end : length text ≤ most → length text ≤ i → encoded text ≡ after space (reached text i) .bytes
   unfolding encoded reached
   encoded-end l h = rw (le-leb (length text) most l, take-all i text h)
 
@@ -55,6 +55,6 @@ module _ (text : List ℕ) (i : ℕ) where
   spelled-wrong h e = rw (drop-cons text i 0 h, e)
 
   pub spelled-end : length text ≤ i
-      → spelledFrom (reached text i) i (drop i text) ≡ (if mayStand 32 (reached text i) then Right else Wrong i)
+      → spelledFrom (reached text i) i (drop i text) ≡ (if mayStand space (reached text i) then Right else Wrong i)
   unfolding spelledFrom
   spelled-end h = rw (drop-of-length-le text h)

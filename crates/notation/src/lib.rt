@@ -1,18 +1,29 @@
 // The notation of 01 for files, read and printed: `5:3,1` is tag 5 with the numbers 3 and 1, a tag without numbers stands alone, and fields
 // are parted by spaces or line ends. So that every file can be shown, and read back as it was, a byte that belongs to no whole field is
 // written with a dot: `24.0.4.` are the bytes 24, 0 and 4. A text is thus never longer than 4 characters for each byte.
+use fields::HEAD_BYTES;
+use fields::NUMBER_BYTES;
+use fields::TAG_BYTES;
 ghost use mathlib.Core.Path.{_≡_};
 ghost use mathlib.Core.List.{List, [], _∷_};
 ghost use Prim.Native.Nat.{ℕ, _+_, _*_, _-_, _<_, _≤_};
-ghost use lib.ListN.{length, set};
+ghost use lib.ListN.{length};
 ghost use lib.Seq.{sets};
-ghost use Rattle.meaning.specs.File.{twoBytes};
-ghost use Rattle.notation.specs.Notation.{Part, isDigit, isSpace, withDigit, numbered, fielded, dotted, after, limit, mayPart, mayStand, encoded, spelled};
+ghost use Rattle.meaning.specs.File.{headBytes};
+ghost use Rattle.notation.specs.Notation.{Part, digit0, isDigit, isSpace, withDigit, numbered, fielded, dotted, after, limit, mayPart, mayStand, encoded, spelled};
 ghost use Rattle.notation.specs.Spots.{spotAt, Reads};
 ghost use Rattle.notation.specs.Stored.{fileOf};
 
 // So many characters are read.
 const MOST: usize = 1000000000;
+
+// So many numbers may stand before a comma, so that a field's length fits two bytes.
+const MOST_BEFORE: usize = 32766;
+
+// A tag is one byte, and a number two.
+const MOST_TAG: u32 = 255;
+
+const MOST_NUMBER: u32 = 65535;
 
 // Whether a text is spelled right, or the place of the first character that may not stand where it does.
 pub enum Spelling {
@@ -43,35 +54,37 @@ fn fresh(at: usize, count: usize) -> Spot
     }
 }
 
+// A decimal digit.
 fn is_digit(c: u8) -> bool
     ensures { λ r. ⌜ r ≡ isDigit c ⌝ }
 {
-    if c < 48 {
+    if c < b'0' {
         return false;
     }
-    c <= 57
+    c <= b'9'
 }
 
 // A space or a line end.
 fn is_space(c: u8) -> bool
     ensures { λ r. ⌜ r ≡ isSpace c ⌝ }
 {
-    if c == 32 {
+    if c == b' ' {
         return true;
     }
-    c == 10
+    c == b'\n'
 }
 
 // The value with one digit more.
 fn value_with(s: Spot, c: u8) -> u32
-    requires { ⌜ 48 ≤ c ⌝ }
-    ensures { λ r. ⌜ r ≡ s .value * 10 + (c - 48) ⌝ }
+    requires { ⌜ digit0 ≤ c ⌝ }
+    ensures { λ r. ⌜ r ≡ s .value * 10 + (c - digit0) ⌝ }
 {
-    (s.value as u32) * 10 + ((c - 48) as u32)
+    (s.value as u32) * 10 + ((c - b'0') as u32)
 }
 
+// Behind a digit.
 fn with_digit(s: Spot, c: u8) -> Spot
-    requires { ⌜ 48 ≤ c ⌝ }
+    requires { ⌜ digit0 ≤ c ⌝ }
     ensures { λ r. ⌜ ((p : Part) → Reads p s → Reads (withDigit c p) r) ⌝ }
     ensures { λ r. ⌜ r .at + 2 * r .count ≡ s .at + 2 * s .count ⌝ }
 {
@@ -104,7 +117,7 @@ fn end_field(s: Spot) -> Spot
     if s.count == 0 {
         return fresh(s.at, 0);
     }
-    fresh(s.at + 1 + 2 * s.count, 0)
+    fresh(s.at + TAG_BYTES + NUMBER_BYTES * s.count, 0)
 }
 
 // A dot behind the first number: a byte on its own, no field.
@@ -131,7 +144,7 @@ fn next(s: Spot, c: u8) -> Spot
     if is_space(c) {
         return end_field(end_number(s));
     }
-    if c == 46 {
+    if c == b'.' {
         return end_byte(end_number(s));
     }
     end_number(s)
@@ -143,7 +156,7 @@ fn next(s: Spot, c: u8) -> Spot
 fn largest(s: Spot) -> u32
     ensures { λ r. ⌜ ((p : Part) → Reads p s → r ≡ limit p) ⌝ }
 {
-    if s.count == 0 { 255 } else { 65535 }
+    if s.count == 0 { MOST_TAG } else { MOST_NUMBER }
 }
 
 // Behind a number, with so many before it in its field: a colon or a dot behind the first, a comma behind another.
@@ -151,11 +164,12 @@ fn may_part(c: u8, count: usize) -> bool
     ensures { λ r. ⌜ r ≡ mayPart c count ⌝ }
 {
     if count == 0 {
-        return c == 58 || c == 46;
+        return c == b':' || c == b'.';
     }
-    c == 44 && count <= 32766
+    c == b',' && count <= MOST_BEFORE
 }
 
+// Whether a character may stand next.
 fn may_stand(s: Spot, c: u8) -> bool
     ensures { λ r. ⌜ ((p : Part) → Reads p s → r ≡ mayStand c p) ⌝ }
 {
@@ -184,31 +198,13 @@ pub fn check(text: &[u8]) -> Spelling
         s = next(s, text[i]);
         i += 1;
     }
-    if !may_stand(s, 32) {
+    if !may_stand(s, b' ') {
         return Spelling::Wrong(i);
     }
     Spelling::Right
 }
 
 // ---- from the notation to bytes
-
-// Stores a byte; past the end nothing happens.
-fn put(file: &mut [u8], at: usize, b: u8)
-    ensures { λ _. ⌜ now (file .exit) ≡ set (now (file .entry)) at b ⌝ }
-{
-    if at < file.len() {
-        file[at] = b;
-    }
-}
-
-// A number, high byte first.
-fn put_two(file: &mut [u8], at: usize, n: u16)
-    requires { ⌜ at ≤ 4000000000 ⌝ }
-    ensures { λ _. ⌜ now (file .exit) ≡ sets (now (file .entry)) at (twoBytes (n ∷ [])) ⌝ }
-{
-    put(file, at, (n / 256) as u8);
-    put(file, at + 1, (n % 256) as u8);
-}
 
 // The number that ends: a tag in one byte, another in two.
 fn put_number(file: &mut [u8], s: Spot)
@@ -219,9 +215,9 @@ fn put_number(file: &mut [u8], s: Spot)
         return;
     }
     if s.count == 0 {
-        put(file, s.at, (s.value % 256) as u8);
+        fields::put(file, s.at, (s.value % 256) as u8);
     } else {
-        put_two(file, s.at + 1 + 2 * s.count, s.value);
+        fields::put_two(file, s.at + TAG_BYTES + NUMBER_BYTES * s.count, s.value);
     }
 }
 
@@ -231,7 +227,11 @@ fn put_length(file: &mut [u8], s: Spot)
     ensures { λ _. ⌜ ((out : List ℕ) (p : Part) → Reads p s → now (file .entry) ≡ fileOf out p → now (file .exit) ≡ fileOf out (fielded p)) ⌝ }
 {
     if s.count != 0 {
-        put_two(file, s.at + 1, (2 * (s.count - 1) % 65536) as u16);
+        fields::put_two(
+            file,
+            s.at + TAG_BYTES,
+            (NUMBER_BYTES * (s.count - 1) % 65536) as u16,
+        );
     }
 }
 
@@ -265,16 +265,18 @@ pub fn encode(text: &[u8], file: &mut [u8]) -> usize
         s = next(s, text[i]);
         i += 1;
     }
-    put_character(file, s, 32);
-    next(s, 32).at
+    put_character(file, s, b' ');
+    next(s, b' ').at
 }
 
 // ---- from bytes to the notation
 
+// A byte as a number to print.
 fn wide(b: u8) -> u64 {
     b as u64
 }
 
+// A number, and what stands before it.
 fn show_number(fd: i32, before: &[u8], n: u64) {
     io::write_all(fd, before);
     io::print_decimal(fd, n);
@@ -289,22 +291,22 @@ fn show_gap(fd: i32, at: usize) {
 
 // The place behind the field at a place; the place itself if no whole field stands there: it is cut, or its length is odd.
 fn field_end(file: &[u8], at: usize) -> usize
-    ensures { λ r. ⌜ (at < r → (at + 3 ≤ r) × (r ≤ length (now (file .entry)))) ⌝ }
+    ensures { λ r. ⌜ (at < r → (at + headBytes ≤ r) × (r ≤ length (now (file .entry)))) ⌝ }
 {
-    if file.len() < 3 {
+    if file.len() < HEAD_BYTES {
         return at;
     }
-    if file.len() - 3 < at {
+    if file.len() - HEAD_BYTES < at {
         return at;
     }
-    let len = fields::read_two(file, at + 1) as usize;
-    if len % 2 == 1 {
+    let len = fields::read_two(file, at + TAG_BYTES) as usize;
+    if len % NUMBER_BYTES == 1 {
         return at;
     }
-    if file.len() - 3 - at < len {
+    if file.len() - HEAD_BYTES - at < len {
         return at;
     }
-    at + 3 + len
+    at + HEAD_BYTES + len
 }
 
 // The numbers of a field, which stand from a place on.
@@ -313,7 +315,7 @@ fn show_numbers(fd: i32, file: &[u8], first: usize, count: usize)
 {
     let mut k: usize = 0;
     while k < count {
-        let n = fields::read_two(file, first + 2 * k) as u64;
+        let n = fields::read_two(file, first + NUMBER_BYTES * k) as u64;
         if k == 0 {
             show_number(fd, b":", n);
         } else {
@@ -323,12 +325,18 @@ fn show_numbers(fd: i32, file: &[u8], first: usize, count: usize)
     }
 }
 
+// The field from a place to another.
 fn show_field(fd: i32, file: &[u8], at: usize, end: usize)
-    requires { ⌜ (at + 3 ≤ end) × (end ≤ length (now file)) ⌝ }
+    requires { ⌜ (at + headBytes ≤ end) × (end ≤ length (now file)) ⌝ }
 {
     show_gap(fd, at);
     io::print_decimal(fd, wide(file[at]));
-    show_numbers(fd, file, at + 3, (end - at - 3) / 2);
+    show_numbers(
+        fd,
+        file,
+        at + HEAD_BYTES,
+        (end - at - HEAD_BYTES) / NUMBER_BYTES,
+    );
 }
 
 // The bytes from a place on, each with a dot.

@@ -3,17 +3,46 @@ use meaning::Field;
 use meaning::Place;
 use meaning::ScopeId;
 use meaning::SymbolId;
+use meaning::form;
+use meaning::kind;
+use meaning::letter;
+use meaning::line_form;
+use meaning::mode;
+use meaning::parts;
+use meaning::scope_flag;
+use meaning::step_form;
+use meaning::symbol_flag;
+use meaning::tag;
 ghost use mathlib.Core.Path.{_≡_};
 ghost use mathlib.Core.Bool.{_&&_, _||_, not};
 ghost use Prim.Native.Nat.{ℕ, _+_, _*_, _≤_};
 ghost use lib.Dec.{leb, eqb, ltb};
+ghost use Rattle.meaning.specs.Numbers.Letter;
+ghost use Rattle.meaning.specs.Numbers.Mode;
+ghost use Rattle.meaning.specs.Numbers.Parts;
+ghost use Rattle.meaning.specs.Numbers.StepForm;
 ghost use Rattle.meaning.specs.Tree.{if_then_else_, oneOf};
 ghost use Rattle.meaning.specs.File.{hasChildren, ownNumbers};
 ghost use Rattle.meaning.specs.Grammar.{index, is, formFits, isRow, scopeRight, symbolRight, declarationRight, declaratorRight, tryRight, functionRight, classRight, right, childrenOf, placeOf, headOf, scopeOf, below};
 
+// All flags of a scope together, and all of a symbol.
+const SCOPE_FLAGS: u16 = scope_flag::STRICT
+    + scope_flag::CATCH
+    + scope_flag::STATIC_BLOCK
+    + scope_flag::FUNCTION
+    + scope_flag::TOP;
+
+const SYMBOL_FLAGS: u16 = symbol_flag::FUNCTION_SCOPED
+    + symbol_flag::BLOCK_SCOPED
+    + symbol_flag::CONST
+    + symbol_flag::CLASS
+    + symbol_flag::CATCH
+    + symbol_flag::IMPORT
+    + symbol_flag::FUNCTION;
+
 // ---- places
 
-// A place's number.
+// A place's number: the places are told apart by their order.
 fn index_of(place: Place) -> u8
     ensures { λ r. ⌜ r ≡ index place ⌝ }
 {
@@ -44,21 +73,28 @@ fn index_of(place: Place) -> u8
     }
 }
 
+// Whether two places are one.
+fn is_place(place: Place, other: Place) -> bool
+    ensures { λ r. ⌜ r ≡ is place other ⌝ }
+{
+    index_of(place) == index_of(other)
+}
+
 // Whether a Function or Class of this form may stand at a place.
 fn form_fits(place: Place, form: u16) -> bool
     ensures { λ r. ⌜ r ≡ formFits place form ⌝ }
 {
     match place {
-        Place::ProgramItem => form == 0,
-        Place::ListItem => form == 0,
-        Place::Statement => form == 0,
-        Place::PlainItem => form <= 1,
-        Place::ForLeft => form == 1,
-        Place::ForOfLeft => form == 1,
-        Place::Expression => form == 1,
-        Place::ClassItem => form == 1,
-        Place::DefaultExport => form <= 1,
-        Place::ExportedDeclaration => form == 0,
+        Place::ProgramItem => form == form::DECLARATION,
+        Place::ListItem => form == form::DECLARATION,
+        Place::Statement => form == form::DECLARATION,
+        Place::PlainItem => form <= form::EXPRESSION,
+        Place::ForLeft => form == form::EXPRESSION,
+        Place::ForOfLeft => form == form::EXPRESSION,
+        Place::Expression => form == form::EXPRESSION,
+        Place::ClassItem => form == form::EXPRESSION,
+        Place::DefaultExport => form <= form::EXPRESSION,
+        Place::ExportedDeclaration => form == form::DECLARATION,
         Place::Settings
         | Place::ScopeRow
         | Place::SymbolRow
@@ -77,7 +113,7 @@ fn form_fits(place: Place, form: u16) -> bool
 
 // ---- numbers
 
-// One of so many symbol rows.
+// Whether there is such a symbol row, of so many.
 fn is_row(symbols: usize, s: SymbolId) -> bool
     ensures { λ r. ⌜ r ≡ isRow symbols (s .0) ⌝ }
 {
@@ -87,6 +123,7 @@ fn is_row(symbols: usize, s: SymbolId) -> bool
     (s.0 as usize) <= symbols
 }
 
+// Scope row k, counted from 0: the first has no parent, and every other one has.
 pub fn scope_right(k: usize, x: Field) -> bool
     ensures { λ r. ⌜ r ≡ scopeRight k x ⌝ }
 {
@@ -94,21 +131,22 @@ pub fn scope_right(k: usize, x: Field) -> bool
         if x.a != 0 {
             return false;
         }
-        return x.b <= 31;
+        return x.b <= SCOPE_FLAGS;
     }
     if x.a < 1 {
         return false;
     }
-    x.b <= 31
+    x.b <= SCOPE_FLAGS
 }
 
+// A symbol row: a name, flags, one of so many scope rows, and whether it was made.
 pub fn symbol_right(scopes: usize, x: Field) -> bool
     ensures { λ r. ⌜ r ≡ symbolRight scopes x ⌝ }
 {
     if x.a < 1 {
         return false;
     }
-    if 127 < x.b {
+    if SYMBOL_FLAGS < x.b {
         return false;
     }
     if x.c < 1 {
@@ -120,18 +158,20 @@ pub fn symbol_right(scopes: usize, x: Field) -> bool
     x.d <= 1
 }
 
+// A Declaration: a kind, and at least one Declarator; left in a ForOf exactly one.
 fn declaration_right(place: Place, x: Field) -> bool
     ensures { λ r. ⌜ r ≡ declarationRight place x ⌝ }
 {
-    if 4 < x.a {
+    if kind::AWAIT_USING < x.a {
         return false;
     }
-    if index_of(place) == 12 {
+    if is_place(place, Place::ForOfLeft) {
         return x.b == 1;
     }
     1 <= x.b
 }
 
+// A Declarator: pattern 0 has one Name. An initializer may follow the Names, but not left in a ForOf.
 fn declarator_right(place: Place, x: Field) -> bool
     ensures { λ r. ⌜ r ≡ declaratorRight place x ⌝ }
 {
@@ -143,23 +183,25 @@ fn declarator_right(place: Place, x: Field) -> bool
     if x.c == x.b {
         return true;
     }
-    if index_of(place) == 9 {
+    if is_place(place, Place::ForOfDeclarator) {
         return false;
     }
     (x.c as usize) == (x.b as usize) + 1
 }
 
+// A Try: its Block, and one part more or two.
 fn try_right(x: Field) -> bool
     ensures { λ r. ⌜ r ≡ tryRight x ⌝ }
 {
     let parts = x.a;
     match parts {
-        3 => x.b == 3,
-        1 | 2 => x.b == 2,
+        parts::BOTH => x.b == 3,
+        parts::HANDLER | parts::FINALIZER => x.b == 2,
         _ => false,
     }
 }
 
+// A Function: a form that fits, a scope, a symbol or none, and two children.
 fn function_right(place: Place, symbols: usize, x: Field) -> bool
     ensures { λ r. ⌜ r ≡ functionRight place symbols x ⌝ }
 {
@@ -175,6 +217,7 @@ fn function_right(place: Place, symbols: usize, x: Field) -> bool
     x.d == 2
 }
 
+// A Class: a form that fits, a scope, and a symbol; an expression or a default export may have none.
 fn class_right(place: Place, symbols: usize, x: Field) -> bool
     ensures { λ r. ⌜ r ≡ classRight place symbols x ⌝ }
 {
@@ -187,19 +230,20 @@ fn class_right(place: Place, symbols: usize, x: Field) -> bool
     if symbols < (x.c as usize) {
         return false;
     }
-    if x.a == 1 {
+    if x.a == form::EXPRESSION {
         return true;
     }
     if 1 <= x.c {
         return true;
     }
-    index_of(place) == 20
+    is_place(place, Place::DefaultExport)
 }
 
+// A Call: a letter, the context's symbol, and one argument.
 fn call_right(symbols: usize, x: Field) -> bool
-    ensures { λ r. ⌜ r ≡ (leb (x .a) 1 && isRow symbols (x .b) && eqb (x .c) 1) ⌝ }
+    ensures { λ r. ⌜ r ≡ (leb (x .a) Letter.A && isRow symbols (x .b) && eqb (x .c) 1) ⌝ }
 {
-    if 1 < x.a {
+    if letter::A < x.a {
         return false;
     }
     if !is_row(symbols, SymbolId(x.b)) {
@@ -208,19 +252,21 @@ fn call_right(symbols: usize, x: Field) -> bool
     x.c == 1
 }
 
+// A Load: the runtime or the external form, and a symbol or none.
 fn load_right(symbols: usize, x: Field) -> bool
-    ensures { λ r. ⌜ r ≡ (leb (x .a) 1 && leb (x .b) symbols) ⌝ }
+    ensures { λ r. ⌜ r ≡ (leb (x .a) Mode.External && leb (x .b) symbols) ⌝ }
 {
-    if 1 < x.a {
+    if mode::EXTERNAL < x.a {
         return false;
     }
     (x.b as usize) <= symbols
 }
 
+// A Step: a form, the context's symbol, and another one or none.
 fn step_right(symbols: usize, x: Field) -> bool
-    ensures { λ r. ⌜ r ≡ (leb (x .a) 2 && isRow symbols (x .b) && leb (x .c) symbols) ⌝ }
+    ensures { λ r. ⌜ r ≡ (leb (x .a) StepForm.AwaitDispose && isRow symbols (x .b) && leb (x .c) symbols) ⌝ }
 {
-    if 2 < x.a {
+    if step_form::AWAIT_DISPOSE < x.a {
         return false;
     }
     if !is_row(symbols, SymbolId(x.b)) {
@@ -229,6 +275,7 @@ fn step_right(symbols: usize, x: Field) -> bool
     (x.c as usize) <= symbols
 }
 
+// A For: a scope, and three children.
 fn for_right(x: Field) -> bool
     ensures { λ r. ⌜ r ≡ (leb 1 (x .a) && eqb (x .b) 3) ⌝ }
 {
@@ -238,6 +285,7 @@ fn for_right(x: Field) -> bool
     x.b == 3
 }
 
+// A ForOf: a scope, await or not, and three children.
 fn for_of_right(x: Field) -> bool
     ensures { λ r. ⌜ r ≡ (leb 1 (x .a) && leb (x .b) 1 && eqb (x .c) 3) ⌝ }
 {
@@ -250,6 +298,7 @@ fn for_of_right(x: Field) -> bool
     x.c == 3
 }
 
+// A Switch: a scope, and its expression before the Cases.
 fn switch_right(x: Field) -> bool
     ensures { λ r. ⌜ r ≡ (leb 1 (x .a) && leb 1 (x .b)) ⌝ }
 {
@@ -259,6 +308,7 @@ fn switch_right(x: Field) -> bool
     1 <= x.b
 }
 
+// A Case: with a test or without, and the test is its first child.
 fn case_right(x: Field) -> bool
     ensures { λ r. ⌜ r ≡ (leb (x .a) 1 && leb (x .a) (x .b)) ⌝ }
 {
@@ -268,6 +318,7 @@ fn case_right(x: Field) -> bool
     x.a <= x.b
 }
 
+// A Catch: a scope, and its Block behind the Names.
 fn catch_right(x: Field) -> bool
     ensures { λ r. ⌜ r ≡ (leb 1 (x .a) && eqb (x .d) (x .b + 1)) ⌝ }
 {
@@ -277,6 +328,7 @@ fn catch_right(x: Field) -> bool
     (x.d as usize) == (x.b as usize) + 1
 }
 
+// A Specifier: a symbol, and a name that it is exported by.
 fn specifier_right(symbols: usize, x: Field) -> bool
     ensures { λ r. ⌜ r ≡ (isRow symbols (x .a) && leb 1 (x .b)) ⌝ }
 {
@@ -292,33 +344,33 @@ pub fn is_right(place: Place, symbols: usize, x: Field) -> bool
 {
     let tag = x.tag;
     match tag {
-        1 => x.a == 1,
-        2 => 1 <= x.a,
-        3 => true,
-        4 => x.b == 1,
-        5 => declaration_right(place, x),
-        6 => declarator_right(place, x),
-        7 => for_right(x),
-        8 => for_of_right(x),
-        9 => switch_right(x),
-        10 => case_right(x),
-        11 => try_right(x),
-        12 => catch_right(x),
-        13 => function_right(place, symbols, x),
-        14 => true,
-        15 => class_right(place, symbols, x),
-        16 => 1 <= x.a,
-        17 => x.a <= 3,
-        18 => x.a == 1,
-        19 => x.a == 1,
-        20 => specifier_right(symbols, x),
-        24 => true,
-        25 => is_row(symbols, SymbolId(x.a)),
-        26 => is_row(symbols, SymbolId(x.a)),
-        27 => call_right(symbols, x),
-        28 => load_right(symbols, x),
-        29 => step_right(symbols, x),
-        0 | 21..=23 | 30..=255 => false,
+        tag::PROGRAM => x.a == 1,
+        tag::BLOCK => 1 <= x.a,
+        tag::PLAIN => true,
+        tag::LABEL => x.b == 1,
+        tag::DECLARATION => declaration_right(place, x),
+        tag::DECLARATOR => declarator_right(place, x),
+        tag::FOR => for_right(x),
+        tag::FOR_OF => for_of_right(x),
+        tag::SWITCH => switch_right(x),
+        tag::CASE => case_right(x),
+        tag::TRY => try_right(x),
+        tag::CATCH => catch_right(x),
+        tag::FUNCTION => function_right(place, symbols, x),
+        tag::BODY => true,
+        tag::CLASS => class_right(place, symbols, x),
+        tag::STATIC_BLOCK => 1 <= x.a,
+        tag::MODULE_LINE => x.a <= line_form::EXPORT_FROM,
+        tag::DEFAULT_EXPORT => x.a == 1,
+        tag::EXPORTED_DECLARATION => x.a == 1,
+        tag::SPECIFIER => specifier_right(symbols, x),
+        tag::EXPRESSION => true,
+        tag::READ => is_row(symbols, SymbolId(x.a)),
+        tag::NAME => is_row(symbols, SymbolId(x.a)),
+        tag::CALL => call_right(symbols, x),
+        tag::LOAD => load_right(symbols, x),
+        tag::STEP => step_right(symbols, x),
+        _ => false,
     }
 }
 
@@ -330,16 +382,16 @@ pub fn scope_in(x: Field) -> ScopeId
 {
     let tag = x.tag;
     match tag {
-        1 => ScopeId(x.a),
-        2 => ScopeId(x.a),
-        3 => ScopeId(x.a),
-        7 => ScopeId(x.a),
-        8 => ScopeId(x.a),
-        9 => ScopeId(x.a),
-        12 => ScopeId(x.a),
-        13 => ScopeId(x.b),
-        15 => ScopeId(x.b),
-        16 => ScopeId(x.a),
+        tag::PROGRAM => ScopeId(x.a),
+        tag::BLOCK => ScopeId(x.a),
+        tag::PLAIN => ScopeId(x.a),
+        tag::FOR => ScopeId(x.a),
+        tag::FOR_OF => ScopeId(x.a),
+        tag::SWITCH => ScopeId(x.a),
+        tag::CATCH => ScopeId(x.a),
+        tag::FUNCTION => ScopeId(x.b),
+        tag::CLASS => ScopeId(x.b),
+        tag::STATIC_BLOCK => ScopeId(x.a),
         _ => ScopeId(0),
     }
 }
@@ -355,23 +407,23 @@ pub fn scope_below(cur: ScopeId, s: ScopeId) -> ScopeId
 }
 
 // Whether a record's last number counts its children.
-pub fn has_children(tag: u8) -> bool
+pub fn has_children(tag: u16) -> bool
     ensures { λ r. ⌜ r ≡ hasChildren tag ⌝ }
 {
     if tag == 0 {
         return false;
     }
-    if tag <= 19 {
+    if tag <= tag::EXPORTED_DECLARATION {
         return true;
     }
-    if tag == 24 {
+    if tag == tag::EXPRESSION {
         return true;
     }
-    tag == 27
+    tag == tag::CALL
 }
 
-// How many numbers stand before that one.
-pub fn own_numbers(tag: u8) -> u8
+// How many numbers a record has besides the count of its children.
+pub fn own_numbers(tag: u16) -> u8
     ensures { λ r. ⌜ r ≡ ownNumbers tag ⌝ }
 {
     let len = fields::numbers_of(tag);
@@ -390,27 +442,27 @@ pub fn children_of(x: Field) -> u16
 {
     let tag = x.tag;
     match tag {
-        1 => x.b,
-        2 => x.b,
-        3 => x.c,
-        4 => x.b,
-        5 => x.b,
-        6 => x.c,
-        7 => x.b,
-        8 => x.c,
-        9 => x.b,
-        10 => x.b,
-        11 => x.b,
-        12 => x.d,
-        13 => x.d,
-        14 => x.a,
-        15 => x.d,
-        16 => x.b,
-        17 => x.c,
-        18 => x.a,
-        19 => x.a,
-        24 => x.b,
-        27 => x.c,
+        tag::PROGRAM => x.b,
+        tag::BLOCK => x.b,
+        tag::PLAIN => x.c,
+        tag::LABEL => x.b,
+        tag::DECLARATION => x.b,
+        tag::DECLARATOR => x.c,
+        tag::FOR => x.b,
+        tag::FOR_OF => x.c,
+        tag::SWITCH => x.b,
+        tag::CASE => x.b,
+        tag::TRY => x.b,
+        tag::CATCH => x.d,
+        tag::FUNCTION => x.d,
+        tag::BODY => x.a,
+        tag::CLASS => x.d,
+        tag::STATIC_BLOCK => x.b,
+        tag::MODULE_LINE => x.c,
+        tag::DEFAULT_EXPORT => x.a,
+        tag::EXPORTED_DECLARATION => x.a,
+        tag::EXPRESSION => x.b,
+        tag::CALL => x.c,
         _ => 0,
     }
 }
@@ -446,26 +498,27 @@ fn up_to(k: u16, m: u16, early: Place, late: Place) -> Place
     late
 }
 
+// The second part of a Try is its handler, unless it has only a finalizer.
 fn try_place(k: u16, parts: u16) -> Place
-    ensures { λ r. ⌜ r ≡ (if eqb k 1 && not (eqb parts 2) then Place.Catch else Place.TryPart) ⌝ }
+    ensures { λ r. ⌜ r ≡ (if eqb k 1 && not (eqb parts Parts.Finalizer) then Place.Catch else Place.TryPart) ⌝ }
 {
     if k != 1 {
         return Place::TryPart;
     }
-    if parts == 2 {
+    if parts == parts::FINALIZER {
         return Place::TryPart;
     }
     Place::Catch
 }
 
-// One of two places, by the place that the record stands at.
-fn by_place(place: Place, number: u8, same: Place, other: Place) -> Place
-    ensures { λ r. ⌜ r ≡ (if eqb (index place) number then same else other) ⌝ }
+// One of two places, by whether a record stands at the place `key`.
+fn by_place(place: Place, key: Place, there: Place, elsewhere: Place) -> Place
+    ensures { λ r. ⌜ r ≡ (if is place key then there else elsewhere) ⌝ }
 {
-    if index_of(place) == number {
-        return same;
+    if is_place(place, key) {
+        return there;
     }
-    other
+    elsewhere
 }
 
 // The place of child k of a record that stands at `place`.
@@ -474,25 +527,35 @@ pub fn place_of(place: Place, x: Field, k: u16) -> Place
 {
     let tag = x.tag;
     match tag {
-        1 => Place::ProgramItem,
-        2 => Place::ListItem,
-        3 => Place::PlainItem,
-        4 => Place::Statement,
-        5 => by_place(place, 12, Place::ForOfDeclarator, Place::Declarator),
-        6 => up_to(k, x.b, Place::Name, Place::Expression),
-        7 => by_turn(k, Place::ForLeft, Place::Expression, Place::Statement),
-        8 => by_turn(k, Place::ForOfLeft, Place::Expression, Place::Statement),
-        9 => first_or(k, Place::SwitchExpression, Place::Case),
-        10 => up_to(k, x.a, Place::Expression, Place::ListItem),
-        11 => try_place(k, x.a),
-        12 => up_to(k, x.b, Place::Name, Place::TryPart),
-        13 => first_or(k, Place::Expression, Place::Body),
-        14 => Place::ListItem,
-        15 => Place::ClassItem,
-        16 => Place::ListItem,
-        17 => Place::Specifier,
-        18 => Place::DefaultExport,
-        19 => Place::ExportedDeclaration,
-        _ => by_place(place, 14, Place::SwitchExpression, Place::Expression),
+        tag::PROGRAM => Place::ProgramItem,
+        tag::BLOCK => Place::ListItem,
+        tag::PLAIN => Place::PlainItem,
+        tag::LABEL => Place::Statement,
+        tag::DECLARATION => by_place(
+            place,
+            Place::ForOfLeft,
+            Place::ForOfDeclarator,
+            Place::Declarator,
+        ),
+        tag::DECLARATOR => up_to(k, x.b, Place::Name, Place::Expression),
+        tag::FOR => by_turn(k, Place::ForLeft, Place::Expression, Place::Statement),
+        tag::FOR_OF => by_turn(k, Place::ForOfLeft, Place::Expression, Place::Statement),
+        tag::SWITCH => first_or(k, Place::SwitchExpression, Place::Case),
+        tag::CASE => up_to(k, x.a, Place::Expression, Place::ListItem),
+        tag::TRY => try_place(k, x.a),
+        tag::CATCH => up_to(k, x.b, Place::Name, Place::TryPart),
+        tag::FUNCTION => first_or(k, Place::Expression, Place::Body),
+        tag::BODY => Place::ListItem,
+        tag::CLASS => Place::ClassItem,
+        tag::STATIC_BLOCK => Place::ListItem,
+        tag::MODULE_LINE => Place::Specifier,
+        tag::DEFAULT_EXPORT => Place::DefaultExport,
+        tag::EXPORTED_DECLARATION => Place::ExportedDeclaration,
+        _ => by_place(
+            place,
+            Place::SwitchExpression,
+            Place::SwitchExpression,
+            Place::Expression,
+        ),
     }
 }

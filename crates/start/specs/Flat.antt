@@ -6,10 +6,14 @@ use lib.Dec.{leb}
 use lib.ListN.{length, set, replicate}
 use Rattle.meaning.specs.Numbers.Refusal
 use Rattle.meaning.specs.Tree.{if_then_else_}
+use Rattle.meaning.specs.File.{scopeBytes, symbolBytes}
 use Rattle.meaning.specs.Grammar.{two, fieldOf}
 use Rattle.checking.specs.declared.Layout.{Layout}
 use Rattle.checking.specs.declared.Surveyed.{Surveyed}
 use Rattle.checking.specs.declared.Surveyed.the-variants.{Fine, Refused as RefusedSurvey}
+use Rattle.tables.specs.Columns.RecordTable
+use Rattle.tables.specs.Columns.ScopeTable
+use Rattle.tables.specs.Columns.SymbolTable
 use Rattle.tables.specs.Loops.{turns}
 use Rattle.tables.specs.Table.{setRowF}
 use Rattle.representation.specs.Run.{recordRow}
@@ -33,7 +37,10 @@ storing t k = record { t = t; k = k }
 
 -- row k, counted from 0
 unfoldable pub scopeIntoF : List ℕ → List ℕ → ℕ → List ℕ
-scopeIntoF f t k = set (set t (k * 2) (two f (7 * (k + 1) + 3))) (k * 2 + 1) (two f (7 * (k + 1) + 5))
+scopeIntoF f t k =
+    let at = scopeBytes * (k + 1) in
+    let to = k * ScopeTable.Numbers in
+    set (set t to (two f (at + 3))) (to + 1) (two f (at + 5))
 
 unfoldable pub nextScope : List ℕ → Storing → Storing
 nextScope f s = storing (scopeIntoF f (s .t) (s .k)) (s .k + 1)
@@ -43,12 +50,13 @@ scopesF f n t = turns n (nextScope f) (storing t 0) .t
 
 unfoldable pub symbolIntoF : List ℕ → ℕ → List ℕ → ℕ → List ℕ
 symbolIntoF f first t k =
-    let at = first + 11 * k in
-    let t₀ = set t (k * 5) (two f (at + 3)) in
-    let t₁ = set t₀ (k * 5 + 1) (two f (at + 5)) in
-    let t₂ = set t₁ (k * 5 + 2) (two f (at + 7)) in
-    let t₃ = set t₂ (k * 5 + 3) (two f (at + 9)) in
-    set t₃ (k * 5 + 4) (two f (at + 7))
+    let at = first + symbolBytes * k in
+    let to = k * SymbolTable.Numbers in
+    let t₀ = set t to (two f (at + 3)) in
+    let t₁ = set t₀ (to + 1) (two f (at + 5)) in
+    let t₂ = set t₁ (to + 2) (two f (at + 7)) in
+    let t₃ = set t₂ (to + 3) (two f (at + 9)) in
+    set t₃ (to + 4) (two f (at + 7))
 
 unfoldable pub nextSymbol : List ℕ → ℕ → Storing → Storing
 nextSymbol f first s = storing (symbolIntoF f first (s .t) (s .k)) (s .k + 1)
@@ -107,9 +115,9 @@ fillF f l end r s y =
 -- by the survey of a file: the rows that are lent
 unfoldable pub admitBy : Surveyed → List ℕ → List ℕ → List ℕ → Surveyed
 admitBy (Fine l g) r s y =
-    if leb (g .records) (length r / 7)
-    then (if leb (g .scopes) (length s / 2)
-    then (if leb (g .symbols) (length y / 5) then Fine l g else RefusedSurvey Refusal.FewRows 2)
+    if leb (g .records) (length r / RecordTable.Numbers)
+    then (if leb (g .scopes) (length s / ScopeTable.Numbers)
+    then (if leb (g .symbols) (length y / SymbolTable.Numbers) then Fine l g else RefusedSurvey Refusal.FewRows 2)
     else RefusedSurvey Refusal.FewRows 1)
     else RefusedSurvey Refusal.FewRows 0
 admitBy (RefusedSurvey c p) r s y = RefusedSurvey c p

@@ -9,6 +9,9 @@ use Rattle.meaning.specs.Reading.{Outcome, accepted, refused}
 use Rattle.meaning.specs.Walk.{start}
 use Rattle.meaning.specs.Charges.{finalFigures}
 use Rattle.meaning.specs.Lowering.{Lent, admit}
+use Rattle.tables.specs.Columns.RecordTable
+use Rattle.tables.specs.Columns.ScopeTable
+use Rattle.tables.specs.Columns.SymbolTable
 use Rattle.path.specs.Path.{Tables}
 use Rattle.representation.specs.Spots.Spots.{Rest, held}
 use Rattle.start.specs.declared.Started.{Started}
@@ -26,7 +29,7 @@ begun a r s y = record { answer = a; records = r; scopes = s; symbols = y }
 
 -- the rows of the tables
 unfoldable pub lentIn : List ℕ → List ℕ → List ℕ → Lent
-lentIn r s y = record { records = length r / 7; scopes = length s / 2; symbols = length y / 5 }
+lentIn r s y = record { records = length r / RecordTable.Numbers; scopes = length s / ScopeTable.Numbers; symbols = length y / SymbolTable.Numbers }
 
 -- the free rows among those that the lowered tree takes
 unfoldable pub freeRows : File → ℕ
@@ -36,9 +39,9 @@ freeRows f = finalFigures f .records - size (f .tree)
 unfoldable pub zerosBehind : File → List ℕ → List ℕ → List ℕ → Rest
 zerosBehind f r s y =
     record {
-      records = replicate (length r - 7 * finalFigures f .records) 0;
-      scopes = replicate (length s - 2 * length (f .scopes)) 0;
-      symbols = replicate (length y - 5 * length (f .symbols)) 0;
+      records = replicate (length r - RecordTable.Numbers * finalFigures f .records) 0;
+      scopes = replicate (length s - ScopeTable.Numbers * length (f .scopes)) 0;
+      symbols = replicate (length y - SymbolTable.Numbers * length (f .symbols)) 0;
     }
 
 abbrev pub ready : Tables → Begun

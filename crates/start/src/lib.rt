@@ -4,6 +4,12 @@
 // records behind the free rows in theirs.
 use checking::Layout;
 use checking::Surveyed;
+use fields::NUMBER_A;
+use fields::NUMBER_B;
+use fields::NUMBER_C;
+use fields::NUMBER_D;
+use fields::SCOPE_BYTES;
+use fields::SYMBOL_BYTES;
 use meaning::Field;
 use meaning::refusal;
 use meaning::RecordId;
@@ -11,12 +17,14 @@ use meaning::SymbolId;
 use path::Walk;
 use scoping::Ctx;
 use tables::Row;
+use tables::record;
+use tables::scope;
+use tables::symbol;
 ghost use mathlib.Core.Path.{_≡_};
 ghost use Prim.Native.Nat.{_≤_, min};
 ghost use lib.Dec.{ltb};
 ghost use lib.ListN.{length, replicate};
 ghost use Rattle.meaning.specs.Tree.{if_then_else_};
-ghost use Rattle.meaning.specs.Grammar.{number, fieldOf};
 ghost use Rattle.path.specs.Path.{tables};
 ghost use Rattle.meaning.specs.Lowering as lowering;
 ghost use Rattle.checking.specs.Survey.{surveyedOf};
@@ -55,10 +63,10 @@ pub fn clear(table: &mut [u16])
 fn put_scope(file: &[u8], scopes: &mut [u16], k: u16)
     ensures { λ _. ⌜ now (scopes .exit) ≡ scopeIntoF (now (file .entry)) (now (scopes .entry)) k ⌝ }
 {
-    let at = 7 * ((k as usize) + 1);
-    let to = (k as usize) * 2;
-    tables::put(scopes, to, fields::read_two(file, at + 3));
-    tables::put(scopes, to + 1, fields::read_two(file, at + 5));
+    let at = SCOPE_BYTES * ((k as usize) + 1);
+    let to = (k as usize) * scope::NUMBERS;
+    tables::put(scopes, to, fields::read_two(file, at + NUMBER_A));
+    tables::put(scopes, to + 1, fields::read_two(file, at + NUMBER_B));
 }
 
 fn put_scopes(file: &[u8], scopes: &mut [u16], count: u16)
@@ -75,13 +83,13 @@ fn put_scopes(file: &[u8], scopes: &mut [u16], count: u16)
 fn put_symbol(file: &[u8], symbols: &mut [u16], first: u16, k: u16)
     ensures { λ _. ⌜ now (symbols .exit) ≡ symbolIntoF (now (file .entry)) first (now (symbols .entry)) k ⌝ }
 {
-    let at = (first as usize) + 11 * (k as usize);
-    let scope = fields::read_two(file, at + 7);
-    let to = (k as usize) * 5;
-    tables::put(symbols, to, fields::read_two(file, at + 3));
-    tables::put(symbols, to + 1, fields::read_two(file, at + 5));
+    let at = (first as usize) + SYMBOL_BYTES * (k as usize);
+    let scope = fields::read_two(file, at + NUMBER_C);
+    let to = (k as usize) * symbol::NUMBERS;
+    tables::put(symbols, to, fields::read_two(file, at + NUMBER_A));
+    tables::put(symbols, to + 1, fields::read_two(file, at + NUMBER_B));
     tables::put(symbols, to + 2, scope);
-    tables::put(symbols, to + 3, fields::read_two(file, at + 9));
+    tables::put(symbols, to + 3, fields::read_two(file, at + NUMBER_D));
     tables::put(symbols, to + 4, scope);
 }
 
@@ -96,34 +104,6 @@ fn put_symbols(file: &[u8], symbols: &mut [u16], first: u16, count: u16)
 }
 
 // ---- records
-
-// Number i of the field at an offset, or 0 where the field has no such number. Offsets go up to 65,535 and 65,535 fields of 11 bytes.
-fn number_at(file: &[u8], at: usize, len: u8, i: u8) -> u16
-    requires { ⌜ at ≤ 1000000 ⌝ }
-    ensures { λ r. ⌜ r ≡ number (now (file .entry)) at len i ⌝ }
-{
-    if i < len {
-        return fields::read_two(file, at + 3 + 2 * (i as usize));
-    }
-    0
-}
-
-// The field at an offset, whatever stands there.
-fn field_at(file: &[u8], at: usize) -> Field
-    requires { ⌜ at ≤ 1000000 ⌝ }
-    ensures { λ r. ⌜ r ≡ fieldOf (now (file .entry)) at ⌝ }
-{
-    let tag = fields::byte(file, at);
-    let len = fields::numbers_of(tag);
-    Field {
-        tag: tag,
-        a: number_at(file, at, len, 0),
-        b: number_at(file, at, len, 1),
-        c: number_at(file, at, len, 2),
-        d: number_at(file, at, len, 3),
-        next: at + (3 + 2 * (len as usize)),
-    }
-}
 
 // Number i, or 0 if it is not one of a record's own.
 fn own_number(count: u8, i: u8, v: u16) -> u16
@@ -142,7 +122,7 @@ fn row_of(x: Field) -> Row
     let count = rules::own_numbers(x.tag);
     let n = rules::children_of(x);
     tables::closed_row(
-        x.tag as u16,
+        x.tag,
         own_number(count, 0, x.a),
         own_number(count, 1, x.b),
         own_number(count, 2, x.c),
@@ -157,7 +137,7 @@ fn put_records(file: &[u8], records: &mut [u16], free: u16, end: u16, tree: u16)
     let mut at = tree as usize;
     let mut k = free;
     while k < end {
-        let x = field_at(file, at);
+        let x = fields::field_of(file, at);
         tables::put_row(records, RecordId(k), row_of(x));
         at = x.next;
         k += 1;
@@ -218,13 +198,13 @@ pub fn admit(file: &[u8], records: &[u16], scopes: &[u16], symbols: &[u16]) -> S
     let Surveyed::Fine(l, g) = f else {
         return f;
     };
-    if ((records.len() / 7) as u64) < g.records {
+    if ((records.len() / record::NUMBERS) as u64) < g.records {
         return Surveyed::Refused(refusal::FEW_ROWS, 0);
     }
-    if ((scopes.len() / 2) as u64) < g.scopes {
+    if ((scopes.len() / scope::NUMBERS) as u64) < g.scopes {
         return Surveyed::Refused(refusal::FEW_ROWS, 1);
     }
-    if ((symbols.len() / 5) as u64) < g.symbols {
+    if ((symbols.len() / symbol::NUMBERS) as u64) < g.symbols {
         return Surveyed::Refused(refusal::FEW_ROWS, 2);
     }
     Surveyed::Fine(l, g)

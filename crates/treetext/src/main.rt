@@ -5,8 +5,15 @@
 // file. What is longer, or is no notation, is answered with a line that says so.
 use libc::STDIN_FILENO;
 use libc::STDOUT_FILENO;
+use meaning::tag;
 use notation::Spelling;
 
+// The most bytes of a file, and characters of a text.
+const MOST_BYTES: usize = 65536;
+
+const MOST_CHARACTERS: usize = 262144;
+
+// To standard output.
 fn put(text: &[u8]) {
     io::write_all(STDOUT_FILENO, text);
 }
@@ -18,8 +25,9 @@ fn say(before: &[u8], n: usize, behind: &[u8]) {
     put(behind);
 }
 
+// A file as text.
 fn write_text(file: &[u8]) {
-    if 65536 < file.len() {
+    if MOST_BYTES < file.len() {
         put(b"too long: a tree file may have 65536 bytes\n");
         return;
     }
@@ -27,10 +35,11 @@ fn write_text(file: &[u8]) {
     put(b"\n");
 }
 
+// A text that is spelled right, as bytes.
 fn write_bytes(text: &[u8]) {
     let mut file = io::large_buffer();
     let n = notation::encode(text, &mut file);
-    if 65536 < n {
+    if MOST_BYTES < n {
         say(
             b"too long: a tree file may have 65536 bytes, this one has ",
             n,
@@ -41,8 +50,9 @@ fn write_bytes(text: &[u8]) {
     put(&file[..n]);
 }
 
+// A text as bytes, or where it is wrong.
 fn write_file(text: &[u8]) {
-    if 262144 < text.len() {
+    if MOST_CHARACTERS < text.len() {
         put(b"too long: a text may have 262144 characters\n");
         return;
     }
@@ -52,18 +62,17 @@ fn write_file(text: &[u8]) {
     }
 }
 
+// Either way, by the first byte.
 fn turn(input: &[u8]) {
-    if 0 < input.len() {
-        if input[0] == 40 {
-            write_text(input);
-            return;
-        }
+    if fields::tag_at(input, 0) == tag::SETTINGS {
+        write_text(input);
+    } else {
+        write_file(input);
     }
-    write_file(input);
 }
 
 fn main() {
-    let mut input = [0u8; 262145];
+    let mut input = [0u8; MOST_CHARACTERS + 1];
     let n = io::read_full(STDIN_FILENO, &mut input);
     turn(&input[..n]);
 }

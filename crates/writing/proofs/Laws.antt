@@ -6,7 +6,7 @@ use Prim.Native.Nat.{ℕ, _+_, _*_, _-_, _%_, _≤_, _<_}
 use native.Mathlib.Omega.{arith}
 use lib.ListN.{length, getD}
 use lib.Seq.{sets}
-use Rattle.meaning.specs.File.{numbersOf}
+use Rattle.meaning.specs.File.{numbersOf, fieldBytes}
 use Rattle.tables.specs.Table.{rowF}
 use Rattle.tables.specs.declared.Row.{Row}
 use Rattle.writing.specs.Writing.{fieldWith, scopeBytes, symbolBytes, recordBytes, rowsBytes, recordAt}
@@ -39,7 +39,8 @@ symbols-turn t r out out′ first k n e h o =
 -- ---- records
 
 -- the offset behind a record
-pub next-is : (at n : ℕ) (r : Row) → n ≡ numbersOf (r .tag % 256) → at + 3 + 2 * n ≡ at + length (recordBytes r)
+pub next-is : (at n : ℕ) (r : Row) → n ≡ fieldBytes (r .tag % 256) → at + n ≡ at + length (recordBytes r)
+unfolding fieldBytes
 next-is at n r e = omega (arith, record-length r)
 
 pub next-whole : (at n : ℕ) (r : Row) → n ≡ numbersOf (r .tag % 256) → at + 1 + 2 * n + 2 ≡ at + length (recordBytes r)

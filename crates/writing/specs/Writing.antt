@@ -6,11 +6,26 @@ use Prim.Native.Nat.{ℕ, zero, suc, _+_, _*_, _%_}
 use lib.ListN.{getD, take}
 use lib.Seq.{sets}
 use lib.Dec.{ltb}
+use Rattle.meaning.specs.Numbers.Tag
 use Rattle.meaning.specs.Tree.{if_then_else_}
 use Rattle.meaning.specs.File.{numbersOf, ownNumbers, twoBytes, field}
 use Rattle.tables.specs.Table.{rowF}
 use Rattle.tables.specs.declared.Row.{Row}
 use Rattle.path.specs.declared.Walk.{Walk}
+
+-- A field has at most so many bytes. The settings and 65,535 fields of each kind: the symbol rows begin at the first of these offsets at
+-- most, the records at the second, and every field at the third.
+abbrev pub mostBytes : ℕ
+mostBytes = 11
+
+abbrev pub mostFirst : ℕ
+mostFirst = 500000
+
+abbrev pub mostTree : ℕ
+mostTree = 1500000
+
+abbrev pub mostOffset : ℕ
+mostOffset = 2500000
 
 -- a field with as many of these numbers as its tag has
 unfoldable pub fieldWith : ℕ → ℕ → ℕ → ℕ → ℕ → List ℕ
@@ -19,11 +34,11 @@ fieldWith t a b c d = field t (take (numbersOf t) (a ∷ b ∷ c ∷ d ∷ []))
 -- ---- rows
 
 unfoldable pub scopeBytes : List ℕ → ℕ → List ℕ
-scopeBytes t k = fieldWith 41 (getD t (k * 2) 0) (getD t (k * 2 + 1) 0) 0 0
+scopeBytes t k = fieldWith Tag.Scope (getD t (k * 2) 0) (getD t (k * 2 + 1) 0) 0 0
 
 unfoldable pub symbolBytes : List ℕ → ℕ → List ℕ
 symbolBytes t k =
-    fieldWith 42 (getD t (k * 5) 0) (getD t (k * 5 + 1) 0) (getD t (k * 5 + 2) 0) (getD t (k * 5 + 3) 0)
+    fieldWith Tag.Symbol (getD t (k * 5) 0) (getD t (k * 5 + 1) 0) (getD t (k * 5 + 2) 0) (getD t (k * 5 + 3) 0)
 
 -- a record's own number, or n behind them
 unfoldable pub ownOr : ℕ → ℕ → ℕ → ℕ → ℕ
@@ -70,7 +85,7 @@ numbersOver h at l r o =
 unfoldable pub fileBytes : List ℕ → List ℕ → List ℕ → Walk → List ℕ
 fileBytes r s y w =
     let x = w .ctx in
-    fieldWith 40 (x .mode) (x .esm) 0 0
+    fieldWith Tag.Settings (x .mode) (x .esm) 0 0
     ++ (rowsBytes (scopeBytes s) 0 (x .scopes)
     ++ (rowsBytes (symbolBytes y) 0 (x .symbols)
     ++ rowsBytes (recordAt r) 0 (w .visited .0)))

@@ -1,8 +1,15 @@
 // The file in the tables, written to the lent output.
 //
-// Bytes go to an offset; past the end of the output nothing is stored. An offset is at most 65,535 fields of 11 bytes for each kind of row,
-// and the settings.
+// Bytes go to an offset; past the end of the output nothing is stored.
+use fields::HEAD_BYTES;
+use fields::MOST_FIELD_BYTES;
+use fields::NUMBER_BYTES;
+use fields::SCOPE_BYTES;
+use fields::SETTINGS_BYTES;
+use fields::SYMBOL_BYTES;
+use fields::TAG_BYTES;
 use meaning::RecordId;
+use meaning::tag;
 use path::Walk;
 use tables::Row;
 ghost use mathlib.Core.Path.{_≡_};
@@ -12,47 +19,39 @@ ghost use lib.Dec.{ltb};
 ghost use lib.ListN.{length, set};
 ghost use lib.Seq.{sets};
 ghost use Rattle.meaning.specs.Tree.{if_then_else_};
-ghost use Rattle.meaning.specs.File.{twoBytes};
-ghost use Rattle.writing.specs.Writing.{fieldWith, ownOr, scopeBytes, symbolBytes, recordBytes, rowsBytes, recordAt, fileBytes, lesserOf, pickOf, lastOf, numbersOver};
+ghost use Rattle.meaning.specs.File.{headBytes, settingsBytes, twoBytes};
+ghost use Rattle.writing.specs.Writing.{mostBytes, mostFirst, mostTree, mostOffset, fieldWith, ownOr, scopeBytes, symbolBytes, recordBytes, rowsBytes, recordAt, fileBytes, lesserOf, pickOf, lastOf, numbersOver};
 
-// ---- bytes
+// The numbers of a scope row and of a symbol row in the lent tables.
+const SCOPE_NUMBERS: usize = 2;
 
-// Stores a byte; past the end nothing happens.
-fn put(out: &mut [u8], at: usize, v: u8)
-    ensures { λ _. ⌜ now (out .exit) ≡ set (now (out .entry)) at v ⌝ }
-{
-    if at < out.len() {
-        out[at] = v;
-    }
-}
+const SYMBOL_NUMBERS: usize = 5;
 
-// A number, high byte first.
-fn put_two(out: &mut [u8], at: usize, v: u16)
-    requires { ⌜ at ≤ 3000000 ⌝ }
-    ensures { λ _. ⌜ now (out .exit) ≡ sets (now (out .entry)) at (twoBytes (v ∷ [])) ⌝ }
-{
-    put(out, at, (v / 256) as u8);
-    put(out, at + 1, (v % 256) as u8);
-}
+// Where the second and the third number of a field stand, from its tag on.
+const SECOND_AT: usize = HEAD_BYTES + NUMBER_BYTES;
+
+const THIRD_AT: usize = SECOND_AT + NUMBER_BYTES;
+
+// ---- fields
 
 // Number i of the field at an offset, if it has as many.
 fn put_number(out: &mut [u8], at: usize, count: u8, i: u8, v: u16)
-    requires { ⌜ at ≤ 2500000 ⌝ }
-    ensures { λ _. ⌜ now (out .exit) ≡ (if ltb i count then sets (now (out .entry)) (at + 3 + 2 * i) (twoBytes (v ∷ [])) else now (out .entry)) ⌝ }
+    requires { ⌜ at ≤ mostOffset ⌝ }
+    ensures { λ _. ⌜ now (out .exit) ≡ (if ltb i count then sets (now (out .entry)) (at + headBytes + 2 * i) (twoBytes (v ∷ [])) else now (out .entry)) ⌝ }
 {
     if i < count {
-        put_two(out, at + 3 + 2 * (i as usize), v);
+        fields::put_two(out, at + HEAD_BYTES + NUMBER_BYTES * (i as usize), v);
     }
 }
 
 // A field with as many of these numbers as its tag has.
-fn put_field(out: &mut [u8], at: usize, tag: u8, a: u16, b: u16, c: u16, d: u16)
-    requires { ⌜ at ≤ 2500000 ⌝ }
+fn put_field(out: &mut [u8], at: usize, tag: u16, a: u16, b: u16, c: u16, d: u16)
+    requires { ⌜ (at ≤ mostOffset) × (tag ≤ 255) ⌝ }
     ensures { λ _. ⌜ now (out .exit) ≡ sets (now (out .entry)) at (fieldWith tag a b c d) ⌝ }
 {
     let count = fields::numbers_of(tag);
-    put(out, at, tag);
-    put_two(out, at + 1, 2 * (count as u16));
+    fields::put(out, at, tag as u8);
+    fields::put_two(out, at + TAG_BYTES, 2 * (count as u16));
     put_number(out, at, count, 0, a);
     put_number(out, at, count, 1, b);
     put_number(out, at, count, 2, c);
@@ -61,16 +60,17 @@ fn put_field(out: &mut [u8], at: usize, tag: u8, a: u16, b: u16, c: u16, d: u16)
 
 // ---- rows
 
+// The scope rows, behind the settings.
 fn put_scopes(out: &mut [u8], scopes: &[u16], count: u16)
-    ensures { λ _. ⌜ now (out .exit) ≡ sets (now (out .entry)) 7 (rowsBytes (scopeBytes (now (scopes .entry))) 0 count) ⌝ }
+    ensures { λ _. ⌜ now (out .exit) ≡ sets (now (out .entry)) settingsBytes (rowsBytes (scopeBytes (now (scopes .entry))) 0 count) ⌝ }
 {
     let mut k: u16 = 0;
     while k < count {
-        let at = (k as usize) * 2;
+        let at = (k as usize) * SCOPE_NUMBERS;
         put_field(
             out,
-            7 + 7 * (k as usize),
-            41,
+            SETTINGS_BYTES + SCOPE_BYTES * (k as usize),
+            tag::SCOPE,
             tables::get(scopes, at),
             tables::get(scopes, at + 1),
             0,
@@ -80,18 +80,19 @@ fn put_scopes(out: &mut [u8], scopes: &[u16], count: u16)
     }
 }
 
+// Symbol row k, counted from 0.
 fn put_symbol(out: &mut [u8], to: usize, symbols: &[u16], k: u16)
-    requires { ⌜ to ≤ 2500000 ⌝ }
+    requires { ⌜ to ≤ mostOffset ⌝ }
     ensures { λ _. ⌜ now (out .exit) ≡ sets (now (out .entry)) to (symbolBytes (now (symbols .entry)) k) ⌝ }
 {
-    let at = (k as usize) * 5;
+    let at = (k as usize) * SYMBOL_NUMBERS;
     let name = tables::get(symbols, at);
     let flags = tables::get(symbols, at + 1);
     let scope = tables::get(symbols, at + 2);
     put_field(
         out,
         to,
-        42,
+        tag::SYMBOL,
         name,
         flags,
         scope,
@@ -99,13 +100,14 @@ fn put_symbol(out: &mut [u8], to: usize, symbols: &[u16], k: u16)
     );
 }
 
+// The symbol rows, from an offset on.
 fn put_symbols(out: &mut [u8], first: usize, symbols: &[u16], count: u16)
-    requires { ⌜ first ≤ 500000 ⌝ }
+    requires { ⌜ first ≤ mostFirst ⌝ }
     ensures { λ _. ⌜ now (out .exit) ≡ sets (now (out .entry)) first (rowsBytes (symbolBytes (now (symbols .entry))) 0 count) ⌝ }
 {
     let mut k: u16 = 0;
     while k < count {
-        put_symbol(out, first + 11 * (k as usize), symbols, k);
+        put_symbol(out, first + SYMBOL_BYTES * (k as usize), symbols, k);
         k += 1;
     }
 }
@@ -121,11 +123,11 @@ fn own_or(own: u8, i: u8, v: u16, n: u16) -> u16
 
 // A record at an offset where it may not fit; the offset behind it.
 fn put_record(out: &mut [u8], at: usize, r: Row) -> usize
-    requires { ⌜ at ≤ 2500000 ⌝ }
+    requires { ⌜ at ≤ mostOffset ⌝ }
     ensures bytes { λ _. ⌜ now (out .exit) ≡ sets (now (out .entry)) at (recordBytes r) ⌝ }
     ensures next { λ e. ⌜ e ≡ at + length (recordBytes r) ⌝ }
 {
-    let tag = (r.tag % 256) as u8;
+    let tag = r.tag % 256;
     let own = rules::own_numbers(tag);
     let n = r.n;
     put_field(
@@ -137,12 +139,12 @@ fn put_record(out: &mut [u8], at: usize, r: Row) -> usize
         own_or(own, 2, r.c, n),
         n,
     );
-    at + 3 + 2 * (fields::numbers_of(tag) as usize)
+    at + (fields::bytes_of(tag) as usize)
 }
 
 // The records from a row on, where they may not fit.
 fn put_rest(out: &mut [u8], first: usize, records: &[u16], from: u16, count: u16)
-    requires { ⌜ first ≤ 1500000 + 11 * from ⌝ }
+    requires { ⌜ first ≤ mostTree + mostBytes * from ⌝ }
     ensures { λ _. ⌜ now (out .exit) ≡ sets (now (out .entry)) first (rowsBytes (recordAt (now (records .entry))) from (count - from)) ⌝ }
 {
     let mut at = first;
@@ -168,15 +170,16 @@ fn put_two_at(out: &mut [u8], at: usize, v: u16)
 }
 
 // A tag, and the length of so many numbers.
-fn put_head(out: &mut [u8], at: usize, tag: u8, count: u8)
-    requires { ⌜ (count ≤ 4) × (at + 3 ≤ length (now out)) ⌝ }
+fn put_head(out: &mut [u8], at: usize, tag: u16, count: u8)
+    requires { ⌜ (tag ≤ 255) × (count ≤ 4) × (at + headBytes ≤ length (now out)) ⌝ }
     ensures { λ _. ⌜ now (out .exit) ≡ sets (set (now (out .entry)) at tag) (at + 1) (twoBytes (2 * count ∷ [])) ⌝ }
 {
-    out[at] = tag;
+    out[at] = tag as u8;
     out[at + 1] = 0;
     out[at + 2] = 2 * count;
 }
 
+// The lesser of two offsets.
 fn lesser(x: usize, y: usize) -> usize
     ensures { λ r. ⌜ r ≡ lesserOf x y ⌝ }
     ensures most { λ r. ⌜ r ≤ y ⌝ }
@@ -184,12 +187,14 @@ fn lesser(x: usize, y: usize) -> usize
     if x < y { x } else { y }
 }
 
+// One of two numbers, by whether an offset stands before another.
 fn pick(x: usize, y: usize, v: u16, w: u16) -> u16
     ensures { λ r. ⌜ r ≡ pickOf x y v w ⌝ }
 {
     if x < y { v } else { w }
 }
 
+// One of two numbers, by a test.
 fn either(test: bool, v: u16, w: u16) -> u16
     ensures { λ r. ⌜ r ≡ (if test then v else w) ⌝ }
 {
@@ -198,51 +203,52 @@ fn either(test: bool, v: u16, w: u16) -> u16
 
 // The last number of a record, which goes to the offset `last`.
 fn last_number(at: usize, last: usize, children: bool, r: Row) -> u16
-    requires { ⌜ at ≤ 2500000 ⌝ }
+    requires { ⌜ at ≤ mostOffset ⌝ }
     ensures { λ v. ⌜ v ≡ lastOf children at last r ⌝ }
 {
     let n = r.n;
-    let third = pick(at + 7, last, n, r.c);
-    let second = pick(at + 5, last, third, r.b);
-    either(children, n, pick(at + 3, last, second, r.a))
+    let third = pick(at + THIRD_AT, last, n, r.c);
+    let second = pick(at + SECOND_AT, last, third, r.b);
+    either(children, n, pick(at + HEAD_BYTES, last, second, r.a))
 }
 
 // The numbers of a record, of which the last goes to the offset `last`. A number behind it is stored there too, and the last one over it.
 fn put_numbers(out: &mut [u8], at: usize, last: usize, children: bool, r: Row)
-    requires { ⌜ (at ≤ 2500000) × (at + 3 ≤ last) × (last + 2 ≤ length (now out)) ⌝ }
+    requires { ⌜ (at ≤ mostOffset) × (at + headBytes ≤ last) × (last + 2 ≤ length (now out)) ⌝ }
     ensures { λ _. ⌜ now (out .exit) ≡ numbersOver children at last r (now (out .entry)) ⌝ }
 {
-    put_two_at(out, at + 3, r.a);
-    put_two_at(out, lesser(at + 5, last), r.b);
-    put_two_at(out, lesser(at + 7, last), r.c);
+    put_two_at(out, at + HEAD_BYTES, r.a);
+    put_two_at(out, lesser(at + SECOND_AT, last), r.b);
+    put_two_at(out, lesser(at + THIRD_AT, last), r.c);
     put_two_at(out, last, last_number(at, last, children, r));
 }
 
 // A record at an offset; the offset behind it.
 fn put_whole(out: &mut [u8], at: usize, r: Row) -> usize
-    requires { ⌜ (at ≤ 2500000) × (at + 11 ≤ length (now out)) ⌝ }
+    requires { ⌜ (at ≤ mostOffset) × (at + mostBytes ≤ length (now out)) ⌝ }
     ensures bytes { λ _. ⌜ now (out .exit) ≡ sets (now (out .entry)) at (recordBytes r) ⌝ }
     ensures next { λ e. ⌜ e ≡ at + length (recordBytes r) ⌝ }
 {
-    let tag = (r.tag % 256) as u8;
+    let tag = r.tag % 256;
     let count = fields::numbers_of(tag);
-    let last = at + 1 + 2 * (count as usize);
+    let last = at + TAG_BYTES + NUMBER_BYTES * (count as usize);
     put_head(out, at, tag, count);
     if count == 0 {
-        return last + 2;
+        return last + NUMBER_BYTES;
     }
     put_numbers(out, at, last, rules::has_children(tag), r);
-    last + 2
+    last + NUMBER_BYTES
 }
 
+// All records, the last of them where they may not fit.
 fn put_records(out: &mut [u8], tree: usize, records: &[u16], count: u16)
-    requires { ⌜ tree ≤ 1500000 ⌝ }
+    requires { ⌜ tree ≤ mostTree ⌝ }
     ensures { λ _. ⌜ now (out .exit) ≡ sets (now (out .entry)) tree (rowsBytes (recordAt (now (records .entry))) 0 count) ⌝ }
 {
     let mut at = tree;
     let mut k: u16 = 0;
     while k < count {
-        if out.len() < at + 11 {
+        if out.len() < at + MOST_FIELD_BYTES {
             break;
         }
         at = put_whole(out, at, tables::row_after(records, RecordId(k)));
@@ -258,13 +264,13 @@ pub fn write(walk: Walk, records: &[u16], scopes: &[u16], symbols: &[u16], out: 
     ensures { λ _. ⌜ now (out .exit) ≡ sets (now (out .entry)) 0 (fileBytes (now (records .entry)) (now (scopes .entry)) (now (symbols .entry)) walk) ⌝ }
 {
     let ctx = walk.ctx;
-    let first = 7 + 7 * (ctx.scopes as usize);
-    put_field(out, 0, 40, ctx.mode, ctx.esm, 0, 0);
+    let first = SETTINGS_BYTES + SCOPE_BYTES * (ctx.scopes as usize);
+    put_field(out, 0, tag::SETTINGS, ctx.mode, ctx.esm, 0, 0);
     put_scopes(out, scopes, ctx.scopes);
     put_symbols(out, first, symbols, ctx.symbols);
     put_records(
         out,
-        first + 11 * (ctx.symbols as usize),
+        first + SYMBOL_BYTES * (ctx.symbols as usize),
         records,
         walk.visited.0,
     );

@@ -15,8 +15,8 @@ use Rattle.meaning.specs.declared.Place.{Place}
 use Rattle.meaning.specs.declared.Place.the-variants.{ForOfLeft, SwitchExpression}
 use Rattle.meaning.specs.declared.Field.{Field}
 use Rattle.meaning.specs.Charges.{finalFigures}
-use Rattle.tallies.specs.declared.Up.the-variants.{Plain}
-use Rattle.tallies.specs.Tally.{cap, tallyOf, tallyFigures}
+use Rattle.figures.specs.declared.tally.Role.the-variants.{Plain}
+use Rattle.figures.specs.Tally.{cap, tallyOf, tallyFigures}
 use Rattle.spec_laws.specs.Tags.{clash}
 use Rattle.parsing.specs.Parsed.{RecordAt, same-tag, Parsed, parsed-none, parsed-more}
 use Rattle.parsing.specs.Counts.{parsed-bytes, size-bytes}

@@ -9,12 +9,12 @@ use lib.Dec.{eqb, ltb}
 use Rattle.meaning.specs.Tree.{if_then_else_, Head, Forest, none, more, count, size}
 use Rattle.meaning.specs.File.{Symbol, fieldBytes}
 use Rattle.meaning.specs.Statements.{isUsing}
-use Rattle.tallies.specs.declared.Tally.{Tally}
-use Rattle.tallies.specs.declared.Up.{Up}
-use Rattle.tallies.specs.declared.Up.the-variants.{Item, Exported, ExportedName, Held}
-use Rattle.tallies.specs.Tally.{
-  isUp,
-  upOf,
+use Rattle.figures.specs.declared.tally.Tally.{Tally}
+use Rattle.figures.specs.declared.tally.Role.{Role}
+use Rattle.figures.specs.declared.tally.Role.the-variants.{Item, Exported, ExportedName, Held}
+use Rattle.figures.specs.Tally.{
+  isRole,
+  roleOf,
   bodyOf,
   insertsIn,
   oneIf,
@@ -84,7 +84,7 @@ wraps-small kids (there e₅ (there e₉ here)) = omega arith
 wraps-small {t} kids (there e₅ (there e₉ (there e₁₀ other))) =
     rw (e₅, e₉, e₁₀) (omega (arith, if-most (takesUp t (kids .usings)) (kids .wraps)))
 
-own-small : (u : Up) (inserts : Bool) (h : Head) (n m : ℕ) (kids : Tally) → Small m kids → Small (suc m) (own u inserts h n kids)
+own-small : (u : Role) (inserts : Bool) (h : Head) (n m : ℕ) (kids : Tally) → Small m kids → Small (suc m) (own u inserts h n kids)
 unfolding own
 own-small u inserts h n m kids s =
     let t = h .tag in
@@ -99,15 +99,15 @@ own-small u inserts h n m kids s =
             arith,
             wraps-small kids (seen (5 ∷ 9 ∷ 10 ∷ []) t),
             one-most (isBody u),
-            one-most (isUp u Held && eqb t 6 && ltb (h .b) n),
+            one-most (isRole u Held && eqb t 6 && ltb (h .b) n),
           );
       forOfs = omega (arith, one-most (isBody u && inserts));
       forOfBlocks = omega (arith, one-most (isBody u && not inserts));
       programs = omega (arith, one-most (takes && eqb t 1));
-      classes = omega (arith, kept-most t (kids .usings) (kids .classes), one-most (isUp u Item && eqb t 15));
+      classes = omega (arith, kept-most t (kids .usings) (kids .classes), one-most (isRole u Item && eqb t 15));
       exports = omega (arith, kept-most t (kids .usings) (kids .exports), one-most (isExport u h));
-      declarations = omega (arith, kept-most t (kids .usings) (kids .declarations), one-most (isUp u Exported && eqb t 5));
-      names = omega (arith, kept-most t (kids .usings) (kids .names), one-most (isUp u ExportedName && eqb t 26));
+      declarations = omega (arith, kept-most t (kids .usings) (kids .declarations), one-most (isRole u Exported && eqb t 5));
+      names = omega (arith, kept-most t (kids .usings) (kids .names), one-most (isRole u ExportedName && eqb t 26));
       usings = omega (arith, one-most (isUsing h));
       caseUsings = omega (arith, if-most (eqb t 10) (kids .usings));
     }
@@ -116,11 +116,11 @@ sum-small : (m n : ℕ) (s t : Tally) → Small (suc m) s → Small n t → Smal
 sum-small m n s t a b = omega arith
 
 -- ROOM. No counter exceeds eleven times the records.
-pub tally-small : (asRead : List Symbol) (f : Forest) (ups : ℕ → Up) (i : ℕ) → Small (size f) (tallyOf asRead ups i f)
+pub tally-small : (asRead : List Symbol) (f : Forest) (ups : ℕ → Role) (i : ℕ) → Small (size f) (tallyOf asRead ups i f)
 unfolding tallyOf size
 tally-small asRead none ups i = omega arith
 tally-small asRead (more h k r) ups i =
-    let below = upOf (ups i) (h .tag) (isUsing h) (bodyOf k) in
+    let below = roleOf (ups i) (h .tag) (isUsing h) (bodyOf k) in
     sum-small (size k) (size r) _ _
     (own-small (ups i) (insertsIn asRead (ups i) h) h (count k) (size k) (tallyOf asRead below 0 k) (tally-small asRead k below 0))
     (tally-small asRead r ups (suc i))
@@ -164,6 +164,6 @@ small-cap : (n : ℕ) (t : Tally) → n ≤ 65535 → Small n t → cap t ≡ t
 small-cap n t l s = tally-same (cap t) t (omega arith)
 
 -- of as many records as a file may have, no counter is capped
-pub tally-cap : (asRead : List Symbol) (f : Forest) (ups : ℕ → Up) (i : ℕ) → size f ≤ 65535
+pub tally-cap : (asRead : List Symbol) (f : Forest) (ups : ℕ → Role) (i : ℕ) → size f ≤ 65535
     → cap (tallyOf asRead ups i f) ≡ tallyOf asRead ups i f
 tally-cap asRead f ups i l = small-cap (size f) (tallyOf asRead ups i f) l (tally-small asRead f ups i)

@@ -19,13 +19,13 @@ use Rattle.meaning.specs.Statements.{isUsing}
 use Rattle.meaning.specs.ForOf.{bindsIdentifier, boundSymbol}
 use Rattle.meaning.specs.Program.{keepsDefault}
 use Rattle.meaning.specs.Charges.{helper, lineCharge, total, recordBytes, helperLines, finalFigures}
-use Rattle.tallies.specs.declared.Tally.{Tally}
-use Rattle.tallies.specs.declared.Up.{Up}
-use Rattle.tallies.specs.declared.Up.the-variants.{Plain, Part, Item, Default, Exported, ExportedDeclarator, ExportedName, Held, Body}
-use Rattle.tallies.specs.Tally.{
-  upIndex,
-  isUp,
-  upOf,
+use Rattle.figures.specs.declared.tally.Tally.{Tally}
+use Rattle.figures.specs.declared.tally.Role.{Role}
+use Rattle.figures.specs.declared.tally.Role.the-variants.{Plain, Part, Item, Default, Exported, ExportedDeclarator, ExportedName, Held, Body}
+use Rattle.figures.specs.Tally.{
+  roleIndex,
+  isRole,
+  roleOf,
   bodyOf,
   insertsIn,
   oneIf,
@@ -43,7 +43,7 @@ use Rattle.spec_laws.specs.Tags.{Seen, other, here, there, seen, clash}
 use Rattle.parsing.specs.Parsed.{same-tag, Parsed, parsed-none, parsed-more}
 use Rattle.parsing.specs.Counts.{parsed-bytes}
 use Rattle.parsing.specs.Files.{file-parsed}
-use Rattle.charge_laws.specs.Totals.Roles.{upOf-all}
+use Rattle.charge_laws.specs.Totals.Roles.{roleOf-all}
 use Rattle.charge_laws.specs.Totals.Bound.{one-most, kept-most}
 use Rattle.charge_laws.specs.Totals.Total.{figures-are}
 use Rattle.charge_laws.specs.Totals.Accepted.{either, accepted-is}
@@ -62,7 +62,7 @@ Sound none = Unit {0}
 Sound (more h k r) = (oneIf (eqb (h .tag) 5) ≤ declarators k) × (eqb (h .tag) 18 ≡ true → count k ≡ 1) × Sound k × Sound r
 
 -- what a record is charged that the one around it pays: at a ForOf's body, and below 18
-owed : Up → ℕ
+owed : Role → ℕ
 owed Plain = 0
 owed Part = 0
 owed Item = 0
@@ -73,7 +73,7 @@ owed ExportedName = 0
 owed Held = 0
 owed (Body y) = 17
 
-debt : (ℕ → Up) → ℕ → Forest → ℕ
+debt : (ℕ → Role) → ℕ → Forest → ℕ
 debt ups i none = 0
 debt ups i (more h k r) = owed (ups i) + debt ups (suc i) r
 
@@ -83,12 +83,12 @@ spent t = tallyFigures t .records + 12 * t .usings + t .wraps + 12 * t .«case_u
 
 -- ---- the debts of a record's children
 
-no-debt : (f : Forest) (ups : ℕ → Up) (i : ℕ) → ((j : ℕ) → i ≤ j → owed (ups j) ≡ 0) → debt ups i f ≡ 0
+no-debt : (f : Forest) (ups : ℕ → Role) (i : ℕ) → ((j : ℕ) → i ≤ j → owed (ups j) ≡ 0) → debt ups i f ≡ 0
 unfolding debt
 no-debt none ups i n = refl
 no-debt (more h k r) ups i n = omega (arith, n i (omega arith), no-debt r ups (suc i) (λ j l. n j (omega arith)))
 
-one-debt : (f : Forest) (ups : ℕ → Up) → owed (ups 0) ≤ 4 → count f ≡ 1 → debt ups 0 f ≤ 4
+one-debt : (f : Forest) (ups : ℕ → Role) → owed (ups 0) ≤ 4 → count f ≡ 1 → debt ups 0 f ≤ 4
 unfolding debt count
 one-debt none ups l e = omega arith
 one-debt (more h k none) ups l e = omega arith
@@ -105,37 +105,37 @@ body-owed true true y = omega arith
 body-owed true false y = omega arith
 body-owed false c y = omega arith
 
-module _ (asRead : List Symbol) (u : Up) (held : Bool) where
+module _ (asRead : List Symbol) (u : Role) (held : Bool) where
   abbrev usingsBelow : ℕ → Forest → ℕ
-  usingsBelow t k = (tallyOf asRead (upOf u t held (bodyOf k)) 0 k) .usings
+  usingsBelow t k = (tallyOf asRead (roleOf u t held (bodyOf k)) 0 k) .usings
 
-  for-of-debt : (k : Forest) → debt (upOf u 8 held (bodyOf k)) 0 k ≤ 12 * usingsBelow 8 k + 5
-  unfolding debt owed upOf bodyOf tallyOf own
+  for-of-debt : (k : Forest) → debt (roleOf u 8 held (bodyOf k)) 0 k ≤ 12 * usingsBelow 8 k + 5
+  unfolding debt owed roleOf bodyOf tallyOf own
   for-of-debt none = omega arith
   for-of-debt (more h₁ k₁ none) = omega arith
   for-of-debt (more h₁ k₁ (more h₂ k₂ none)) = omega arith
   for-of-debt (more h₁ k₁ (more h₂ k₂ (more h₃ k₃ r))) =
       let b = isUsing h₁ && bindsIdentifier k₁ in
-      let body : Up = if b then Body (boundSymbol k₁) else Plain in
+      let body : Role = if b then Body (boundSymbol k₁) else Plain in
       omega (
         arith,
         body-owed (isUsing h₁) (bindsIdentifier k₁) (boundSymbol k₁),
-        no-debt r (upOf u 8 held body) 3 (λ j l. rw (ne-eqb j 2 (λ e. omega arith))),
+        no-debt r (roleOf u 8 held body) 3 (λ j l. rw (ne-eqb j 2 (λ e. omega arith))),
       )
 
-  no-owed : (t : ℕ) (body : Up) (i : ℕ) → eqb t 8 ≡ false → eqb t 18 ≡ false → owed (upOf u t held body i) ≡ 0
+  no-owed : (t : ℕ) (body : Role) (i : ℕ) → eqb t 8 ≡ false → eqb t 18 ≡ false → owed (roleOf u t held body i) ≡ 0
   unfolding owed
   no-owed t body i e₈ e₁₈ =
-      upOf-all (λ (x : Up). owed x ≡ 0) u t held body i refl refl (λ _. refl) (λ _. refl) (λ d. absurd (clash e₈ d)) (λ _ _. refl)
+      roleOf-all (λ (x : Role). owed x ≡ 0) u t held body i refl refl (λ _. refl) (λ _. refl) (λ d. absurd (clash e₈ d)) (λ _ _. refl)
       (λ _ _. refl) (λ d _. absurd (clash e₁₈ d)) (λ _ _. refl)
 
   debt-below : {t : ℕ} (k : Forest) → (eqb t 18 ≡ true → count k ≡ 1) → Seen (8 ∷ 18 ∷ []) t
-      → debt (upOf u t held (bodyOf k)) 0 k ≤ 12 * (if eqb t 8 then usingsBelow t k else 0) + 5 * oneIf (eqb t 8) + 4 * oneIf (eqb t 18)
-  unfolding upOf
+      → debt (roleOf u t held (bodyOf k)) 0 k ≤ 12 * (if eqb t 8 then usingsBelow t k else 0) + 5 * oneIf (eqb t 8) + 4 * oneIf (eqb t 18)
+  unfolding roleOf
   debt-below k n here = omega (arith, for-of-debt k)
-  debt-below k n (there e₈ here) = omega (arith, one-debt k (upOf u 18 held (bodyOf k)) (default-owed (isUp u Item)) (n refl))
+  debt-below k n (there e₈ here) = omega (arith, one-debt k (roleOf u 18 held (bodyOf k)) (default-owed (isRole u Item)) (n refl))
   debt-below {t} k n (there e₈ (there e₁₈ other)) =
-      omega (arith, no-debt k (upOf u t held (bodyOf k)) 0 (λ j l. no-owed t (bodyOf k) j e₈ e₁₈))
+      omega (arith, no-debt k (roleOf u t held (bodyOf k)) 0 (λ j l. no-owed t (bodyOf k) j e₈ e₁₈))
 
 -- ---- what one record pays
 
@@ -161,11 +161,11 @@ body-cost : (inserts any : Bool)
 body-cost true any = omega (arith, one-most any)
 body-cost false any = omega arith
 
-role-paid : (u : Up) (inserts : Bool) (h : Head) (usings : ℕ)
+role-paid : (u : Role) (inserts : Bool) (h : Head) (usings : ℕ)
     → 11 * oneIf (getsContext u inserts usings) + oneIf (isBody u) + 4 * oneIf (isBody u && inserts) + 5 * oneIf (isBody u && not inserts)
     + 4 * oneIf (isExport u h)
     ≤ owed u + 4 * oneIf (eqb (h .tag) 15)
-unfolding owed upIndex getsContext isExport
+unfolding owed roleIndex getsContext isExport
 role-paid Plain inserts h usings = omega arith
 role-paid Part inserts h usings = omega arith
 role-paid Item inserts h usings = omega arith
@@ -209,7 +209,7 @@ switch-cost : (any : Bool) (n w : ℕ) → oneIf any ≤ n → 12 * oneIf any + 
 switch-cost true n w l = omega arith
 switch-cost false n w l = omega arith
 
-module _ (u : Up) (kids : Tally) where
+module _ (u : Role) (kids : Tally) where
   abbrev listCost : ℕ → ℕ
   listCost t =
       let takes = takesUp t (kids .usings) in
@@ -226,7 +226,7 @@ module _ (u : Up) (kids : Tally) where
   unfolding takesUp takesUpCases isBlock
   list-paid here = omega (arith, program-cost (not (eqb (kids .usings) 0)) (kids .usings) (kids .wraps) (any-most (kids .usings)))
   list-paid (there e₁ here) =
-      omega (arith, list-cost (not (eqb (kids .usings) 0)) (not (isUp u Part)) (kids .usings) (kids .wraps) (any-most (kids .usings)))
+      omega (arith, list-cost (not (eqb (kids .usings) 0)) (not (isRole u Part)) (kids .usings) (kids .wraps) (any-most (kids .usings)))
   list-paid (there e₁ (there e₂ here)) = omega arith
   list-paid (there e₁ (there e₂ (there e₅ here))) =
       omega (arith, list-cost (not (eqb (kids .usings) 0)) false (kids .usings) (kids .wraps) (any-most (kids .usings)))
@@ -245,7 +245,7 @@ module _ (u : Up) (kids : Tally) where
       rw (e₁, e₂, e₅, e₇, e₈, e₉, e₁₀, e₁₄, e₁₆) (omega arith)
 
 -- what a record is charged, and what it hands on, is paid by its bytes, by what its children handed on, and by the record around it
-own-paid : (u : Up) (inserts : Bool) (h : Head) (n : ℕ) (kids : Tally) (d due : ℕ) → oneIf (eqb (h .tag) 5) ≤ d
+own-paid : (u : Role) (inserts : Bool) (h : Head) (n : ℕ) (kids : Tally) (d due : ℕ) → oneIf (eqb (h .tag) 5) ≤ d
     → due ≤ 12 * (if eqb (h .tag) 8 then kids .usings else 0) + 5 * oneIf (eqb (h .tag) 8) + 4 * oneIf (eqb (h .tag) 18)
     → spent (own u inserts h n kids) + 6 * oneIf (eqb (h .tag) 6) + due ≤ spent kids + 6 * d + fieldBytes (h .tag) + owed u
 unfolding own tallyFigures
@@ -257,23 +257,23 @@ own-paid u inserts h n kids d due l m =
       tag-paid (seen (5 ∷ 6 ∷ 8 ∷ 15 ∷ 18 ∷ 26 ∷ []) t),
       list-paid u kids (seen (1 ∷ 2 ∷ 5 ∷ 7 ∷ 8 ∷ 9 ∷ 10 ∷ 14 ∷ 16 ∷ []) t),
       using-tag h,
-      held-tag (isUp u Held) (eqb t 6) (ltb (h .b) n),
-      one-last (isUp u Item) (eqb t 15),
-      one-last (isUp u ExportedName) (eqb t 26),
+      held-tag (isRole u Held) (eqb t 6) (ltb (h .b) n),
+      one-last (isRole u Item) (eqb t 15),
+      one-last (isRole u ExportedName) (eqb t 26),
       kept-most t (kids .usings) (kids .classes),
       kept-most t (kids .usings) (kids .exports),
       kept-most t (kids .usings) (kids .names),
     )
 
 -- PAID. The charged records and those of the source are no more than the source's bytes.
-all-paid : (asRead : List Symbol) (f : Forest) (ups : ℕ → Up) (i : ℕ) → Sound f
+all-paid : (asRead : List Symbol) (f : Forest) (ups : ℕ → Role) (i : ℕ) → Sound f
     → spent (tallyOf asRead ups i f) + 6 * declarators f ≤ recordBytes f + debt ups i f
 unfolding tallyOf tallyFigures recordBytes debt declarators
 all-paid asRead none ups i s = omega arith
 all-paid asRead (more h k r) ups i s =
     let u = ups i in
     let t = h .tag in
-    let below = upOf u t (isUsing h) (bodyOf k) in
+    let below = roleOf u t (isUsing h) (bodyOf k) in
     omega (
       arith,
       own-paid u (insertsIn asRead u h) h (count k) (tallyOf asRead below 0 k) (declarators k) (debt below 0 k) (s .0)

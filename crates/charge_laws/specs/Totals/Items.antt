@@ -26,12 +26,12 @@ use Rattle.meaning.specs.Charges.{
   defaultLines,
   itemLines,
 }
-use Rattle.tallies.specs.declared.Tally.{Tally}
-use Rattle.tallies.specs.declared.Up.{Up}
-use Rattle.tallies.specs.declared.Up.the-variants.{Plain, Part, Item, Default, Exported, ExportedDeclarator, ExportedName, Held, Body}
-use Rattle.tallies.specs.Tally.{upIndex, isUp, upOf, bodyOf, insertsIn, oneIf, isExport, itemsKept, own, tallyOf}
+use Rattle.figures.specs.declared.tally.Tally.{Tally}
+use Rattle.figures.specs.declared.tally.Role.{Role}
+use Rattle.figures.specs.declared.tally.Role.the-variants.{Plain, Part, Item, Default, Exported, ExportedDeclarator, ExportedName, Held, Body}
+use Rattle.figures.specs.Tally.{roleIndex, isRole, roleOf, bodyOf, insertsIn, oneIf, isExport, itemsKept, own, tallyOf}
 use Rattle.spec_laws.specs.Tags.{Seen, other, here, there, seen, clash}
-use Rattle.charge_laws.specs.Totals.Roles.{LacksBelow, Regular, upOf-all, bodyOf-all}
+use Rattle.charge_laws.specs.Totals.Roles.{LacksBelow, Regular, roleOf-all, bodyOf-all}
 use Rattle.charge_laws.specs.Totals.Lists.{usings-are}
 use Rattle.spec_laws.specs.Figures.{Same, total-++}
 use Rattle.charge_laws.specs.Totals.Sums.{total-three, itemFigures, itemsOf, programOwn, no-program, programLines}
@@ -39,39 +39,39 @@ use Rattle.charge_laws.specs.Totals.Sums.{total-three, itemFigures, item
 -- ---- roles
 
 -- the roles that are no item's and no part of one
-pub data Apart : Up → Type 0 where
+pub data Apart : Role → Type 0 where
   plain : Apart Plain
   part : Apart Part
   held : Apart Held
   body : {y : ℕ} → Apart (Body y)
 
 -- below such a record all roles are apart
-abbrev Ends : Up → ℕ → Type 0
+abbrev Ends : Role → ℕ → Type 0
 Ends u t =
-    (eqb t 1 ≡ false) × ((isUp u Exported && eqb t 5) ≡ false) × ((isUp u ExportedDeclarator && eqb t 6) ≡ false)
-    × ((isUp u Item && eqb t 18) ≡ false) × ((isUp u Item && eqb t 19) ≡ false)
+    (eqb t 1 ≡ false) × ((isRole u Exported && eqb t 5) ≡ false) × ((isRole u ExportedDeclarator && eqb t 6) ≡ false)
+    × ((isRole u Item && eqb t 18) ≡ false) × ((isRole u Item && eqb t 19) ≡ false)
 
-ends-below : (u : Up) (t : ℕ) (kept : Bool) (k : Forest) → Ends u t → (i : ℕ) → Apart (upOf u t kept (bodyOf k) i)
+ends-below : (u : Role) (t : ℕ) (kept : Bool) (k : Forest) → Ends u t → (i : ℕ) → Apart (roleOf u t kept (bodyOf k) i)
 ends-below u t kept k e i =
-    upOf-all Apart u t kept (bodyOf k) i plain held (λ _. part) (λ d. absurd (clash (e .0) d)) (λ _. bodyOf-all Apart plain (λ y. body) k)
+    roleOf-all Apart u t kept (bodyOf k) i plain held (λ _. part) (λ d. absurd (clash (e .0) d)) (λ _. bodyOf-all Apart plain (λ y. body) k)
     (λ d x. absurd (clash (e .1) (rw (x, d)))) (λ d x. absurd (clash (e .2) (rw (x, d))))
     (λ d x. absurd (clash (e .3) (rw (x, d)))) (λ d x. absurd (clash (e .4) (rw (x, d))))
 
-apart-ends : {u : Up} → Apart u → (t : ℕ) → eqb t 1 ≡ false → Ends u t
-unfolding upIndex
+apart-ends : {u : Role} → Apart u → (t : ℕ) → eqb t 1 ≡ false → Ends u t
+unfolding roleIndex
 apart-ends plain t e = (e, refl, refl, refl, refl)
 apart-ends part t e = (e, refl, refl, refl, refl)
 apart-ends held t e = (e, refl, refl, refl, refl)
 apart-ends body t e = (e, refl, refl, refl, refl)
 
 -- what `own` adds by the role
-abbrev roleItems : Up → Head → Figures
+abbrev roleItems : Role → Head → Figures
 roleItems u h =
-    itemFigures (oneIf (isUp u Item && eqb (h .tag) 15)) (oneIf (isExport u h)) (oneIf (isUp u Exported && eqb (h .tag) 5))
-    (oneIf (isUp u ExportedName && eqb (h .tag) 26))
+    itemFigures (oneIf (isRole u Item && eqb (h .tag) 15)) (oneIf (isExport u h)) (oneIf (isRole u Exported && eqb (h .tag) 5))
+    (oneIf (isRole u ExportedName && eqb (h .tag) 26))
 
-apart-items : {u : Up} → Apart u → (h : Head) → Same (roleItems u h) (itemFigures 0 0 0 0)
-unfolding upIndex isExport
+apart-items : {u : Role} → Apart u → (h : Head) → Same (roleItems u h) (itemFigures 0 0 0 0)
+unfolding roleIndex isExport
 apart-items plain h = omega arith
 apart-items part h = omega arith
 apart-items held h = omega arith
@@ -107,19 +107,19 @@ no-programs (more h k r) l = rw (l .0, no-programs k (l .1), no-programs r (l .2
 
 -- Each lemma `..-are` is about records beside each other that have one role, the one above it about one of them.
 module _ (asRead : List Symbol) where
-  abbrev below : Up → Head → Forest → Tally
-  below u h k = tallyOf asRead (upOf u (h .tag) (isUsing h) (bodyOf k)) 0 k
+  abbrev below : Role → Head → Forest → Tally
+  below u h k = tallyOf asRead (roleOf u (h .tag) (isUsing h) (bodyOf k)) 0 k
 
-  abbrev recordTally : Up → Head → Forest → Tally
+  abbrev recordTally : Role → Head → Forest → Tally
   recordTally u h k = own u (insertsIn asRead u h) h (count k) (below u h k)
 
-  own-items : (u : Up) (h : Head) (k : Forest) → eqb (h .tag) 1 ≡ false
+  own-items : (u : Role) (h : Head) (k : Forest) → eqb (h .tag) 1 ≡ false
       → Same (itemsOf (recordTally u h k)) (itemsOf (below u h k) ⊕ roleItems u h)
   unfolding own itemsKept
   own-items u h k e = rw e (omega arith)
 
   -- nothing is charged where all roles are apart
-  no-items : (f : Forest) (ups : ℕ → Up) (i : ℕ) → LacksBelow 1 f → ((j : ℕ) → Apart (ups j))
+  no-items : (f : Forest) (ups : ℕ → Role) (i : ℕ) → LacksBelow 1 f → ((j : ℕ) → Apart (ups j))
       → Same (itemsOf (tallyOf asRead ups i f)) (itemFigures 0 0 0 0)
   unfolding tallyOf
   no-items none ups i l a = omega arith
@@ -129,24 +129,24 @@ module _ (asRead : List Symbol) where
         arith,
         own-items u h k (l .0),
         apart-items (a i) h,
-        no-items k (upOf u (h .tag) (isUsing h) (bodyOf k)) 0 (l .1)
+        no-items k (roleOf u (h .tag) (isUsing h) (bodyOf k)) 0 (l .1)
             (ends-below u (h .tag) (isUsing h) k (apart-ends (a i) (h .tag) (l .0))),
         no-items r ups (suc i) (l .2) a,
       )
 
-  ends-items : (u : Up) (h : Head) (k : Forest) → LacksBelow 1 k → Ends u (h .tag)
+  ends-items : (u : Role) (h : Head) (k : Forest) → LacksBelow 1 k → Ends u (h .tag)
       → Same (itemsOf (recordTally u h k)) (roleItems u h)
   ends-items u h k l e =
       omega (
         arith,
         own-items u h k (e .0),
-        no-items k (upOf u (h .tag) (isUsing h) (bodyOf k)) 0 l (ends-below u (h .tag) (isUsing h) k e),
+        no-items k (roleOf u (h .tag) (isUsing h) (bodyOf k)) 0 l (ends-below u (h .tag) (isUsing h) k e),
       )
 
   -- the Names of an exported Declaration, in its Declarators
   names-are : (f : Forest) (i : ℕ) → LacksBelow 1 f
       → Same (itemsOf (tallyOf asRead (λ _. ExportedName) i f)) (itemFigures 0 0 0 (length (namesIn f)))
-  unfolding tallyOf namesIn upIndex isExport
+  unfolding tallyOf namesIn roleIndex isExport
   names-are none i l = omega arith
   names-are (more h k r) i l =
       omega (
@@ -158,7 +158,7 @@ module _ (asRead : List Symbol) where
 
   declarator-names : {t : ℕ} (a b c : ℕ) (k : Forest) → LacksBelow 1 k → eqb t 1 ≡ false → Seen (6 ∷ []) t
       → Same (itemsOf (recordTally ExportedDeclarator (hd t a b c) k)) (itemFigures 0 0 0 (length (if eqb t 6 then namesIn k else [])))
-  unfolding upIndex isExport upOf
+  unfolding roleIndex isExport roleOf
   declarator-names a b c k l e here =
       omega (arith, own-items ExportedDeclarator (hd 6 a b c) k e, names-are k 0 l)
   declarator-names {t} a b c k l e (there e₆ other) =
@@ -181,7 +181,7 @@ module _ (asRead : List Symbol) where
       → Same (itemsOf (recordTally Exported (hd t a b c) k))
       (total
       (if eqb t 15 then exportedClass ∷ [] else if eqb t 5 then exportedNames (length (boundNames k)) ∷ [] else []))
-  unfolding upIndex isExport upOf total lineCharge
+  unfolding roleIndex isExport roleOf total lineCharge
   exported-item a b c k l e here = omega (arith, ends-items Exported (hd 15 a b c) k l (refl, refl, refl, refl, refl))
   exported-item a b c k l e (there e₁₅ here) = omega (arith, own-items Exported (hd 5 a b c) k e, bound-are k 0 l)
   exported-item {t} a b c k l e (there e₁₅ (there e₅ other)) =
@@ -200,7 +200,7 @@ module _ (asRead : List Symbol) where
       )
 
   defaults-are : (f : Forest) (i : ℕ) → LacksBelow 1 f → Same (itemsOf (tallyOf asRead (λ _. Default) i f)) (total (defaultLines f))
-  unfolding tallyOf defaultLines total upIndex isExport
+  unfolding tallyOf defaultLines total roleIndex isExport
   defaults-are none i l = omega arith
   defaults-are (more h k r) i l =
       omega (
@@ -215,7 +215,7 @@ module _ (asRead : List Symbol) where
   program-item : {t : ℕ} (a b c : ℕ) (k : Forest) → LacksBelow 1 k → eqb t 1 ≡ false → Seen (15 ∷ 18 ∷ 19 ∷ []) t
       → Same (itemsOf (recordTally Item (hd t a b c) k))
       (total (if eqb t 15 then topLevelClass ∷ [] else if eqb t 18 then defaultLines k else if eqb t 19 then exportLines k else []))
-  unfolding upIndex isExport upOf total lineCharge
+  unfolding roleIndex isExport roleOf total lineCharge
   program-item a b c k l e here = omega (arith, ends-items Item (hd 15 a b c) k l (refl, refl, refl, refl, refl))
   program-item a b c k l e (there e₁₅ here) = omega (arith, own-items Item (hd 18 a b c) k e, defaults-are k 0 l)
   program-item a b c k l e (there e₁₅ (there e₁₈ here)) = omega (arith, own-items Item (hd 19 a b c) k e, exports-are k 0 l)
@@ -239,9 +239,9 @@ module _ (asRead : List Symbol) where
       )
 
   -- a Program, and any record
-  program-items : {u : Up} → Apart u → (a b c : ℕ) (k : Forest) → LacksBelow 1 k
+  program-items : {u : Role} → Apart u → (a b c : ℕ) (k : Forest) → LacksBelow 1 k
       → Same (itemsOf (recordTally u (hd 1 a b c) k)) (total (programOwn 1 k))
-  unfolding own itemsKept programOwn upOf
+  unfolding own itemsKept programOwn roleOf
   program-items {u} x a b c k l =
       rw (usings-are asRead k (λ _. Item) 0)
       (omega (
@@ -250,8 +250,8 @@ module _ (asRead : List Symbol) where
         kept-items (anyUsing k) (tallyOf asRead (λ _. Item) 0 k) (itemLines k) (item-lines-are k 0 l),
       ))
 
-  record-items : {u : Up} → Apart u → {t : ℕ} (a b c : ℕ) (k : Forest) → (eqb t 1 ≡ true → LacksBelow 1 k) → Seen (1 ∷ []) t
-      → (((j : ℕ) → Apart (upOf u t (isUsing (hd t a b c)) (bodyOf k) j)) → Same (itemsOf (below u (hd t a b c) k)) (total (programLines k)))
+  record-items : {u : Role} → Apart u → {t : ℕ} (a b c : ℕ) (k : Forest) → (eqb t 1 ≡ true → LacksBelow 1 k) → Seen (1 ∷ []) t
+      → (((j : ℕ) → Apart (roleOf u t (isUsing (hd t a b c)) (bodyOf k) j)) → Same (itemsOf (below u (hd t a b c) k)) (total (programLines k)))
       → Same (itemsOf (recordTally u (hd t a b c) k)) (total (programOwn t k) ⊕ total (programLines k))
   unfolding total
   record-items x a b c k l here i = rw (no-programs k (l refl)) (omega (arith, program-items x a b c k (l refl)))
@@ -264,7 +264,7 @@ module _ (asRead : List Symbol) where
         no-program t k e,
       )
 
-  pub items-are : (f : Forest) (ups : ℕ → Up) (i : ℕ) → Regular f → ((j : ℕ) → Apart (ups j))
+  pub items-are : (f : Forest) (ups : ℕ → Role) (i : ℕ) → Regular f → ((j : ℕ) → Apart (ups j))
       → Same (itemsOf (tallyOf asRead ups i f)) (total (programLines f))
   unfolding tallyOf programLines total
   items-are none ups i s a = omega arith
@@ -272,7 +272,7 @@ module _ (asRead : List Symbol) where
       omega (
         arith,
         record-items (a i) (h .a) (h .b) (h .c) k (s .1) (seen (1 ∷ []) (h .tag))
-            (items-are k (upOf (ups i) (h .tag) (isUsing h) (bodyOf k)) 0 (s .2)),
+            (items-are k (roleOf (ups i) (h .tag) (isUsing h) (bodyOf k)) 0 (s .2)),
         items-are r ups (suc i) (s .3) a,
         total-three (programOwn (h .tag) k) (programLines k) (programLines r),
       )

@@ -13,10 +13,10 @@ use Rattle.meaning.specs.File.{Symbol}
 use Rattle.meaning.specs.Statements.{isUsing, anyUsing}
 use Rattle.meaning.specs.Contexts.{anyCaseUsing}
 use Rattle.meaning.specs.Charges.{initializers, wraps, caseWraps}
-use Rattle.tallies.specs.declared.Tally.{Tally}
-use Rattle.tallies.specs.declared.Up.{Up}
-use Rattle.tallies.specs.declared.Up.the-variants.{Plain, Item, Exported, ExportedDeclarator, Held}
-use Rattle.tallies.specs.Tally.{upIndex, isUp, upOf, bodyOf, oneIf, own, tallyOf}
+use Rattle.figures.specs.declared.tally.Tally.{Tally}
+use Rattle.figures.specs.declared.tally.Role.{Role}
+use Rattle.figures.specs.declared.tally.Role.the-variants.{Plain, Item, Exported, ExportedDeclarator, Held}
+use Rattle.figures.specs.Tally.{roleIndex, isRole, roleOf, bodyOf, oneIf, own, tallyOf}
 use Rattle.spec_laws.specs.Tags.{Seen, other, here, there, seen, clash}
 use Rattle.charge_laws.specs.Totals.Roles.{Lacks, Regular}
 
@@ -40,18 +40,18 @@ any-if true c m e = e
 any-if false c m e = refl
 
 module _ (asRead : List Symbol) where
-  pub usings-are : (f : Forest) (ups : ℕ → Up) (i : ℕ) → eqb ((tallyOf asRead ups i f) .usings) 0 ≡ not (anyUsing f)
+  pub usings-are : (f : Forest) (ups : ℕ → Role) (i : ℕ) → eqb ((tallyOf asRead ups i f) .usings) 0 ≡ not (anyUsing f)
   unfolding tallyOf own anyUsing
   usings-are none ups i = refl
   usings-are (more h k r) ups i =
       any-sum (oneIf (isUsing h)) _ (isUsing h) (anyUsing r) (any-one (isUsing h)) (usings-are r ups (suc i))
 
-  case-usings-are : (f : Forest) (ups : ℕ → Up) (i : ℕ) → eqb ((tallyOf asRead ups i f) .«case_usings») 0 ≡ not (anyCaseUsing f)
+  case-usings-are : (f : Forest) (ups : ℕ → Role) (i : ℕ) → eqb ((tallyOf asRead ups i f) .«case_usings») 0 ≡ not (anyCaseUsing f)
   unfolding tallyOf own anyCaseUsing
   case-usings-are none ups i = refl
   case-usings-are (more h k r) ups i =
       any-sum (if eqb (h .tag) 10 then _ else 0) _ (eqb (h .tag) 10 && anyUsing k) (anyCaseUsing r)
-      (any-if (eqb (h .tag) 10) (anyUsing k) _ (usings-are k (upOf (ups i) (h .tag) (isUsing h) (bodyOf k)) 0))
+      (any-if (eqb (h .tag) 10) (anyUsing k) _ (usings-are k (roleOf (ups i) (h .tag) (isUsing h) (bodyOf k)) 0))
       (case-usings-are r ups (suc i))
 
 -- ---- wrapped initializers
@@ -67,12 +67,12 @@ using-tag h = twice-and (eqb (h .tag) 5) (oneOf (3 ∷ 4 ∷ []) (h .a) || oneOf
 module _ (asRead : List Symbol) where
   -- a list of Declarators: of a using, and of another Declaration
   held-wraps : (f : Forest) (i : ℕ) → Lacks 5 f → (tallyOf asRead (λ _. Held) i f) .wraps ≡ initializers f
-  unfolding tallyOf own initializers upIndex
+  unfolding tallyOf own initializers roleIndex
   held-wraps none i l = refl
   held-wraps (more h k r) i l = rw (l .0) (omega (arith, held-wraps r (suc i) (l .1)))
 
   no-wraps : (f : Forest) (i : ℕ) → Lacks 5 f → (tallyOf asRead (λ _. Plain) i f) .wraps ≡ 0
-  unfolding tallyOf own upIndex
+  unfolding tallyOf own roleIndex
   no-wraps none i l = refl
   no-wraps (more h k r) i l = rw (l .0) (omega (arith, no-wraps r (suc i) (l .1)))
 
@@ -82,10 +82,10 @@ module _ (asRead : List Symbol) where
   wraps-in false f l = no-wraps f 0 l
 
   -- below a Declaration that is not exported, and below a Case
-  declaration-wraps : (b : Bool) (u : Up) (t : ℕ) (held : Bool) (body : Up) (k : Forest) → eqb t 5 ≡ b → isUp u Exported ≡ false
+  declaration-wraps : (b : Bool) (u : Role) (t : ℕ) (held : Bool) (body : Role) (k : Forest) → eqb t 5 ≡ b → isRole u Exported ≡ false
       → (b ≡ true → Lacks 5 k)
-      → (if b then (tallyOf asRead (upOf u t held body) 0 k) .wraps else 0) ≡ (if b && held then initializers k else 0)
-  unfolding upOf
+      → (if b then (tallyOf asRead (roleOf u t held body) 0 k) .wraps else 0) ≡ (if b && held then initializers k else 0)
+  unfolding roleOf
   declaration-wraps true u t held body k e x l =
       rw (eqb-true t 5 e)
       (ap (λ (b : Bool). (tallyOf asRead (λ _. if b then ExportedDeclarator else if held then Held else Plain) 0 k) .wraps) x
@@ -93,7 +93,7 @@ module _ (asRead : List Symbol) where
   declaration-wraps false u t held body k e x l = refl
 
   -- a list of statements or items
-  wraps-are : (u : Up) → isUp u Held ≡ false → isUp u Exported ≡ false → (f : Forest) (i : ℕ) → Regular f
+  wraps-are : (u : Role) → isRole u Held ≡ false → isRole u Exported ≡ false → (f : Forest) (i : ℕ) → Regular f
       → (tallyOf asRead (λ _. u) i f) .wraps ≡ wraps f
   unfolding tallyOf own wraps
   wraps-are u e x none i s = refl
@@ -101,13 +101,13 @@ module _ (asRead : List Symbol) where
       let d = declaration-wraps (eqb (h .tag) 5) u (h .tag) (isUsing h) (bodyOf k) k refl x (s .0) in
       rw e (omega (arith, rw (using-tag h) at d, wraps-are u e x r (suc i) (s .3)))
 
-  case-wraps : (b : Bool) (u : Up) (t : ℕ) (held : Bool) (body : Up) (k : Forest) → eqb t 10 ≡ b → Regular k
-      → (if b then (tallyOf asRead (upOf u t held body) 0 k) .wraps else 0) ≡ (if b then wraps k else 0)
-  unfolding upOf upIndex
+  case-wraps : (b : Bool) (u : Role) (t : ℕ) (held : Bool) (body : Role) (k : Forest) → eqb t 10 ≡ b → Regular k
+      → (if b then (tallyOf asRead (roleOf u t held body) 0 k) .wraps else 0) ≡ (if b then wraps k else 0)
+  unfolding roleOf roleIndex
   case-wraps true u t held body k e s = rw (eqb-true t 10 e) (wraps-are Plain refl refl k 0 s)
   case-wraps false u t held body k e s = refl
 
-  case-wraps-are : (f : Forest) (ups : ℕ → Up) (i : ℕ) → Regular f → (tallyOf asRead ups i f) .«case_wraps» ≡ caseWraps f
+  case-wraps-are : (f : Forest) (ups : ℕ → Role) (i : ℕ) → Regular f → (tallyOf asRead ups i f) .«case_wraps» ≡ caseWraps f
   unfolding tallyOf own caseWraps
   case-wraps-are none ups i s = refl
   case-wraps-are (more h k r) ups i s =
@@ -118,9 +118,9 @@ module _ (asRead : List Symbol) where
       )
 
   -- below the records that get a context for their list
-  list-wraps : (u : Up) {t : ℕ} (held : Bool) (body : Up) (k : Forest) → Regular k → Seen (1 ∷ 2 ∷ 7 ∷ 14 ∷ 16 ∷ []) t
-      → oneOf (1 ∷ 2 ∷ 7 ∷ 14 ∷ 16 ∷ []) t ≡ true → (tallyOf asRead (upOf u t held body) 0 k) .wraps ≡ wraps k
-  unfolding upOf upIndex
+  list-wraps : (u : Role) {t : ℕ} (held : Bool) (body : Role) (k : Forest) → Regular k → Seen (1 ∷ 2 ∷ 7 ∷ 14 ∷ 16 ∷ []) t
+      → oneOf (1 ∷ 2 ∷ 7 ∷ 14 ∷ 16 ∷ []) t ≡ true → (tallyOf asRead (roleOf u t held body) 0 k) .wraps ≡ wraps k
+  unfolding roleOf roleIndex
   list-wraps u held body k s here e = wraps-are Item refl refl k 0 s
   list-wraps u held body k s (there e₁ here) e = wraps-are Plain refl refl k 0 s
   list-wraps u held body k s (there e₁ (there e₂ here)) e = wraps-are Plain refl refl k 0 s
@@ -139,11 +139,11 @@ pub record Lists (t : ℕ) (k : Forest) (kids : Tally) : Type 0 where
   pub caseWraps : kids .«case_wraps» ≡ caseWraps k
 
 module _ (asRead : List Symbol) where
-  pub lists : (u : Up) (t : ℕ) (held : Bool) (k : Forest) → Regular k → Lists t k (tallyOf asRead (upOf u t held (bodyOf k)) 0 k)
+  pub lists : (u : Role) (t : ℕ) (held : Bool) (k : Forest) → Regular k → Lists t k (tallyOf asRead (roleOf u t held (bodyOf k)) 0 k)
   lists u t held k s =
       record {
-        usings = usings-are asRead k (upOf u t held (bodyOf k)) 0;
+        usings = usings-are asRead k (roleOf u t held (bodyOf k)) 0;
         wraps = list-wraps asRead u held (bodyOf k) k s (seen (1 ∷ 2 ∷ 7 ∷ 14 ∷ 16 ∷ []) t);
-        caseUsings = case-usings-are asRead k (upOf u t held (bodyOf k)) 0;
-        caseWraps = case-wraps-are asRead k (upOf u t held (bodyOf k)) 0 s;
+        caseUsings = case-usings-are asRead k (roleOf u t held (bodyOf k)) 0;
+        caseWraps = case-wraps-are asRead k (roleOf u t held (bodyOf k)) 0 s;
       }

@@ -9,9 +9,9 @@ use Rattle.spec_laws.specs.Tags.{Seen, other, here, there, clash}
 use Rattle.meaning.specs.Tree.{if_then_else_, oneOf, Forest, none, more}
 use Rattle.meaning.specs.Statements.{isUsing}
 use Rattle.meaning.specs.ForOf.{bindsIdentifier, boundSymbol}
-use Rattle.tallies.specs.declared.Up.{Up}
-use Rattle.tallies.specs.declared.Up.the-variants.{Plain, Part, Item, Default, Exported, ExportedDeclarator, ExportedName, Held, Body}
-use Rattle.tallies.specs.Tally.{upIndex, isUp, upOf, bodyOf, isBody}
+use Rattle.figures.specs.declared.tally.Role.{Role}
+use Rattle.figures.specs.declared.tally.Role.the-variants.{Plain, Part, Item, Default, Exported, ExportedDeclarator, ExportedName, Held, Body}
+use Rattle.figures.specs.Tally.{roleIndex, isRole, roleOf, bodyOf, isBody}
 
 -- no record of a list has this tag; no record of a forest
 abbrev pub Lacks : ℕ → Forest → Type 0
@@ -31,50 +31,50 @@ Regular (more h k r) =
 
 -- ---- what holds of every role that a record's children can have
 
-if-all : (P : Up → Type 0) (b : Bool) {x y : Up} → (b ≡ true → P x) → P y → P (if b then x else y)
+if-all : (P : Role → Type 0) (b : Bool) {x y : Role} → (b ≡ true → P x) → P y → P (if b then x else y)
 if-all P true p q = p refl
 if-all P false p q = q
 
-pub upOf-all : (P : Up → Type 0) (u : Up) (t : ℕ) (held : Bool) (body : Up) (i : ℕ) → P Plain → P Held
+pub roleOf-all : (P : Role → Type 0) (u : Role) (t : ℕ) (held : Bool) (body : Role) (i : ℕ) → P Plain → P Held
     → (oneOf (11 ∷ 12 ∷ []) t ≡ true → P Part) → (eqb t 1 ≡ true → P Item) → (eqb t 8 ≡ true → P body)
-    → (eqb t 5 ≡ true → isUp u Exported ≡ true → P ExportedDeclarator)
-    → (eqb t 6 ≡ true → isUp u ExportedDeclarator ≡ true → P ExportedName)
-    → (eqb t 18 ≡ true → isUp u Item ≡ true → P Default)
-    → (eqb t 19 ≡ true → isUp u Item ≡ true → P Exported)
-    → P (upOf u t held body i)
-unfolding upOf
-upOf-all P u t held body i plain kept part item inner declarator name default exported =
+    → (eqb t 5 ≡ true → isRole u Exported ≡ true → P ExportedDeclarator)
+    → (eqb t 6 ≡ true → isRole u ExportedDeclarator ≡ true → P ExportedName)
+    → (eqb t 18 ≡ true → isRole u Item ≡ true → P Default)
+    → (eqb t 19 ≡ true → isRole u Item ≡ true → P Exported)
+    → P (roleOf u t held body i)
+unfolding roleOf
+roleOf-all P u t held body i plain kept part item inner declarator name default exported =
     if-all P (eqb t 1) item
-    (if-all P (eqb t 5) (λ e. if-all P (isUp u Exported) (declarator e) (if-all P held (λ _. kept) plain))
-    (if-all P (eqb t 6) (λ e. if-all P (isUp u ExportedDeclarator) (name e) plain)
+    (if-all P (eqb t 5) (λ e. if-all P (isRole u Exported) (declarator e) (if-all P held (λ _. kept) plain))
+    (if-all P (eqb t 6) (λ e. if-all P (isRole u ExportedDeclarator) (name e) plain)
     (if-all P (eqb t 8) (λ e. if-all P (eqb i 2) (λ _. inner e) plain)
     (if-all P (oneOf (11 ∷ 12 ∷ []) t) part
-    (if-all P (eqb t 18) (λ e. if-all P (isUp u Item) (default e) plain)
-    (if-all P (eqb t 19) (λ e. if-all P (isUp u Item) (exported e) plain) plain))))))
+    (if-all P (eqb t 18) (λ e. if-all P (isRole u Item) (default e) plain)
+    (if-all P (eqb t 19) (λ e. if-all P (isRole u Item) (exported e) plain) plain))))))
 
-pub bodyOf-all : (P : Up → Type 0) → P Plain → ((y : ℕ) → P (Body y)) → (k : Forest) → P (bodyOf k)
+pub bodyOf-all : (P : Role → Type 0) → P Plain → ((y : ℕ) → P (Body y)) → (k : Forest) → P (bodyOf k)
 unfolding bodyOf
 bodyOf-all P plain body none = plain
 bodyOf-all P plain body (more h k r) = if-all P (isUsing h && bindsIdentifier k) (λ _. body (boundSymbol k)) plain
 
 -- ---- bodies, and parts
 
-pub no-body : (u : Up) (t : ℕ) (held : Bool) (body : Up) (i : ℕ) → eqb t 8 ≡ false → isBody (upOf u t held body i) ≡ false
-unfolding upIndex
+pub no-body : (u : Role) (t : ℕ) (held : Bool) (body : Role) (i : ℕ) → eqb t 8 ≡ false → isBody (roleOf u t held body i) ≡ false
+unfolding roleIndex
 no-body u t held body i e =
-    upOf-all (λ (x : Up). isBody x ≡ false) u t held body i refl refl (λ _. refl) (λ _. refl) (λ d. absurd (clash e d)) (λ _ _. refl)
+    roleOf-all (λ (x : Role). isBody x ≡ false) u t held body i refl refl (λ _. refl) (λ _. refl) (λ d. absurd (clash e d)) (λ _ _. refl)
     (λ _ _. refl) (λ _ _. refl) (λ _ _. refl)
 
-abbrev NotPart : Up → Type 0
-NotPart x = isUp x Part ≡ false
+abbrev NotPart : Role → Type 0
+NotPart x = isRole x Part ≡ false
 
-pub part-below : (u : Up) (t : ℕ) (held : Bool) (k : Forest) (i : ℕ) → Seen (11 ∷ 12 ∷ []) t
-    → isUp (upOf u t held (bodyOf k) i) Part ≡ oneOf (11 ∷ 12 ∷ []) t
-unfolding upOf upIndex
+pub part-below : (u : Role) (t : ℕ) (held : Bool) (k : Forest) (i : ℕ) → Seen (11 ∷ 12 ∷ []) t
+    → isRole (roleOf u t held (bodyOf k) i) Part ≡ oneOf (11 ∷ 12 ∷ []) t
+unfolding roleOf roleIndex
 part-below u t held k i here = refl
 part-below u t held k i (there e₁₁ here) = refl
 part-below u t held k i (there e₁₁ (there e₁₂ other)) =
     let e : oneOf (11 ∷ 12 ∷ []) t ≡ false = rw (e₁₁, e₁₂) in
-    upOf-all NotPart u t held (bodyOf k) i refl refl (λ d. absurd (clash e d)) (λ _. refl)
+    roleOf-all NotPart u t held (bodyOf k) i refl refl (λ d. absurd (clash e d)) (λ _. refl)
     (λ _. bodyOf-all NotPart refl (λ y. refl) k) (λ _ _. refl) (λ _ _. refl) (λ _ _. refl) (λ _ _. refl)
     ∙ sym e

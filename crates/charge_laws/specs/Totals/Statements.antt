@@ -43,13 +43,13 @@ use Rattle.meaning.specs.Charges.{
   treeLines,
   recordBytes,
 }
-use Rattle.tallies.specs.declared.Tally.{Tally}
-use Rattle.tallies.specs.declared.Up.{Up}
-use Rattle.tallies.specs.declared.Up.the-variants.{Plain, Part, Body}
-use Rattle.tallies.specs.Tally.{
-  upIndex,
-  isUp,
-  upOf,
+use Rattle.figures.specs.declared.tally.Tally.{Tally}
+use Rattle.figures.specs.declared.tally.Role.{Role}
+use Rattle.figures.specs.declared.tally.Role.the-variants.{Plain, Part, Body}
+use Rattle.figures.specs.Tally.{
+  roleIndex,
+  isRole,
+  roleOf,
   bodyOf,
   insertsIn,
   oneIf,
@@ -88,12 +88,12 @@ bodyOwn-figures true false any = omega arith
 
 module _ (asRead : List Symbol) where
   -- of the records beside each other, by their roles
-  pub bodiesIn : (ℕ → Up) → ℕ → Forest → List Line
+  pub bodiesIn : (ℕ → Role) → ℕ → Forest → List Line
   bodiesIn ups i none = []
   bodiesIn ups i (more h k r) =
       bodyOwn (isBody (ups i)) (insertsIn asRead (ups i) h) (anyUsing k) ++ bodiesIn ups (suc i) r
 
-  pub no-bodies : (f : Forest) (ups : ℕ → Up) (i : ℕ) → ((j : ℕ) → i ≤ j → isBody (ups j) ≡ false) → bodiesIn ups i f ≡ []
+  pub no-bodies : (f : Forest) (ups : ℕ → Role) (i : ℕ) → ((j : ℕ) → i ≤ j → isBody (ups j) ≡ false) → bodiesIn ups i f ≡ []
   unfolding bodiesIn bodyOwn
   no-bodies none ups i n = refl
   no-bodies (more h k r) ups i n = rw (n i (omega arith)) (no-bodies r ups (suc i) (λ j l. n j (omega arith)))
@@ -108,38 +108,38 @@ module _ (asRead : List Symbol) where
   third-lines : (b : Bool) (y : ℕ) (h : Head) (any : Bool) (k : Forest) → bodyLines k ≡ (if any then [] else context ofBlock ∷ [])
       → bodyOwn (isBody (if b then Body y else Plain)) (insertsIn asRead (if b then Body y else Plain) h) any
       ≡ forOfLines (actIf b (if eqb (h .tag) 2 && not (bindsName asRead (h .a) y) then forOfInsert else forOfWrap)) k
-  unfolding upIndex insertsIn bodyOwn forOfLines
+  unfolding roleIndex insertsIn bodyOwn forOfLines
   third-lines true y h any k e = body-lines (eqb (h .tag) 2 && not (bindsName asRead (h .a) y)) any k e
   third-lines false y h any k e = refl
 
-  for-of-lines : (u : Up) (held : Bool) (k : Forest) → bodiesIn (upOf u 8 held (bodyOf k)) 0 k ≡ forOfLines (forOfAct asRead k) k
-  unfolding bodiesIn bodyOwn upOf upIndex bodyOf forOfAct forOfLines bodyLines
+  for-of-lines : (u : Role) (held : Bool) (k : Forest) → bodiesIn (roleOf u 8 held (bodyOf k)) 0 k ≡ forOfLines (forOfAct asRead k) k
+  unfolding bodiesIn bodyOwn roleOf roleIndex bodyOf forOfAct forOfLines bodyLines
   for-of-lines u held none = refl
   for-of-lines u held (more h₁ k₁ none) = refl
   for-of-lines u held (more h₁ k₁ (more h₂ k₂ none)) = refl
   for-of-lines u held (more h₁ k₁ (more h₂ k₂ (more h₃ k₃ r))) =
       let b = isUsing h₁ && bindsIdentifier k₁ in
-      let body : Up = if b then Body (boundSymbol k₁) else Plain in
-      rw (no-bodies r (upOf u 8 held body) 3 (λ j l. rw (ne-eqb j 2 (λ e. omega arith))), append-nil)
+      let body : Role = if b then Body (boundSymbol k₁) else Plain in
+      rw (no-bodies r (roleOf u 8 held body) 3 (λ j l. rw (ne-eqb j 2 (λ e. omega arith))), append-nil)
       (third-lines b (boundSymbol k₁) h₃ (anyUsing k₃) (more h₁ k₁ (more h₂ k₂ (more h₃ k₃ r))) refl)
 
   -- below any record
-  below-lines : (b : Bool) (u : Up) (t : ℕ) (held : Bool) (k : Forest) → eqb t 8 ≡ b
-      → bodiesIn (upOf u t held (bodyOf k)) 0 k ≡ (if b then forOfLines (forOfAct asRead k) k else [])
+  below-lines : (b : Bool) (u : Role) (t : ℕ) (held : Bool) (k : Forest) → eqb t 8 ≡ b
+      → bodiesIn (roleOf u t held (bodyOf k)) 0 k ≡ (if b then forOfLines (forOfAct asRead k) k else [])
   below-lines true u t held k e = rw (eqb-true t 8 e) (for-of-lines u held k)
-  below-lines false u t held k e = no-bodies k (upOf u t held (bodyOf k)) 0 (λ j l. no-body u t held (bodyOf k) j e)
+  below-lines false u t held k e = no-bodies k (roleOf u t held (bodyOf k)) 0 (λ j l. no-body u t held (bodyOf k) j e)
 
 -- ---- a record's own lines
 
 -- what `own` adds for a list with a using or Cases with one, and for a body
-abbrev listFigures : Up → ℕ → Tally → Figures
+abbrev listFigures : Role → ℕ → Tally → Figures
 listFigures u t kids =
     let takes = takesUp t (kids .usings) in
     let cases = takesUpCases t (kids .«case_usings») in
     contextFigures (oneIf (takes && isBlock u t)) (oneIf (takes && not (isBlock u t)) + oneIf cases)
     ((if takes then kids .wraps else 0) + (if cases then kids .«case_wraps» else 0)) (oneIf (takes && eqb t 1))
 
-abbrev bodyFigures : Up → Bool → Tally → Figures
+abbrev bodyFigures : Role → Bool → Tally → Figures
 bodyFigures u inserts kids =
     contextFigures (oneIf (getsContext u inserts (kids .usings))) 0 (oneIf (isBody u)) 0
     ⊕ forOfFigures (oneIf (isBody u && inserts)) (oneIf (isBody u && not inserts))
@@ -178,7 +178,7 @@ unfolding total lineCharge contextCharge
 switch-lines true w = omega arith
 switch-lines false w = omega arith
 
-module _ (asRead : List Symbol) (u : Up) (up a b c : ℕ) (k : Forest) (kids : Tally) (p : isUp u Part ≡ oneOf (11 ∷ 12 ∷ []) up) where
+module _ (asRead : List Symbol) (u : Role) (up a b c : ℕ) (k : Forest) (kids : Tally) (p : isRole u Part ≡ oneOf (11 ∷ 12 ∷ []) up) where
   own-lines : {t : ℕ} → Seen (1 ∷ 2 ∷ 7 ∷ 8 ∷ 9 ∷ 14 ∷ 16 ∷ []) t → Lists t k kids
       → Same (listFigures u t kids ⊕ (total (programOwn t k) ⊕ total (if eqb t 8 then forOfLines (forOfAct asRead k) k else [])))
       (total (ownLines asRead up (hd t a b c) k))
@@ -201,20 +201,20 @@ module _ (asRead : List Symbol) (u : Up) (up a b c : ℕ) (k : Forest) (kids : T
 
 -- ---- forests
 
-own-statements : (u : Up) (inserts : Bool) (h : Head) (n : ℕ) (kids : Tally)
+own-statements : (u : Role) (inserts : Bool) (h : Head) (n : ℕ) (kids : Tally)
     → Same (statementFigures (own u inserts h n kids))
     (statementFigures kids ⊕ figures 1 0 0 0 (fieldBytes (h .tag)) ⊕ listFigures u (h .tag) kids ⊕ bodyFigures u inserts kids)
 unfolding own
 own-statements u inserts h n kids = omega arith
 
-body-figures : (u : Up) (inserts : Bool) (k : Forest) (kids : Tally) → eqb (kids .usings) 0 ≡ not (anyUsing k)
+body-figures : (u : Role) (inserts : Bool) (k : Forest) (kids : Tally) → eqb (kids .usings) 0 ≡ not (anyUsing k)
     → Same (bodyFigures u inserts kids) (total (bodyOwn (isBody u) inserts (anyUsing k)))
 unfolding getsContext
 body-figures u inserts k kids e = rw e (bodyOwn-figures (isBody u) inserts (anyUsing k))
 
 module _ (asRead : List Symbol) where
   -- a record with what stands below it
-  record-figures : (u : Up) (up : ℕ) (h : Head) (k : Forest) (kids : Tally) (bodies : List Line) → isUp u Part ≡ oneOf (11 ∷ 12 ∷ []) up
+  record-figures : (u : Role) (up : ℕ) (h : Head) (k : Forest) (kids : Tally) (bodies : List Line) → isRole u Part ≡ oneOf (11 ∷ 12 ∷ []) up
       → Lists (h .tag) k kids → bodies ≡ (if eqb (h .tag) 8 then forOfLines (forOfAct asRead k) k else [])
       → Same (statementFigures kids ⊕ total (programLines k)) (figures (size k) 0 0 0 (recordBytes k) ⊕ (total (treeLines asRead (h .tag) k) ⊕ total bodies))
       → Same (statementFigures (own u (insertsIn asRead u h) h (count k) kids) ⊕ (total (programOwn (h .tag) k) ⊕ total (programLines k)))
@@ -229,7 +229,7 @@ module _ (asRead : List Symbol) where
       )
 
   -- The tally's figures but items, with the lines of items, are those of the records, of their lines, and of what their roles bring.
-  pub statements-are : (f : Forest) (ups : ℕ → Up) (i up : ℕ) → Regular f → ((j : ℕ) → isUp (ups j) Part ≡ oneOf (11 ∷ 12 ∷ []) up)
+  pub statements-are : (f : Forest) (ups : ℕ → Role) (i up : ℕ) → Regular f → ((j : ℕ) → isRole (ups j) Part ≡ oneOf (11 ∷ 12 ∷ []) up)
       → Same (statementFigures (tallyOf asRead ups i f) ⊕ total (programLines f))
       (figures (size f) 0 0 0 (recordBytes f) ⊕ (total (treeLines asRead up f) ⊕ total (bodiesIn asRead ups i f)))
   unfolding tallyOf programLines size recordBytes treeLines bodiesIn total
@@ -237,7 +237,7 @@ module _ (asRead : List Symbol) where
   statements-are (more h k r) ups i up s p =
       let u = ups i in
       let t = h .tag in
-      let below = upOf u t (isUsing h) (bodyOf k) in
+      let below = roleOf u t (isUsing h) (bodyOf k) in
       omega (
         arith,
         record-figures u up h k (tallyOf asRead below 0 k) (bodiesIn asRead below 0 k) (p i) (lists asRead u t (isUsing h) k (s .2))

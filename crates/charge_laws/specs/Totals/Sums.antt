@@ -9,8 +9,8 @@ use lib.Dec.{eqb}
 use Rattle.meaning.specs.Tree.{if_then_else_, Forest, none, more}
 use Rattle.meaning.specs.Statements.{anyUsing}
 use Rattle.meaning.specs.Charges.{Line, Figures, figures, _⊕_, total, itemLines}
-use Rattle.tallies.specs.declared.Tally.{Tally}
-use Rattle.tallies.specs.Tally.{tallyFigures}
+use Rattle.figures.specs.declared.tally.Tally.{Tally}
+use Rattle.figures.specs.Tally.{tallyFigures}
 use Rattle.spec_laws.specs.Figures.{Same, total-++}
 
 pub total-three : (xs ys zs : List Line) → Same (total (xs ++ (ys ++ zs))) (total xs ⊕ total ys ⊕ total zs)

@@ -8,9 +8,9 @@ use lib.ListN.{length}
 use Rattle.meaning.specs.Tree.{Forest, size}
 use Rattle.meaning.specs.File.{Symbol, File}
 use Rattle.meaning.specs.Charges.{Figures, figures, _⊕_, total, treeLines, recordBytes, figuresIn, helperLines, finalFigures}
-use Rattle.tallies.specs.declared.Tally.{Tally}
-use Rattle.tallies.specs.declared.Up.the-variants.{Plain}
-use Rattle.tallies.specs.Tally.{upIndex, tallyOf, tallyFigures}
+use Rattle.figures.specs.declared.tally.Tally.{Tally}
+use Rattle.figures.specs.declared.tally.Role.the-variants.{Plain}
+use Rattle.figures.specs.Tally.{roleIndex, tallyOf, tallyFigures}
 use Rattle.charge_laws.specs.Totals.Roles.{Regular}
 use Rattle.spec_laws.specs.Figures.{Same, figures-same}
 use Rattle.charge_laws.specs.Totals.Sums.{tally-figures}
@@ -20,7 +20,7 @@ use Rattle.charge_laws.specs.Totals.Items.{plain, items-are}
 -- a tree's figures are those of its records and their lines
 tree-figures : (asRead : List Symbol) (f : Forest) → Regular f
     → Same (tallyFigures (tallyOf asRead (λ _. Plain) 0 f)) (figures (size f) 0 0 0 (recordBytes f) ⊕ total (treeLines asRead 0 f))
-unfolding upIndex total
+unfolding roleIndex total
 tree-figures asRead f s =
     let t : Tally = tallyOf asRead (λ _. Plain) 0 f in
     omega (

@@ -33,11 +33,11 @@ use Rattle.rules.proofs.children_of.Reads as children-of-reads
 use Rattle.rules.proofs.place_of.Reads as place-of-reads
 use Rattle.rules.proofs.scope_in.Reads as scope-in-reads
 use Rattle.rules.proofs.scope_below.Reads as scope-below-reads
-use Rattle.tallies.proofs.add_leaf.Reads as add-leaf-reads
-use Rattle.tallies.proofs.add_record.Reads as add-record-reads
-use Rattle.tallies.proofs.inserts.Reads as inserts-reads
-use Rattle.tallies.proofs.no_tally.Reads as no-tally-reads
-use Rattle.tallies.proofs.up_in.Reads as up-in-reads
+use Rattle.figures.proofs.tally.add_leaf.Reads as add-leaf-reads
+use Rattle.figures.proofs.tally.add_record.Reads as add-record-reads
+use Rattle.figures.proofs.tally.inserts.Reads as inserts-reads
+use Rattle.figures.proofs.tally.no_tally.Reads as no-tally-reads
+use Rattle.figures.proofs.tally.role_in.Reads as role-in-reads
 use Rattle.checking.proofs.+check_child+check_children+check_entered+check_expression+check_statement.{statement}
 use Rattle.checking.proofs.+check_child+check_children+check_entered+check_expression+check_statement.Tie.{close}
 
@@ -110,8 +110,8 @@ check-children-calls t = (
   no-tally-reads.Learnt,
   place-of-reads.Asked,
   place-of-reads.Learnt,
-  up-in-reads.Asked,
-  up-in-reads.Learnt,
+  role-in-reads.Asked,
+  role-in-reads.Learnt,
   check-child-below t,
   check-child.Post,
 )
@@ -202,12 +202,12 @@ check-children-returns : (t : ℕ)
     check-children-Inv-loop check-children-μ-loop
 check-children-returns t c =
     let at-check-child = c .before .before .before .before in
-    let at-up-in = at-check-child .before in
-    let at-place-of = at-up-in .before .before in
+    let at-role-in = at-check-child .before in
+    let at-place-of = at-role-in .before .before in
     let at-loop-test = at-place-of .before in
     let at-loop = at-loop-test .before in
     list-stop _ _ _ _ _ _ _ (at-loop .loop .inv .2) _ _ _ _ (at-loop-test .loop-test .taken)
-    (rw (← at-place-of .place-of .ensures, ← at-up-in .up-in .ensures) (at-check-child .check-child .ensures))
+    (rw (← at-place-of .place-of .ensures, ← at-role-in .role-in .ensures) (at-check-child .check-child .ensures))
     (c .enum-told .given .1)
 
 check-children-loop-again : (t : ℕ)
@@ -216,14 +216,14 @@ check-children-loop-again : (t : ℕ)
 check-children-loop-again t c =
     let at-a = c .before in
     let at-check-child = at-a .before .before .before .before in
-    let at-up-in = at-check-child .before in
-    let at-place-of = at-up-in .before .before in
+    let at-role-in = at-check-child .before in
+    let at-place-of = at-role-in .before .before in
     let at-loop-test = at-place-of .before in
     let at-loop = at-loop-test .before in (
       search needs,
       at-check-child .check-child .kept .1 .0 ∙ at-loop .loop .inv .1,
       list-step _ _ _ _ _ _ _ (at-loop .loop .inv .2) _ _ _ _ (at-loop-test .loop-test .taken)
-          (rw (← at-place-of .place-of .ensures, ← at-up-in .up-in .ensures) (at-check-child .check-child .ensures))
+          (rw (← at-place-of .place-of .ensures, ← at-role-in .role-in .ensures) (at-check-child .check-child .ensures))
           (at-a .a .given .1),
     )
 

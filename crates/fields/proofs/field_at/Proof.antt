@@ -30,13 +30,13 @@ unfolding fieldAt
 returns-3 c =
     let at-if3 = c in
     let at-is-allowed = at-if3 .before in
-    let at-byte = at-is-allowed .before in
-    let start = at-byte .before .before .before .before in
+    let at-tag-at = at-is-allowed .before in
+    let start = at-tag-at .before .before .before .before in
     let file = start .args .file .now in
     let at = start .args .at in
     rw (
       le-ltb (length file) (at + 3) (omega arith),
-      ← at-byte .byte .ensures,
+      ← at-tag-at .tag-at .ensures,
       ← at-is-allowed .is-allowed .ensures,
       at-if3 .if3 .taken,
     )
@@ -49,13 +49,13 @@ returns-4 c =
     let at-numbers-of = at-read-two .before in
     let at-if3 = at-numbers-of .before in
     let at-is-allowed = at-if3 .before in
-    let at-byte = at-is-allowed .before in
-    let start = at-byte .before .before .before .before in
+    let at-tag-at = at-is-allowed .before in
+    let start = at-tag-at .before .before .before .before in
     let file = start .args .file .now in
     let at = start .args .at in
     rw (
       le-ltb (length file) (at + 3) (omega arith),
-      ← at-byte .byte .ensures,
+      ← at-tag-at .tag-at .ensures,
       ← at-is-allowed .is-allowed .ensures,
       at-if3 .if3 .left,
       ← at-numbers-of .numbers-of .ensures,
@@ -71,13 +71,13 @@ returns-5 c =
     let at-numbers-of = at-read-two .before in
     let at-if3 = at-numbers-of .before in
     let at-is-allowed = at-if3 .before in
-    let at-byte = at-is-allowed .before in
-    let start = at-byte .before .before .before .before in
+    let at-tag-at = at-is-allowed .before in
+    let start = at-tag-at .before .before .before .before in
     let file = start .args .file .now in
     let at = start .args .at in
     rw (
       le-ltb (length file) (at + 3) (omega arith),
-      ← at-byte .byte .ensures,
+      ← at-tag-at .tag-at .ensures,
       ← at-is-allowed .is-allowed .ensures,
       at-if3 .if3 .left,
       ← at-numbers-of .numbers-of .ensures,
@@ -97,13 +97,13 @@ returns-6 c =
     let at-numbers-of = at-read-two .before in
     let at-if3 = at-numbers-of .before in
     let at-is-allowed = at-if3 .before in
-    let at-byte = at-is-allowed .before in
-    let start = at-byte .before .before .before .before in
+    let at-tag-at = at-is-allowed .before in
+    let start = at-tag-at .before .before .before .before in
     let file = start .args .file .now in
     let at = start .args .at in
     rw (
       le-ltb (length file) (at + 3) (omega arith),
-      ← at-byte .byte .ensures,
+      ← at-tag-at .tag-at .ensures,
       ← at-is-allowed .is-allowed .ensures,
       at-if3 .if3 .left,
       ← at-numbers-of .numbers-of .ensures,

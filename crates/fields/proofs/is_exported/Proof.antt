@@ -1,11 +1,11 @@
 -- `fields::is_exported` meets its contract. Assumes nothing.
-use mathlib.Core.Path.{refl}
+use mathlib.Core.Path.{refl, sym}
 use mathlib.Core.Bool.{true, false}
 use mathlib.Core.List.{List, [], _∷_}
 use Prim.Native.Nat.{ℕ}
 use native.Mathlib.Omega.{arith}
 use Rattle.meaning.specs.Tree.{oneOf}
-use Rattle.fields.proofs.Laws.{at-keys, in-range}
+use Rattle.fields.proofs.Laws.{at-keys, above, from-on}
 use Rattle.fields.proofs.is_exported.Statement.{statement}
 use Rattle.fields.proofs.is_exported.Tie as tie
 
@@ -17,7 +17,7 @@ returns c = at-keys (λ _. true) (oneOf items) items _ refl (c .match .keys1)
 
 returns-2 : tie.Need-returns-2
 returns-2 c =
-    in-range (λ _. false) (oneOf items) (items ∷ []) 0 256 _ refl (c .match .rest) (omega arith) (omega arith)
+    from-on (λ _. false) (oneOf items) (items ∷ []) 0 16 _ refl (λ h. sym (above items 16 _ refl h)) (c .match .rest) (omega arith)
 
 pub is-exported-spec : {M : Type 1} → statement M
 is-exported-spec = tie.close (tie.spec returns returns-2)

@@ -1,5 +1,5 @@
 -- `fields::is_plain_item` meets its contract. Assumes nothing.
-use mathlib.Core.Path.{refl, _∙_}
+use mathlib.Core.Path.{refl, sym, _∙_}
 use mathlib.Core.Logic.{⊎-elim}
 use mathlib.Core.Bool.{true}
 use mathlib.Core.List.{List, [], _++_}
@@ -8,7 +8,7 @@ use native.Mathlib.Omega.{arith}
 use borrow.Author.Needs.{needs}
 use Rattle.meaning.specs.Tree.{oneOf}
 use Rattle.meaning.specs.Grammar.{statements, expressions}
-use Rattle.fields.proofs.Laws.{in-range}
+use Rattle.fields.proofs.Laws.{in-range, above, from-on}
 use Rattle.fields.proofs.is_plain_item.Statement.{statement}
 use Rattle.fields.proofs.is_plain_item.Tie as tie
 
@@ -31,7 +31,7 @@ returns-3 c =
     (λ w. in-range (oneOf statements) (oneOf items) [] 0 24 tag refl tt (omega arith) (omega arith))
     (⊎-elim
     (λ w. in-range (oneOf statements) (oneOf items) [] 26 1 tag refl tt (omega arith) (omega arith))
-    (λ w. in-range (oneOf statements) (oneOf items) [] 29 227 tag refl tt (omega arith) (omega arith)))
+    (λ w. from-on (oneOf statements) (oneOf items) [] 29 1 tag refl (λ h. above statements 30 tag refl h ∙ sym (above items 30 tag refl h)) tt (omega arith)))
     (c .before .if1 .came)
 
 pub is-plain-item-spec : {M : Type 1} → statement M

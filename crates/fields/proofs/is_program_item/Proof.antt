@@ -1,5 +1,5 @@
 -- `fields::is_program_item` meets its contract. Assumes nothing.
-use mathlib.Core.Path.{refl, _∙_}
+use mathlib.Core.Path.{refl, sym, _∙_}
 use mathlib.Core.Logic.{⊎-elim}
 use mathlib.Core.Bool.{true}
 use mathlib.Core.List.{List, [], _∷_}
@@ -8,7 +8,7 @@ use native.Mathlib.Omega.{arith}
 use borrow.Author.Needs.{needs}
 use Rattle.meaning.specs.Tree.{oneOf}
 use Rattle.meaning.specs.Grammar.{statements}
-use Rattle.fields.proofs.Laws.{in-range}
+use Rattle.fields.proofs.Laws.{in-range, above, from-on}
 use Rattle.fields.proofs.is_program_item.Statement.{statement}
 use Rattle.fields.proofs.is_program_item.Tie as tie
 
@@ -21,7 +21,7 @@ returns c =
     c .is-statement .ensures
     ∙ ⊎-elim
     (λ w. in-range (oneOf statements) (oneOf items) ((5 ∷ []) ∷ []) 0 17 _ refl rest (omega arith) (omega arith))
-    (λ w. in-range (oneOf statements) (oneOf items) ((5 ∷ []) ∷ []) 20 236 _ refl rest (omega arith) (omega arith))
+    (λ w. from-on (oneOf statements) (oneOf items) ((5 ∷ []) ∷ []) 20 10 _ refl (λ h. above statements 30 _ refl h ∙ sym (above items 30 _ refl h)) rest (omega arith))
     (c .before .if1 .came)
 
 returns-2 : tie.Need-returns-2

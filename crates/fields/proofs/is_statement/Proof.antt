@@ -1,12 +1,12 @@
 -- `fields::is_statement` meets its contract. Assumes nothing.
-use mathlib.Core.Path.{refl}
+use mathlib.Core.Path.{refl, sym}
 use mathlib.Core.Bool.{true, false}
 use mathlib.Core.List.{List, [], _∷_}
 use Prim.Native.Nat.{ℕ}
 use native.Mathlib.Omega.{arith}
 use Rattle.meaning.specs.Tree.{oneOf}
 use Rattle.meaning.specs.Grammar.{statements}
-use Rattle.fields.proofs.Laws.{at-keys, in-range}
+use Rattle.fields.proofs.Laws.{at-keys, in-range, above, from-on}
 use Rattle.fields.proofs.is_statement.Statement.{statement}
 use Rattle.fields.proofs.is_statement.Tie as tie
 
@@ -24,7 +24,7 @@ returns-2 c =
 
 returns-3 : tie.Need-returns-3
 returns-3 c =
-    in-range (λ _. false) (oneOf statements) arms 10 246 _ refl (c .before .before .before .before .match .rest) (omega arith) (omega arith)
+    from-on (λ _. false) (oneOf statements) arms 10 20 _ refl (λ h. sym (above statements 30 _ refl h)) (c .before .before .before .before .match .rest) (omega arith)
 
 returns-4 : tie.Need-returns-4
 returns-4 c = at-keys (λ _. true) (oneOf statements) (11 ∷ 13 ∷ 15 ∷ 29 ∷ []) _ refl (c .match .keys1)

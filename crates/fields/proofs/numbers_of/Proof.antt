@@ -1,10 +1,10 @@
 -- `fields::numbers_of` meets its contract. Assumes nothing.
-use mathlib.Core.Path.{refl}
+use mathlib.Core.Path.{_≡_, refl}
 use mathlib.Core.List.{List, [], _∷_}
-use Prim.Native.Nat.{ℕ}
+use Prim.Native.Nat.{ℕ, _≤_}
 use native.Mathlib.Omega.{arith}
 use Rattle.meaning.specs.File.{numbersOf}
-use Rattle.fields.proofs.Laws.{at-keys, in-range}
+use Rattle.fields.proofs.Laws.{at-keys, above, from-on}
 use Rattle.fields.proofs.numbers_of.Statement.{statement}
 use Rattle.fields.proofs.numbers_of.Tie as tie
 
@@ -13,6 +13,17 @@ abbrev arms : List (List ℕ)
 arms =
     (13 ∷ []) ∷ (12 ∷ 15 ∷ 42 ∷ []) ∷ (3 ∷ 6 ∷ 8 ∷ 17 ∷ 27 ∷ 29 ∷ []) ∷ (2 ∷ 5 ∷ 10 ∷ 41 ∷ [])
     ∷ (1 ∷ 4 ∷ 7 ∷ 9 ∷ 11 ∷ 16 ∷ 20 ∷ 24 ∷ 28 ∷ 40 ∷ []) ∷ (19 ∷ 26 ∷ []) ∷ (14 ∷ 18 ∷ 25 ∷ []) ∷ []
+
+-- no tag is above 42
+none-behind : (t : ℕ) → 43 ≤ t → 0 ≡ numbersOf t
+unfolding numbersOf
+none-behind t h =
+    rw (
+      above (14 ∷ 18 ∷ 19 ∷ 25 ∷ 26 ∷ []) 43 t refl h,
+      above (1 ∷ 2 ∷ 4 ∷ 5 ∷ 7 ∷ 9 ∷ 10 ∷ 11 ∷ 16 ∷ 20 ∷ 24 ∷ 28 ∷ 40 ∷ 41 ∷ []) 43 t refl h,
+      above (3 ∷ 6 ∷ 8 ∷ 17 ∷ 27 ∷ 29 ∷ []) 43 t refl h,
+      above (12 ∷ 13 ∷ 15 ∷ 42 ∷ []) 43 t refl h,
+    )
 
 returns : tie.Need-returns
 unfolding numbersOf
@@ -44,7 +55,7 @@ returns-7 c = at-keys (λ _. 4) numbersOf (13 ∷ []) _ refl (c .match .keys7)
 
 returns-8 : tie.Need-returns-8
 unfolding numbersOf
-returns-8 c = in-range (λ _. 0) numbersOf arms 0 256 _ refl (c .match .rest) (omega arith) (omega arith)
+returns-8 c = from-on (λ _. 0) numbersOf arms 0 43 _ refl (none-behind _) (c .match .rest) (omega arith)
 
 pub numbers-of-spec : {M : Type 1} → statement M
 numbers-of-spec =

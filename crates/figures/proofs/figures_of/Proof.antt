@@ -1,6 +1,6 @@
 -- `figures::figures_of` meets its contract. Assumes nothing.
 use borrow.Author.Needs.{needs}
-use Rattle.tallies.specs.Tally.{tallyFigures}
+use Rattle.figures.specs.Tally.{tallyFigures}
 use Rattle.figures.specs.Figures.{figuredF}
 use Rattle.figures.proofs.figures_of.Statement.{statement}
 use Rattle.figures.proofs.figures_of.Tie as tie

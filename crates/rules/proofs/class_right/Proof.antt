@@ -49,8 +49,8 @@ returns-5 c =
     let at-form-fits = at-if1 .before in
     rw (← at-form-fits .form-fits .ensures, not-false (at-form-fits .form-fits .result) (at-if1 .if1 .left), le-leb _ _ (at-if2 .if2 .left), le-leb _ _ (at-if3 .if3 .left), ne-eqb _ _ (at-if4 .if4 .left), le-leb _ _ (c .if5 .taken))
 
-index-of-requires : tie.Need-index-of-requires
-index-of-requires c κs = search needs
+is-place-requires : tie.Need-is-place-requires
+is-place-requires c κs = search needs
 
 returns-6 : tie.Need-returns-6
 unfolding classRight index
@@ -61,7 +61,7 @@ returns-6 c =
     let at-if2 = at-if3 .before .before in
     let at-if1 = at-if2 .before .before in
     let at-form-fits = at-if1 .before in
-    rw (← at-form-fits .form-fits .ensures, not-false (at-form-fits .form-fits .result) (at-if1 .if1 .left), le-leb _ _ (at-if2 .if2 .left), le-leb _ _ (at-if3 .if3 .left), ne-eqb _ _ (at-if4 .if4 .left), lt-leb _ _ (at-if5 .if5 .left), ← c .index-of .ensures)
+    rw (← at-form-fits .form-fits .ensures, not-false (at-form-fits .form-fits .result) (at-if1 .if1 .left), le-leb _ _ (at-if2 .if2 .left), le-leb _ _ (at-if3 .if3 .left), ne-eqb _ _ (at-if4 .if4 .left), lt-leb _ _ (at-if5 .if5 .left), ← c .is-place .ensures)
 
 pub class-right-spec : {M : Type 1} → statement M
-class-right-spec = tie.close (tie.spec form-fits-requires returns returns-2 cast-if3 returns-3 returns-4 returns-5 index-of-requires returns-6)
+class-right-spec = tie.close (tie.spec form-fits-requires returns returns-2 cast-if3 returns-3 returns-4 returns-5 is-place-requires returns-6)

@@ -21,16 +21,16 @@ returns-2 : tie.Need-returns-2
 unfolding declaratorRight index
 returns-2 c = rw (names (c .before .before), eq-eqb _ _ (c .if3 .taken))
 
-index-of-requires : tie.Need-index-of-requires
-index-of-requires c κs = search needs
+is-place-requires : tie.Need-is-place-requires
+is-place-requires c κs = search needs
 
 returns-3 : tie.Need-returns-3
 unfolding declaratorRight index
 returns-3 c =
-    let at-index-of = c .before in
-    let at-if3 = at-index-of .before in
+    let at-is-place = c .before in
+    let at-if3 = at-is-place .before in
     let at-if1 = at-if3 .before .before in
-    rw (names at-if1, ne-eqb _ _ (at-if3 .if3 .left), ← at-index-of .index-of .ensures, eq-eqb _ _ (c .if4 .taken))
+    rw (names at-if1, ne-eqb _ _ (at-if3 .if3 .left), ← at-is-place .is-place .ensures, c .if4 .taken)
 
 cast-result : tie.Need-cast-result
 cast-result c = search needs
@@ -45,10 +45,10 @@ returns-4 : tie.Need-returns-4
 unfolding declaratorRight index
 returns-4 c =
     let at-if4 = c .before .before in
-    let at-index-of = at-if4 .before in
-    let at-if3 = at-index-of .before in
+    let at-is-place = at-if4 .before in
+    let at-if3 = at-is-place .before in
     let at-if1 = at-if3 .before .before in
-    rw (names at-if1, ne-eqb _ _ (at-if3 .if3 .left), ← at-index-of .index-of .ensures, ne-eqb _ _ (at-if4 .if4 .left))
+    rw (names at-if1, ne-eqb _ _ (at-if3 .if3 .left), ← at-is-place .is-place .ensures, at-if4 .if4 .left)
 
 pub declarator-right-spec : {M : Type 1} → statement M
-declarator-right-spec = tie.close (tie.spec returns returns-2 index-of-requires returns-3 cast-result cast-result-2 add-result returns-4)
+declarator-right-spec = tie.close (tie.spec returns returns-2 is-place-requires returns-3 cast-result cast-result-2 add-result returns-4)

@@ -8,7 +8,7 @@ use Rattle.rules.proofs.is_right.Statement.{statement}
 use Rattle.rules.proofs.is_right.Tie as tie
 
 abbrev keys : List ℕ
-keys = 0 ∷ 29 ∷ 28 ∷ 27 ∷ 26 ∷ 25 ∷ 24 ∷ 20 ∷ 19 ∷ 18 ∷ 17 ∷ 16 ∷ 15 ∷ 14 ∷ 13 ∷ 12 ∷ 11 ∷ 10 ∷ 9 ∷ 8 ∷ 7 ∷ 6 ∷ 5 ∷ 4 ∷ 3 ∷ 2 ∷ 1 ∷ []
+keys = 29 ∷ 28 ∷ 27 ∷ 26 ∷ 25 ∷ 24 ∷ 20 ∷ 19 ∷ 18 ∷ 17 ∷ 16 ∷ 15 ∷ 14 ∷ 13 ∷ 12 ∷ 11 ∷ 10 ∷ 9 ∷ 8 ∷ 7 ∷ 6 ∷ 5 ∷ 4 ∷ 3 ∷ 2 ∷ 1 ∷ []
 
 pub is-right-spec : {M : Type 1} → statement M
 unfolding right declarationRight declaratorRight tryRight functionRight classRight
@@ -57,7 +57,6 @@ is-right-spec =
     (λ c. rw (c .before .match .keys24) (c .call-right .ensures))
     (λ c. rw (c .before .match .keys25) (c .load-right .ensures))
     (λ c. rw (c .before .match .keys26) (c .step-right .ensures))
-    (λ c. rw (c .match .keys27))
     (λ c. let away = other keys _ (c .match .rest) in
     rw (away 1 tt, away 2 tt, away 3 tt, away 4 tt, away 5 tt, away 6 tt, away 7 tt, away 8 tt, away 9 tt, away 10 tt, away 11 tt, away 12 tt, away 13 tt)
     (rw (away 14 tt, away 15 tt, away 16 tt, away 17 tt, away 18 tt, away 19 tt, away 20 tt, away 24 tt, away 25 tt, away 26 tt, away 27 tt, away 28 tt, away 29 tt))))

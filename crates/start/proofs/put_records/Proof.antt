@@ -25,14 +25,14 @@ loop-again : tie.Need-loop-again Inv-loop μ-loop
 loop-again c =
     let at-put-row = c .before .before in
     let at-row-of = at-put-row .before in
-    let at-field-at = at-row-of .before .before in
-    let at-loop-test = at-field-at .before in
+    let at-field-of = at-row-of .before .before in
+    let at-loop-test = at-field-of .before in
     let at-loop = at-loop-test .before in
     let i = at-loop .loop .inv in (
       search needs,
-      next-most _ _ _ _ (ap (λ (x : Field). x .next) (at-field-at .field-at .ensures)) (i .1),
+      next-most _ _ _ _ (ap (λ (x : Field). x .next) (at-field-of .field-of .ensures)) (i .1),
       at-put-row .put-row .kept .0 ∙ i .2,
-      fill-turn _ _ _ _ _ _ _ _ _ (i .3) (at-loop-test .loop-test .taken) (at-field-at .field-at .ensures) (at-row-of .row-of .ensures)
+      fill-turn _ _ _ _ _ _ _ _ _ (i .3) (at-loop-test .loop-test .taken) (at-field-of .field-of .ensures) (at-row-of .row-of .ensures)
           (at-put-row .put-row .ensures),
     )
 

@@ -12,7 +12,7 @@ returns c =
     let at-own-number3 = at-closed-row .before in
     let at-own-number2 = at-own-number3 .before in
     let at-own-number = at-own-number2 .before in
-    let at-children-of = at-own-number .before .before in
+    let at-children-of = at-own-number .before in
     let at-own-numbers = at-children-of .before in
     rw (
       ← at-own-numbers .own-numbers .ensures,
@@ -27,5 +27,5 @@ pub row-of-spec : {M : Type 1} → statement M
 row-of-spec =
     tie.close
     (tie.spec
-    (λ c κs. search needs) (λ c κs. search needs) (λ c. search needs) (λ c κs. search needs) (λ c κs. search needs)
+    (λ c κs. search needs) (λ c κs. search needs) (λ c κs. search needs) (λ c κs. search needs)
     (λ c κs. search needs) (λ c κs. search needs) returns)

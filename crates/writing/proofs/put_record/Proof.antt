@@ -8,17 +8,17 @@ use Rattle.writing.proofs.put_record.Tie as tie
 returns : tie.Need-returns
 unfolding recordBytes
 returns c =
-    let at-numbers-of = c in
-    let at-put-field = at-numbers-of .before .before .before in
+    let at-bytes-of = c in
+    let at-put-field = at-bytes-of .before .before .before in
     let at-own-or3 = at-put-field .before in
     let at-own-or2 = at-own-or3 .before in
     let at-own-or = at-own-or2 .before in
     let at-own-numbers = at-own-or .before .before in
     let at-start = at-own-numbers .before .before .before in
-    (rw (at-put-field .put-field .ensures, at-own-or3 .own-or3 .ensures, at-own-or2 .own-or2 .ensures, at-own-or .own-or .ensures, at-own-numbers .own-numbers .ensures), next-is _ _ (at-start .args .r) (at-numbers-of .numbers-of .ensures))
+    (rw (at-put-field .put-field .ensures, at-own-or3 .own-or3 .ensures, at-own-or2 .own-or2 .ensures, at-own-or .own-or .ensures, at-own-numbers .own-numbers .ensures), next-is _ _ (at-start .args .r) (at-bytes-of .bytes-of .ensures))
 
 pub put-record-spec : {M : Type 1} → statement M
 put-record-spec =
     tie.close
     (tie.spec
-    (λ c. search needs) (λ c κs. search needs) (λ c κs. search needs) (λ c κs. search needs) (λ c κs. search needs) (λ c κs. search needs) (λ c. search needs) (λ c κs. search needs) (λ c. search needs) (λ c. search needs) (λ c. search needs) (λ c. search needs) returns)
+    (λ c κs. search needs) (λ c κs. search needs) (λ c κs. search needs) (λ c κs. search needs) (λ c κs. search needs) (λ c κs. search needs) (λ c. search needs) (λ c. search needs) (λ c. search needs) returns)

@@ -12,7 +12,7 @@ use Rattle.writing.proofs.put_whole.Tie as tie
 put-head-requires : tie.Need-put-head-requires
 put-head-requires c κs =
     let at-numbers-of = c .before in
-    (rw (at-numbers-of .numbers-of .ensures) (numbers-most _), search needs)
+    (search needs, rw (at-numbers-of .numbers-of .ensures) (numbers-most _), search needs)
 
 returns : tie.Need-returns
 returns c =
@@ -43,4 +43,4 @@ pub put-whole-spec : {M : Type 1} → statement M
 put-whole-spec =
     tie.close
     (tie.spec
-    (λ c. search needs) (λ c κs. search needs) (λ c. search needs) (λ c. search needs) (λ c. search needs) (λ c. search needs) put-head-requires (λ c. search needs) (λ c. search needs) returns (λ c κs. search needs) put-numbers-requires (λ c. search needs) (λ c. search needs) returns-2)
+    (λ c κs. search needs) (λ c. search needs) (λ c. search needs) (λ c. search needs) (λ c. search needs) put-head-requires (λ c. search needs) (λ c. search needs) returns (λ c κs. search needs) put-numbers-requires (λ c. search needs) (λ c. search needs) returns-2)

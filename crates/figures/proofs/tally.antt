@@ -1,0 +1,3 @@
+-- Laws of the tallies.
+pub mod Laws
+pub mod Silent

@@ -1,2 +1,0 @@
--- What the code of this crate computes.
-pub mod Tally
