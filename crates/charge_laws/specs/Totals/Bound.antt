@@ -126,11 +126,11 @@ tally-small asRead (more h k r) ups i =
     (tally-small asRead r ups (suc i))
 
 -- The records that are counted are all there are.
-pub tally-records : (asRead : List Symbol) (f : Forest) (ups : ℕ → Up) (i : ℕ) → tallyOf asRead ups i f .records ≡ size f
+pub tally-records : (asRead : List Symbol) (f : Forest) (roles : ℕ → Role) (i : ℕ) → tallyOf asRead roles i f .records ≡ size f
 unfolding tallyOf own size
-tally-records asRead none ups i = refl
-tally-records asRead (more h k r) ups i =
-    omega (arith, tally-records asRead k (upOf (ups i) (h .tag) (isUsing h) (bodyOf k)) 0, tally-records asRead r ups (suc i))
+tally-records asRead none roles i = refl
+tally-records asRead (more h k r) roles i =
+    omega (arith, tally-records asRead k (roleOf (roles i) (h .tag) (isUsing h) (bodyOf k)) 0, tally-records asRead r roles (suc i))
 
 -- ---- no cap
 
