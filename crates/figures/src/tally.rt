@@ -521,6 +521,9 @@ fn charged_tally(role: Role, inserted: bool, x: Field, kids: Tally) -> Tally
     let tag = x.tag;
     let takes = takes_up(tag, kids.usings);
     let body = is_body(role);
+    let is_class = is_tagged(role, Role::Item, x, tag::CLASS);
+    let is_exported = is_tagged(role, Role::Exported, x, tag::DECLARATION);
+    let is_name = is_tagged(role, Role::ExportedName, x, tag::NAME);
     Tally {
         records: plus(kids.records, 1),
         bytes: plus(kids.bytes, fields::bytes_of(tag) as u32),
@@ -530,25 +533,10 @@ fn charged_tally(role: Role, inserted: bool, x: Field, kids: Tally) -> Tally
         for_ofs: plus_if(kids.for_ofs, and(body, inserted), 1),
         for_of_blocks: plus_if(kids.for_of_blocks, and(body, !inserted), 1),
         programs: plus_if(kids.programs, and(takes, tag == tag::PROGRAM), 1),
-        classes: plus_item(
-            tag,
-            kids.usings,
-            kids.classes,
-            is_tagged(role, Role::Item, x, tag::CLASS),
-        ),
+        classes: plus_item(tag, kids.usings, kids.classes, is_class),
         exports: plus_item(tag, kids.usings, kids.exports, is_export(role, x)),
-        declarations: plus_item(
-            tag,
-            kids.usings,
-            kids.declarations,
-            is_tagged(role, Role::Exported, x, tag::DECLARATION),
-        ),
-        names: plus_item(
-            tag,
-            kids.usings,
-            kids.names,
-            is_tagged(role, Role::ExportedName, x, tag::NAME),
-        ),
+        declarations: plus_item(tag, kids.usings, kids.declarations, is_exported),
+        names: plus_item(tag, kids.usings, kids.names, is_name),
         usings: number_if(is_using(x), 1),
         wraps: wraps_of(role, x, kids),
         case_usings: number_if(tag == tag::CASE, kids.usings),
