@@ -1,17 +1,17 @@
--- `lower_speed::lowerings` meets its contract. Assumes nothing.
+-- `bench::lowerings` meets its contract. Assumes nothing.
 use Prim.Native.Nat.{_≤_, _-_}
 use mathlib.Core.Path.{_≡_}
 use lib.ListN.{length}
 use borrow.Author.Needs.{needs}
-use Rattle.lower_speed.proofs.lowerings.Statement.{statement}
-use Rattle.lower_speed.proofs.lowerings.Tie as tie
+use Rattle.bench.proofs.lowerings.Statement.{statement}
+use Rattle.bench.proofs.lowerings.Tie as tie
 
 abbrev Inv-loop : tie.InvT-loop
-Inv-loop file records₀ scopes₀ symbols₀ out₀ made₀ k₀ records scopes symbols out made k =
+Inv-loop file records₀ scopes₀ symbols₀ out₀ bytes₀ k₀ records scopes symbols out bytes k =
     (k ≤ 100) × (length records ≡ length records₀) × (length scopes ≡ length scopes₀) × (length symbols ≡ length symbols₀) × (length out ≡ length out₀)
 
 abbrev μ-loop : tie.MeasureT-loop
-μ-loop file records₀ scopes₀ symbols₀ out₀ made₀ k₀ records scopes symbols out made k =
+μ-loop file records₀ scopes₀ symbols₀ out₀ bytes₀ k₀ records scopes symbols out bytes k =
     100 - k
 
 pub lowerings-spec : {M : Type 1} → statement M

@@ -1,8 +1,8 @@
--- `check_speed::checks` meets its contract. Assumes nothing.
+-- `bench::checks` meets its contract. Assumes nothing.
 use Prim.Native.Nat.{_≤_, _-_}
 use borrow.Author.Needs.{needs}
-use Rattle.check_speed.proofs.checks.Statement.{statement}
-use Rattle.check_speed.proofs.checks.Tie as tie
+use Rattle.bench.proofs.checks.Statement.{statement}
+use Rattle.bench.proofs.checks.Tie as tie
 
 abbrev Inv-loop : tie.InvT-loop
 Inv-loop file fine₀ k₀ fine k = k ≤ 100

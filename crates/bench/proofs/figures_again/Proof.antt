@@ -1,8 +1,8 @@
--- `check_speed::figures_again` meets its contract. Assumes nothing.
+-- `bench::figures_again` meets its contract. Assumes nothing.
 use Prim.Native.Nat.{_≤_, _-_}
 use borrow.Author.Needs.{needs}
-use Rattle.check_speed.proofs.figures_again.Statement.{statement}
-use Rattle.check_speed.proofs.figures_again.Tie as tie
+use Rattle.bench.proofs.figures_again.Statement.{statement}
+use Rattle.bench.proofs.figures_again.Tie as tie
 
 abbrev Inv-loop : tie.InvT-loop
 Inv-loop file records₀ k₀ records k = k ≤ 100
