@@ -19,7 +19,7 @@ use Rattle.meaning.specs.Statements.{
   letterIf,
   wrapInitializer,
   wrapInitializers,
-  asConst,
+  asTakenUp,
   takeUp,
   makeContext,
   Transformed,
@@ -103,8 +103,8 @@ module _ {B : ℕ} (big : 32 ≤ B) where
     initializers-within letter ctx r l c (w .2),
   )
 
-  const-within : (h : Head) → HeadWithin B (asConst h)
-  unfolding asConst
+  const-within : (h : Head) → HeadWithin B (asTakenUp h)
+  unfolding asTakenUp
   const-within h = (omega arith, either (UpTo B) (eqb (h .b) 0) (omega arith) (omega arith), omega arith, omega arith)
 
   list-within : (running : Bool) (ctx : ℕ) (needsAwait : Bool) (f : Forest) → ctx ≤ B → TreeWithin B f

@@ -16,7 +16,7 @@ use Rattle.meaning.specs.Statements.{
   letterIf,
   wrapInitializer,
   wrapInitializers,
-  asConst,
+  asTakenUp,
   takeUp,
 }
 use Rattle.meaning.specs.Contexts.{forList, takeUpFor, anyCaseUsing, takeUpCases}
@@ -220,16 +220,16 @@ initializers-wrapped K (more h k r) letter ctx =
       initializers-wrapped K r letter ctx,
     )
 
-as-const : (h : Head) → isUsing (asConst h) ≡ false
-unfolding isUsing asConst
+as-const : (h : Head) → isUsing (asTakenUp h) ≡ false
+unfolding isUsing asTakenUp
 as-const h = go (eqb (h .b) 0)
   where
     go : (b : Bool) → (oneOf (3 ∷ 4 ∷ []) (if b then 2 else 0) || false) ≡ false
     go true = refl
     go false = refl
 
-const-tag : (h : Head) → asConst h .tag ≡ 5
-unfolding asConst
+const-tag : (h : Head) → asTakenUp h .tag ≡ 5
+unfolding asTakenUp
 const-tag h = refl
 
 using-taken : (K : Kind) (b any : Bool) (h h′ : Head) (k r r′ : Forest) (letter ctx : ℕ) → isUsing h ≡ b → isUsing h′ ≡ false → h′ .tag ≡ 5
@@ -247,7 +247,7 @@ unfolding takeUp anyUsing weigh
 list-taken K none running ctx needsAwait = omega arith
 list-taken K (more h k r) running ctx needsAwait =
     let awaits = needsAwait || isAwaitUsing h in
-    using-taken K (isUsing h) (anyUsing r) h (asConst h) k r (takeUp running ctx (running && awaits) r) (letterIf awaits) ctx refl
+    using-taken K (isUsing h) (anyUsing r) h (asTakenUp h) k r (takeUp running ctx (running && awaits) r) (letterIf awaits) ctx refl
     (as-const h) (const-tag h) (list-taken K r running ctx (running && awaits))
 
 -- a For below its Labels

@@ -13,7 +13,7 @@ use Rattle.meaning.specs.File.{File, written}
 use Rattle.meaning.specs.Reading.{Outcome, accepted, refused, _>>=_, _>>_, ensure}
 use Rattle.meaning.specs.Walk.{Spot, at, leaving, over, isOver, visits, start, treeAt, fileAt}
 use Rattle.meaning.specs.Charges.{Figures, figuresAt, finalFigures}
-use Rattle.meaning.specs.Lowering.{Lent, checkOutput, admit, lastSpot, lower}
+use Rattle.meaning.specs.Lowering.{Lent, checkOutput, admit, admitOutput, lastSpot, Written, lower}
 use Rattle.spec_laws.specs.Tags.{clash, and-left, and-right}
 use Rattle.charge_laws.specs.Totals.Fits.{accepted-fits}
 use Rattle.bound_laws.specs.Numbers.{TreeWithin}
@@ -36,7 +36,7 @@ use Rattle.writing.specs.Stored.{sets-front}
 use Rattle.bound_laws.specs.Last.{last-spot, last-over, last-figures}
 use Rattle.readback_laws.specs.ReadBack.{Tagged}
 use Rattle.readback_laws.specs.Length.{tagged-length}
-use Rattle.lowering.specs.Lower.{admitOutput, finished, zerosFor, writtenOver, lowerOf, lowerF}
+use Rattle.lowering.specs.Lower.{finished, zerosFor, writtenOver, lowerOf, lowerF}
 use Rattle.walk.specs.Plain.{isOverIn}
 use Rattle.lowering.specs.Flat.{admitBy, runF, finishF, lowerBy}
 use Rattle.lowering.specs.Bytes.{held-bytes}
@@ -140,9 +140,12 @@ unfolding admitOutput
 admit-output-is b lent o d e = ap (λ (d : Surveyed). admitBy d o) e ∙ by-start o (admit b lent)
 
 module _ (b r s y o : List ℕ) (bytes : Bytes b) where
+  -- what is written of a file
+  abbrev ofFile : Outcome File → Outcome Written
+  ofFile a = a >>= (λ f. accepted (record { file = written (fileAt (lastSpot f)); figures = finalFigures f }))
+
   by-output : (f : File) (c : Bool) → leb (finalFigures f .bytes) (length o) ≡ c → admit b (lentIn r s y) ≡ accepted f
-      → lowerBy (surveyedOf (ensure c 10 (length o) >> accepted f)) b r s y o
-      ≡ lowerOf (ensure c 10 (length o) >> accepted (record { file = written (fileAt (lastSpot f)); figures = finalFigures f })) r s y o
+      → lowerBy (surveyedOf (ensure c 10 (length o) >> accepted f)) b r s y o ≡ lowerOf (ofFile (ensure c 10 (length o) >> accepted f)) r s y o
   unfolding lowerBy
   by-output f true c e =
       ap (finished (WrittenIn (shownFigures (finalFigures f))) (zerosFor r) (zerosFor s) (zerosFor y))
@@ -150,11 +153,8 @@ module _ (b r s y o : List ℕ) (bytes : Bytes b) where
   by-output f false c e = refl
 
   by-admission : (a : Outcome File) → admit b (lentIn r s y) ≡ a
-      → lowerBy (surveyedOf (a >>= (λ f. checkOutput (length o) (finalFigures f) >> accepted f))) b r s y o
-      ≡ lowerOf
-      (a >>= (λ f. checkOutput (length o) (finalFigures f)
-      >> accepted (record { file = written (fileAt (lastSpot f)); figures = finalFigures f })))
-      r s y o
+      → let admitted = a >>= (λ f. checkOutput (length o) (finalFigures f) >> accepted f) in
+      lowerBy (surveyedOf admitted) b r s y o ≡ lowerOf (ofFile admitted) r s y o
   unfolding lowerBy checkOutput
   by-admission (accepted f) e = by-output f (leb (finalFigures f .bytes) (length o)) refl e
   by-admission (refused c p) e = refl

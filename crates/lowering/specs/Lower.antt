@@ -3,21 +3,12 @@
 use mathlib.Core.List.{List, _++_}
 use Prim.Native.Nat.{ℕ}
 use lib.ListN.{length, drop, replicate}
-use Rattle.meaning.specs.File.{File}
-use Rattle.meaning.specs.Reading.{Outcome, accepted, refused, _>>=_, _>>_}
-use Rattle.meaning.specs.Charges.{finalFigures}
-use Rattle.meaning.specs.Lowering.{Lent, checkOutput, admit, Written, lower}
+use Rattle.meaning.specs.Reading.{Outcome, accepted, refused}
+use Rattle.meaning.specs.Lowering.{Written, lower}
 use Rattle.figures.specs.Figures.{shownFigures}
 use Rattle.start.specs.Start.{lentIn}
 use Rattle.lowering.specs.declared.Lowered.{Lowered}
 use Rattle.lowering.specs.declared.Lowered.the-variants.{Written as WrittenIn, Refused}
-
--- a file that passes the checks up to 10
-unfoldable pub admitOutput : List ℕ → Lent → ℕ → Outcome File
-admitOutput bytes lent out = do
-  f ← admit bytes lent
-  checkOutput out (finalFigures f)
-  accepted f
 
 -- the answer, the tables and the output
 pub record Finished : Type 0 where

@@ -11,7 +11,8 @@ ghost use lib.ListN.{length};
 ghost use Rattle.checking.specs.Survey.{surveyedOf};
 ghost use Rattle.path.specs.Path.{tables};
 ghost use Rattle.start.specs.Start.{lentIn};
-ghost use Rattle.lowering.specs.Lower.{admitOutput, finished, zerosFor, lowerF};
+ghost use Rattle.meaning.specs.Lowering.{admitOutput};
+ghost use Rattle.lowering.specs.Lower.{finished, zerosFor, lowerF};
 ghost use Rattle.lowering.specs.Flat.{runF, finishF};
 
 // What lower answers: the figures of the written file, its length among them, or a refusal's number and place.

@@ -49,26 +49,27 @@ bindsName asRead scope y =
 
 -- the body with the using at index 0, which moves to the body's scope
 unfoldable pub insertUsing : ℕ → Forest → Head → Forest → Change Forest
-insertUsing y held h body = do
+insertUsing y inserted h body = do
   moveBinding y (h .a)
-  return (one h (held & body))
+  return (one h (inserted & body))
 
--- the body in a new Block below the ForOf's scope, with the using before it, which moves to the Block's scope
+-- The body in a new Block below the ForOf's scope, with the using before it, which moves to the Block's scope. The Rust has a branch for a Block
+-- and one for other statements; they agree, since the body's parent is the ForOf's scope.
 unfoldable pub wrapBody : ℕ → Forest → ℕ → Forest → Change Forest
-wrapBody y held scope body = do
+wrapBody y inserted scope body = do
   new ← insertScopeBelow scope body
   moveBinding y new
-  return (block new (held & body))
+  return (block new (inserted & body))
 
 -- `for (using x of e)` becomes `for (const _x of e)`, and `using x = _x` goes into the body
 unfoldable pub enterForOfStatement : Bool → Head → Forest → Change Node
-enterForOfStatement wraps h none = return (node h none)
-enterForOfStatement wraps h (more h₁ k₁ none) = return (node h (one h₁ k₁))
-enterForOfStatement wraps h (more h₁ k₁ (more h₂ k₂ none)) = return (node h (more h₁ k₁ (one h₂ k₂)))
-enterForOfStatement wraps h (more h₁ k₁ (more h₂ k₂ (more h₃ k₃ r))) = do
+enterForOfStatement wrapsBody h none = return (node h none)
+enterForOfStatement wrapsBody h (more h₁ k₁ none) = return (node h (one h₁ k₁))
+enterForOfStatement wrapsBody h (more h₁ k₁ (more h₂ k₂ none)) = return (node h (more h₁ k₁ (one h₂ k₂)))
+enterForOfStatement wrapsBody h (more h₁ k₁ (more h₂ k₂ (more h₃ k₃ r))) = do
   st ← get
   temp ← generateUid (symbolIn st (boundSymbol k₁) .name) (h .a) (SymbolFlag.BlockScoped + SymbolFlag.Const)
   body ←
-      if wraps then wrapBody (boundSymbol k₁) (declaration (h₁ .a) (boundSymbol k₁) (read temp)) (h .a) (one h₃ k₃)
+      if wrapsBody then wrapBody (boundSymbol k₁) (declaration (h₁ .a) (boundSymbol k₁) (read temp)) (h .a) (one h₃ k₃)
       else insertUsing (boundSymbol k₁) (declaration (h₁ .a) (boundSymbol k₁) (read temp)) h₃ k₃
   return (node h (more (hd Tag.Declaration Kind.Const 0 0) (rebind temp k₁) (more h₂ k₂ (body & r))))

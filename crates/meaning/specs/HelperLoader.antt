@@ -31,6 +31,7 @@ loadExternal cur = do
   st ← get
   return (load Mode.External (findBinding (length (st .scopes)) st cur KnownName.BabelHelpers))
 
+-- by the mode; in inline mode there is no load, since refusal 8 comes before
 unfoldable pub helperLoad : ℕ → Change Forest
 helperLoad cur = do
   st ← get

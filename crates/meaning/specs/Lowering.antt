@@ -52,6 +52,13 @@ admit bytes lent = do
   checkRows lent (finalFigures f)
   accepted f
 
+-- up to 10
+unfoldable pub admitOutput : List ℕ → Lent → ℕ → Outcome File
+admitOutput bytes lent out = do
+  f ← admit bytes lent
+  checkOutput out (finalFigures f)
+  accepted f
+
 -- where the last visit leaves the walk: a record is entered once, and a StaticBlock left once
 unfoldable pub lastSpot : File → Spot
 lastSpot f = visits (2 * finalFigures f .records) (start f)
@@ -63,6 +70,5 @@ pub record Written : Type 0 where
 
 unfoldable pub lower : List ℕ → Lent → ℕ → Outcome Written
 lower bytes lent out = do
-  f ← admit bytes lent
-  checkOutput out (finalFigures f)
+  f ← admitOutput bytes lent out
   accepted (record { file = written (fileAt (lastSpot f)); figures = finalFigures f })

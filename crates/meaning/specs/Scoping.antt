@@ -147,7 +147,8 @@ moveScopes (more h k r) parent = do
   if eqb (scopeOf h) 0 then moveScopes k parent else changeScopeParent (scopeOf h) parent
   moveScopes r parent
 
--- `insert_scope_below_statements`: a new scope below the scope s, above the statements
+-- `insert_scope_below_statement`, `insert_scope_below_statements` and `insert_scope_below_statement_from_scope_id`: a new scope below the scope
+-- s, above the statements
 unfoldable pub insertScopeBelow : ℕ → Forest → Change ℕ
 insertScopeBelow s list = do
   new ← createChildScope s 0
@@ -162,7 +163,7 @@ createSymbol name flags scope made = do
   put (withSymbols st (st .symbols ++ symbolRow name flags scope made ∷ []))
   return (suc (length (st .symbols)))
 
--- `generate_uid`: a unique name built on a base; `generate_binding`: the name itself
+-- `generate_uid`: a unique name built on a base; `generate_binding`: the name itself. Scope and flags stand in the Rust's order.
 abbrev pub generateUid : ℕ → ℕ → ℕ → Change ℕ
 generateUid base scope flags = createSymbol base flags scope 1
 
@@ -223,13 +224,13 @@ findBinding (suc n) st scope name =
     else if eqb scope 0 then 0
     else findBinding n st (scopeIn st scope .parent) name
 
--- `iter_bindings_in`, with a test of the flags: block-scoped (2) or class (8)
-unfoldable pub isBlockScoped : Symbol → Bool
-isBlockScoped y = eqb (y .flags / 2 % 2) 1 || eqb (y .flags / 8 % 2) 1
+-- the test of a row's flags for `iter_bindings_in`: block-scoped (2) or class (8)
+unfoldable pub isBlockScopedOrClass : Symbol → Bool
+isBlockScopedOrClass y = eqb (y .flags / 2 % 2) 1 || eqb (y .flags / 8 % 2) 1
 
--- the row i is bound in the scope: a unique name, or the last row of its name
-unfoldable pub isBound : List Symbol → ℕ → ℕ → Symbol → Bool
-isBound ys scope i y =
+-- the row i is among the bindings of the scope: a unique name, or the last row of its name
+unfoldable pub isAmongBindings : List Symbol → ℕ → ℕ → Symbol → Bool
+isAmongBindings ys scope i y =
     eqb (y .scope) scope && (not (eqb (y .made) 0) || eqb (getBinding ys scope (y .name)) i)
 
 -- `all` are the rows, the list those from i on
@@ -237,4 +238,4 @@ unfoldable pub blockScopedIn : List Symbol → ℕ → List Symbol → ℕ → L
 blockScopedIn all scope [] i = []
 blockScopedIn all scope (y ∷ ys) i =
     let rest = blockScopedIn all scope ys (suc i) in
-    if isBound all scope i y && isBlockScoped y then i ∷ rest else rest
+    if isAmongBindings all scope i y && isBlockScopedOrClass y then i ∷ rest else rest

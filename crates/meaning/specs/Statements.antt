@@ -69,9 +69,9 @@ wrapInitializers letter ctx none = none
 wrapInitializers letter ctx (more h k r) =
     more h (if eqb (h .tag) Tag.Declarator then wrapInitializer letter ctx (h .b) k else k) (wrapInitializers letter ctx r)
 
--- a using becomes const; a recorded one is var already, and loses its mark
-unfoldable pub asConst : Head → Head
-asConst h = hd Tag.Declaration (if eqb (h .b) 0 then Kind.Const else Kind.Var) 0 0
+-- a using that is taken up becomes const; a recorded one is var already, and loses its mark
+unfoldable pub asTakenUp : Head → Head
+asTakenUp h = hd Tag.Declaration (if eqb (h .b) 0 then Kind.Const else Kind.Var) 0 0
 
 -- The usings of a list, taken up by a context: each has the letter of its own kind, or in a Switch (`running`) that of needs_await so far.
 unfoldable pub takeUp : Bool → ℕ → Bool → Forest → Forest
@@ -79,7 +79,7 @@ takeUp running ctx needsAwait none = none
 takeUp running ctx needsAwait (more h k r) =
     let awaits = needsAwait || isAwaitUsing h in
     let rest = takeUp running ctx (running && awaits) r in
-    if isUsing h then more (asConst h) (wrapInitializers (letterIf awaits) ctx k) rest else more h k rest
+    if isUsing h then more (asTakenUp h) (wrapInitializers (letterIf awaits) ctx k) rest else more h k rest
 
 -- the context's symbol, on `usingCtx`
 unfoldable pub makeContext : ℕ → Change ℕ

@@ -16,7 +16,7 @@ use Rattle.meaning.specs.Statements.{
   letterIf,
   wrapInitializer,
   wrapInitializers,
-  asConst,
+  asTakenUp,
   takeUp,
   createCatchClause,
   createFinallyBlock,
@@ -62,8 +62,8 @@ initializers-childless (more h k r) letter ctx p =
     (initializers-childless r letter ctx (p .2))
 
 using-childless : (u : Bool) (h : Head) (k r : Forest) (letter ctx : ℕ) → Bare h k → Childless k → Childless r
-    → Childless (if u then more (asConst h) (wrapInitializers letter ctx k) r else more h k r)
-unfolding asConst hasChildren
+    → Childless (if u then more (asTakenUp h) (wrapInitializers letter ctx k) r else more h k r)
+unfolding asTakenUp hasChildren
 using-childless true h k r letter ctx o p q = (never, initializers-childless k letter ctx p, q)
 using-childless false h k r letter ctx o p q = (o, p, q)
 

@@ -10,7 +10,7 @@ use lib.ListN.{getD}
 use lib.Dec.{eqb}
 use borrow.Author.Tests.{eq-eqb, ne-eqb, eqb-true, eqb-false}
 use Rattle.meaning.specs.Tree.{if_then_else_}
-use Rattle.meaning.specs.Scoping.{binds, getBinding, isBound}
+use Rattle.meaning.specs.Scoping.{binds, getBinding, isAmongBindings}
 use Rattle.tables.specs.Table.{capped}
 use Rattle.tables.specs.Loops.{turns, next-turn as one-turn}
 use Rattle.scoping.specs.Rows.{symbolAt, symbolsF}
@@ -119,8 +119,8 @@ module _ (t : List ℕ) (f n scope name : ℕ) (m : n ≤ 65535) where
 -- a row with made 0 is bound if no row behind it binds its name
 pub bound-last : (t : List ℕ) (n scope name i last : ℕ) → i < n → n ≤ 65535 → getD t (i * 5 + 2) 0 ≡ scope → getD t (i * 5 + 3) 0 ≡ 0
     → getD t (i * 5) 0 ≡ name → last ≡ bindingFrom t 2 n scope name (i + 1) (i + 1)
-    → eqb last (i + 1) ≡ isBound (symbolsF t 2 n 0) scope (capped i 1) (symbolAt t 2 i)
-unfolding isBound binds symbolAt capped
+    → eqb last (i + 1) ≡ isAmongBindings (symbolsF t 2 n 0) scope (capped i 1) (symbolAt t 2 i)
+unfolding isAmongBindings binds symbolAt capped
 bound-last t n scope name i last h m s z e l =
     let y : capped i 1 ≡ i + 1 = omega arith in
     let b : binds (symbolAt t 2 i) scope name ≡ true = rw (eq-eqb _ _ z, eq-eqb _ _ s, eq-eqb _ _ e) in
@@ -143,7 +143,7 @@ module _ (t : List ℕ) (n name : ℕ) (m : n ≤ 65535) where
 
 module _ (x : Ctx) (n to from : ℕ) (t : List ℕ) where
   elsewhere : (j : ℕ) → (getD t (j * 5 + 2) 0 ≡ from → ⊥) → moveOne x from to (moving t j) ≡ moving t (j + 1)
-  unfolding moveOne moveBoundF movesF isBound symbolAt
+  unfolding moveOne moveBoundF movesF isAmongBindings symbolAt
   elsewhere j d = rw (ne-eqb _ _ d)
 
   abbrev moved : ℕ → Moving

@@ -5,7 +5,7 @@ use mathlib.Core.Bool.{Bool, _&&_}
 use Prim.Native.Nat.{ℕ, _+_, _*_, _%_}
 use lib.ListN.{getD, set}
 use Rattle.meaning.specs.Tree.{if_then_else_}
-use Rattle.meaning.specs.Scoping.{isBound}
+use Rattle.meaning.specs.Scoping.{isAmongBindings}
 use Rattle.tables.specs.Columns.ScopeTable
 use Rattle.tables.specs.Columns.SymbolTable
 use Rattle.tables.specs.Table.{capped}
@@ -68,7 +68,7 @@ setSymbolFlagsF q y flags = setSymbolF (q .t) (q .ctx .symbols) y SymbolTable.Fl
 -- the row after i others is bound in the scope, block-scoped or as a class; it moves
 unfoldable pub movesF : SymbolRows → ℕ → ℕ → Bool
 movesF q from i =
-    isBound (symbolsF (q .t) SymbolTable.Scope (q .ctx .symbols) 0) from (capped i 1) (symbolAt (q .t) SymbolTable.Scope i)
+    isAmongBindings (symbolsF (q .t) SymbolTable.Scope (q .ctx .symbols) 0) from (capped i 1) (symbolAt (q .t) SymbolTable.Scope i)
     && blockScoped (getD (q .t) (i * SymbolTable.Numbers + SymbolTable.Flags) 0)
 
 unfoldable pub moveBoundF : SymbolRows → ℕ → ℕ → ℕ → List ℕ

@@ -10,7 +10,7 @@ use tables::symbol;
 ghost use mathlib.Core.Path.{_≡_};
 ghost use Prim.Native.Nat.{_+_, _*_, _-_, _<_};
 ghost use Rattle.meaning.specs.Tree.{if_then_else_};
-ghost use Rattle.meaning.specs.Scoping.{binds, getBinding, findBinding, isBound};
+ghost use Rattle.meaning.specs.Scoping.{binds, getBinding, findBinding, isAmongBindings};
 ghost use Rattle.meaning.specs.ForOf.{bindsName};
 ghost use Rattle.tables.specs.Columns.SymbolTable;
 ghost use Rattle.tables.specs.Table.{capped};
@@ -453,7 +453,7 @@ fn is_block_scoped(flags: u16) -> bool
 // The row after i others is bound in the scope: a unique name, or the last row of its name, so that only the rows behind it are looked at.
 fn is_bound(symbols: &[u16], count: u16, scope: ScopeId, i: u16) -> bool
     requires { ⌜ i < count ⌝ }
-    ensures { λ r. ⌜ r ≡ isBound (symbolsF (now (symbols .entry)) SymbolTable.Scope count 0) (scope .0) (capped i 1) (symbolAt (now (symbols .entry)) SymbolTable.Scope i) ⌝ }
+    ensures { λ r. ⌜ r ≡ isAmongBindings (symbolsF (now (symbols .entry)) SymbolTable.Scope count 0) (scope .0) (capped i 1) (symbolAt (now (symbols .entry)) SymbolTable.Scope i) ⌝ }
 {
     let at = (i as usize) * symbol::NUMBERS;
     if tables::get(symbols, at + SCOPE) != scope.0 {

@@ -18,7 +18,7 @@ use Rattle.meaning.specs.Statements.{
   letterIf,
   wrapInitializer,
   wrapInitializers,
-  asConst,
+  asTakenUp,
   takeUp,
   createCatchClause,
   createFinallyBlock,
@@ -90,8 +90,8 @@ initializers-fit (more h k r) letter ctx p =
     (initializers-fit r letter ctx (p .2))
 
 using-fits : (u : Bool) (h : Head) (k r : Forest) (letter ctx : ℕ) → Fit h k → Fits k → Fits r
-    → Fits (if u then more (asConst h) (wrapInitializers letter ctx k) r else more h k r)
-unfolding asConst
+    → Fits (if u then more (asTakenUp h) (wrapInitializers letter ctx k) r else more h k r)
+unfolding asTakenUp
 using-fits true h k r letter ctx o p q = (easy refl, initializers-fit k letter ctx p, q)
 using-fits false h k r letter ctx o p q = (o, p, q)
 

@@ -15,7 +15,7 @@ use Rattle.meaning.specs.Statements.{
   letterIf,
   wrapInitializer,
   wrapInitializers,
-  asConst,
+  asTakenUp,
   takeUp,
 }
 use Rattle.meaning.specs.Contexts.{forList, takeUpFor, anyCaseUsing, takeUpCases}
@@ -28,8 +28,8 @@ use Rattle.charge_laws.specs.Counts.Visits.{spread, spread-++, kept-if}
 -- ---- no using is left
 
 pub using-gone : (b : Bool) (h : Head) (k k′ r : Forest) → isUsing h ≡ b → anyUsing r ≡ false
-    → anyUsing (if b then more (asConst h) k′ r else more h k r) ≡ false
-unfolding anyUsing isUsing asConst
+    → anyUsing (if b then more (asTakenUp h) k′ r else more h k r) ≡ false
+unfolding anyUsing isUsing asTakenUp
 using-gone true h k k′ r u e = const-plain (eqb (h .b) 0) r e
   where
     const-plain : (c : Bool) (r : Forest) → anyUsing r ≡ false → anyUsing (more (hd 5 (if c then 2 else 0) 0 0) none r) ≡ false
@@ -108,9 +108,9 @@ module _ (ys : List Symbol) where
 
   using-visits : (u : Bool) (h : Head) (k r r′ : Forest) (letter ctx : ℕ)
       → visitsIn ys r′ standing ≡ visitsIn ys r takenUp
-      → visitsIn ys (if u then more (asConst h) (wrapInitializers letter ctx k) r′ else more h k r′) standing
+      → visitsIn ys (if u then more (asTakenUp h) (wrapInitializers letter ctx k) r′ else more h k r′) standing
       ≡ spread ys (if u then around (free 1) declarators [] else visitsStanding ys h k) k (visitsIn ys r takenUp)
-  unfolding visitsIn visitsOf visitsStanding visitsAs actOf next asConst
+  unfolding visitsIn visitsOf visitsStanding visitsAs actOf next asTakenUp
   using-visits true h k r r′ letter ctx i =
       ap₂ (λ (v w : List (List Line)). [] ∷ (v ++ w)) (declarators-visits k letter ctx) i
   using-visits false h k r r′ letter ctx i =

@@ -17,7 +17,7 @@ use Rattle.meaning.specs.Statements.{
   letterIf,
   wrapInitializer,
   wrapInitializers,
-  asConst,
+  asTakenUp,
   takeUp,
 }
 use Rattle.meaning.specs.Contexts.{forList, takeUpFor, takeUpCases}
@@ -88,8 +88,8 @@ initializers-wrapped (more h k r) letter ctx =
 
 using-taken : (b : Bool) (h : Head) (k r r′ : Forest) (letter ctx : ℕ) → isUsing h ≡ b → Wrapped (wraps r) r r′
     → Wrapped ((if b then initializers k else 0) + wraps r) (more h k r)
-    (if b then more (asConst h) (wrapInitializers letter ctx k) r′ else more h k r′)
-unfolding size recordBytes asConst
+    (if b then more (asTakenUp h) (wrapInitializers letter ctx k) r′ else more h k r′)
+unfolding size recordBytes asTakenUp
 using-taken true h k r r′ letter ctx e i =
     omega (arith, initializers-wrapped k letter ctx, ap fieldBytes (using-tag h e))
 using-taken false h k r r′ letter ctx e i = omega arith

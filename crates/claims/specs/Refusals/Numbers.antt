@@ -8,7 +8,7 @@ use native.Mathlib.Omega.{arith}
 use lib.Dec.{eqb, leb}
 use Rattle.meaning.specs.Reading.{Outcome, accepted, refused, ensure, readFile}
 use Rattle.meaning.specs.Charges.{Figures, finalFigures}
-use Rattle.meaning.specs.Lowering.{Lent, checkMode, checkRows, checkOutput, checkFile, figuresOf, admit, lower}
+use Rattle.meaning.specs.Lowering.{Lent, checkMode, checkRows, checkOutput, checkFile, figuresOf, admit, admitOutput, lower}
 use Rattle.parsing.specs.Outcomes.{Told}
 use Rattle.parsing.specs.Files.{file-told, file-refused}
 use Rattle.claims.specs.Refusals.Outcomes.{Numbered, bound, ensured, widened, numbers}
@@ -60,12 +60,16 @@ admit-numbered b lent =
 pub admit-numbers : (b : List ℕ) (lent : Lent) (c p : ℕ) → admit b lent ≡ refused c p → (1 ≤ c) × (c ≤ 9)
 admit-numbers b lent = numbers 9 (admit b lent) (admit-numbered b lent)
 
-lower-numbered : (b : List ℕ) (lent : Lent) (out : ℕ) → Numbered 10 (lower b lent out)
-unfolding lower checkOutput
-lower-numbered b lent out =
+output-numbered : (b : List ℕ) (lent : Lent) (out : ℕ) → Numbered 10 (admitOutput b lent out)
+unfolding admitOutput checkOutput
+output-numbered b lent out =
     bound 10 (admit b lent) _ (widened 9 (admit b lent) (admit-numbered b lent))
     (λ f.
     bound 10 (checkOutput out (finalFigures f)) _ (ensured 10 (leb (finalFigures f .bytes) out) 10 out (omega arith)) (λ _. tt))
+
+lower-numbered : (b : List ℕ) (lent : Lent) (out : ℕ) → Numbered 10 (lower b lent out)
+unfolding lower
+lower-numbered b lent out = bound 10 (admitOutput b lent out) _ (output-numbered b lent out) (λ f. tt)
 
 -- LOWERING, with 1 to 10.
 pub lower-numbers : (b : List ℕ) (lent : Lent) (out c p : ℕ) → lower b lent out ≡ refused c p → (1 ≤ c) × (c ≤ 10)

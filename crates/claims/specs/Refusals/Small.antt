@@ -10,10 +10,10 @@ use lib.Dec.{leb, ltb}
 use borrow.Author.Tests.{ltb-true, ltb-false, lt-ltb, le-leb, lt-leb}
 use Rattle.meaning.specs.Tree.{if_then_else_}
 use Rattle.meaning.specs.File.{File, written}
-use Rattle.meaning.specs.Reading.{Outcome, accepted, refused, _>>_, ensure}
+use Rattle.meaning.specs.Reading.{Outcome, accepted, refused, _>>=_, _>>_, ensure}
 use Rattle.meaning.specs.Walk.{fileAt}
 use Rattle.meaning.specs.Charges.{Figures, finalFigures}
-use Rattle.meaning.specs.Lowering.{Lent, checkRows, checkOutput, checkFile, admit, lastSpot, Written, lower}
+use Rattle.meaning.specs.Lowering.{Lent, checkRows, checkOutput, checkFile, admit, admitOutput, lastSpot, Written, lower}
 use Rattle.claims.specs.Refusals.Outcomes.{one-of-two, refused-by, taken-refused, first-refused}
 use Rattle.claims.specs.Refusals.Numbers.{check-numbers}
 
@@ -105,32 +105,38 @@ never-nine : (b : Bool) (out p : ℕ) → ensure b 10 out ≡ refused 9 p → �
 never-nine true out p e = taken-refused tt 9 p e
 never-nine false out p e = let z : _≡_ {A = ℕ} 10 9 = cc in omega arith
 
+-- a file that is admitted is written
+first-written : (a : Outcome File) (c p : ℕ)
+    → (a >>= (λ f. accepted (record { file = written (fileAt (lastSpot f)); figures = finalFigures f }))) ≡ refused c p → a ≡ refused c p
+first-written (accepted f) c p e = absurd (taken-refused _ c p e)
+first-written (refused c₀ p₀) c p e = cc
+
 -- The same of lowering, since a short output is refused with 10.
 pub small-refused : (b : List ℕ) (lent : Lent) (out : ℕ) (f : File) → checkFile b ≡ accepted f → Short lent (finalFigures f)
     → lower b lent out ≡ refused 9 (firstShort lent (finalFigures f))
-unfolding lower
+unfolding lower admitOutput
 small-refused b lent out f e h = rw (small-not-admitted b lent f e h)
 
 pub refused-small : (b : List ℕ) (lent : Lent) (out p : ℕ) → lower b lent out ≡ refused 9 p
     → (f : File) × (checkFile b ≡ accepted f) × Short lent (finalFigures f) × (p ≡ firstShort lent (finalFigures f))
-unfolding lower checkOutput
+unfolding lower admitOutput checkOutput
 refused-small b lent out p e =
     ⊎-elim (not-admitted-small b lent p)
     (λ (f, d, k). absurd (never-nine (leb (finalFigures f .bytes) out) out p (first-refused (checkOutput out (finalFigures f)) _ 9 p k)))
-    (refused-by (admit b lent) _ 9 p e)
+    (refused-by (admit b lent) _ 9 p (first-written (admitOutput b lent out) 9 p e))
 
 -- ---- REFUSAL 10
 
 -- An admitted file longer than the output is refused with 10.
 pub short-output : (b : List ℕ) (lent : Lent) (out : ℕ) (f : File) → admit b lent ≡ accepted f → out < finalFigures f .bytes
     → lower b lent out ≡ refused 10 out
-unfolding lower checkOutput
+unfolding lower admitOutput checkOutput
 short-output b lent out f e h = rw (e, lt-leb (finalFigures f .bytes) out h)
 
 -- Any other is written.
 pub enough-output : (b : List ℕ) (lent : Lent) (out : ℕ) (f : File) → admit b lent ≡ accepted f → finalFigures f .bytes ≤ out
     → lower b lent out ≡ accepted (record { file = written (fileAt (lastSpot f)); figures = finalFigures f })
-unfolding lower checkOutput
+unfolding lower admitOutput checkOutput
 enough-output b lent out f e h = rw (e, le-leb (finalFigures f .bytes) out h)
 
 -- EVERY FILE is lowered or refused.

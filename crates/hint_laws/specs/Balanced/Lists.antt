@@ -15,7 +15,7 @@ use Rattle.meaning.specs.Statements.{
   letterIf,
   wrapInitializer,
   wrapInitializers,
-  asConst,
+  asTakenUp,
   takeUp,
 }
 use Rattle.spec_laws.specs.Tags.{Seen, other, here, there, seen, or-none}
@@ -116,15 +116,15 @@ module _ (w : List ℕ → ℕ → ℕ) (read : ℕ) where
   -- ---- below a list
 
   using-kept : (u : Bool) (h : Head) (k r r′ : Forest) (letter ctx : ℕ) → isUsing h ≡ u → sum r′ ≡ sum r
-      → sum (if u then more (asConst h) (wrapInitializers letter ctx k) r′ else more h k r′) ≡ sum (more h k r)
-  unfolding asConst
+      → sum (if u then more (asTakenUp h) (wrapInitializers letter ctx k) r′ else more h k r′) ≡ sum (more h k r)
+  unfolding asTakenUp
   using-kept true h k r r′ letter ctx u e =
       let k′ = wrapInitializers letter ctx k in
       let i = initializers-kept k letter ctx in
       omega (
         arith,
         balance-more w read h k r,
-        balance-more w read (asConst h) k′ r′,
+        balance-more w read (asTakenUp h) k′ r′,
         ap (λ (t : ℕ). worth w read t k) (using-tag h u),
         worth-plain 5 k refl refl,
         worth-plain 5 k′ refl refl,
@@ -174,9 +174,9 @@ module _ (w : List ℕ → ℕ → ℕ) (read : ℕ) where
     const-done false letter k r = ap (λ (n : ℕ). n + doneIn w read r) (initializers-called letter k)
 
     using-done : (u : Bool) (h : Head) (k r r′ : Forest) → isUsing h ≡ u → doneIn w read r′ ≡ inList w read r
-        → doneIn w read (if u then more (asConst h) (wrapInitializers (letterIf (isAwaitUsing h)) ctx k) r′ else more h k r′)
+        → doneIn w read (if u then more (asTakenUp h) (wrapInitializers (letterIf (isAwaitUsing h)) ctx k) r′ else more h k r′)
         ≡ inList w read (more h k r)
-    unfolding doneIn usingsIn asConst ownLetter
+    unfolding doneIn usingsIn asTakenUp ownLetter
     using-done true h k r r′ u e =
         let five = ap (λ (t : ℕ). eqb t 5) (using-tag h u) in
         rw (u, five) (omega (arith, const-done (eqb (h .b) 0) (letterIf (isAwaitUsing h)) k r′))

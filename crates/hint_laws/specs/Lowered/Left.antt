@@ -18,7 +18,7 @@ use Rattle.meaning.specs.Statements.{
   letterIf,
   wrapInitializer,
   wrapInitializers,
-  asConst,
+  asTakenUp,
   takeUp,
   makeContext,
   transformStatements,
@@ -55,8 +55,8 @@ initializers-quiet (more h k r) letter ctx p =
     (initializers-quiet r letter ctx (p .2))
 
 using-quiet : (u : Bool) (h : Head) (k r : Forest) (letter ctx : ℕ) → Quiet h k → AllQuiet k → AllQuiet r
-    → AllQuiet (if u then more (asConst h) (wrapInitializers letter ctx k) r else more h k r)
-unfolding AllQuiet asConst
+    → AllQuiet (if u then more (asTakenUp h) (wrapInitializers letter ctx k) r else more h k r)
+unfolding AllQuiet asTakenUp
 using-quiet true h k r letter ctx o p q = (calm _ _ refl refl, initializers-quiet k letter ctx p, q)
 using-quiet false h k r letter ctx o p q = (o, p, q)
 

@@ -23,8 +23,8 @@ use Rattle.meaning.specs.Scoping.{
   moveBindings,
   binds,
   lastBinding,
-  isBlockScoped,
-  isBound,
+  isBlockScopedOrClass,
+  isAmongBindings,
   blockScopedIn,
 }
 use Rattle.tables.specs.Loops.{turns}
@@ -42,7 +42,7 @@ boundBy : List Symbol → ℕ → ℕ → Symbol → Bool
 boundBy ys scope i y = eqb (y .scope) scope && (not (eqb (y .made) 0) || eqb (lastBinding ys scope (y .name) (suc i) i) i)
 
 moves : List Symbol → ℕ → ℕ → Symbol → Bool
-moves ys scope i y = boundBy ys scope i y && isBlockScoped y
+moves ys scope i y = boundBy ys scope i y && isBlockScopedOrClass y
 
 -- the block-scoped rows, the list being those from i on
 blockScopedFrom : ℕ → List Symbol → ℕ → List ℕ
@@ -64,8 +64,8 @@ last-from (x ∷ xs) ys y scope name i found b =
     rw (last-more x (xs ++ y ∷ ys) scope name i found, e) (last-from xs ys y scope name (suc i) _ b)
 
 bound-if : (b c : Bool) (xs ys : List Symbol) (y : Symbol) (scope : ℕ) → eqb (y .scope) scope ≡ b → eqb (y .made) 0 ≡ c
-    → isBound (xs ++ y ∷ ys) scope (suc (length xs)) y ≡ boundBy ys scope (suc (length xs)) y
-unfolding isBound boundBy binds
+    → isAmongBindings (xs ++ y ∷ ys) scope (suc (length xs)) y ≡ boundBy ys scope (suc (length xs)) y
+unfolding isAmongBindings boundBy binds
 bound-if false c xs ys y scope p q = rw p
 bound-if true false xs ys y scope p q = rw (p, q)
 bound-if true true xs ys y scope p q =
@@ -74,7 +74,7 @@ bound-if true true xs ys y scope p q =
     rw (rw e at (last-from xs ys y scope (y .name) 1 0 b))
 
 bound-from : (all xs ys : List Symbol) (y : Symbol) (scope i : ℕ) → all ≡ xs ++ y ∷ ys → i ≡ length xs
-    → isBound all scope (suc i) y ≡ boundBy ys scope (suc i) y
+    → isAmongBindings all scope (suc i) y ≡ boundBy ys scope (suc i) y
 bound-from all xs ys y scope i e l = rw (e, l) (bound-if _ _ xs ys y scope refl refl)
 
 block-from : (all xs ys : List Symbol) (scope i : ℕ) → all ≡ xs ++ ys → i ≡ length xs
@@ -117,7 +117,7 @@ module _ (from to : ℕ) (z : List ℕ) (st : Store) (xs ys : List Symbol) (y : 
   next-is = omega (arith, ap length cut, length-append xs (y ∷ ys))
 
   moves-is : movesF (symbolsHeld st z) from i ≡ moves ys from (suc i) y
-  unfolding movesF moves isBlockScoped blockScoped
+  unfolding movesF moves isBlockScopedOrClass blockScoped
   moves-is =
       rw (symbols-are (st .symbols) (st .asRead) z, next-is, row-is, flags-are, bound-from (st .symbols) xs ys y from i cut before)
 

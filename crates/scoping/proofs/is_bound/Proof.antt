@@ -1,7 +1,7 @@
 -- `scoping::is_bound` meets its contract. Assumes nothing.
 use mathlib.Core.Path.{sym, _∙_}
 use native.Mathlib.Omega.{arith}
-use Rattle.meaning.specs.Scoping.{isBound}
+use Rattle.meaning.specs.Scoping.{isAmongBindings}
 use Rattle.scoping.specs.Rows.{symbolAt}
 use Rattle.scoping.proofs.Skips.{bound-last}
 use borrow.Author.Tests.{eq-eqb, ne-eqb}
@@ -10,14 +10,14 @@ use Rattle.scoping.proofs.is_bound.Statement.{statement}
 use Rattle.scoping.proofs.is_bound.Tie as tie
 
 returns : tie.Need-returns
-unfolding isBound symbolAt
+unfolding isAmongBindings symbolAt
 returns c =
     let at-if1 = c in
     let at-get = at-if1 .before .before in
     rw (← at-get .get .ensures, ne-eqb _ _ (at-if1 .if1 .taken))
 
 returns-2 : tie.Need-returns-2
-unfolding isBound symbolAt
+unfolding isAmongBindings symbolAt
 returns-2 c =
     let at-if2 = c in
     let at-get2 = at-if2 .before in

@@ -11,7 +11,7 @@ use borrow.Author.Tests.{ltb-true, ltb-false}
 use lib.Dec.{eqb, ltb, leb·zero, leb·suc-zero, leb·suc-suc}
 use lib.ListN.{length, length-append}
 use Rattle.meaning.specs.Tree.{if_then_else_, Head, Forest, none, more, count, size, _&_}
-use Rattle.meaning.specs.Statements.{isUsing, isAwaitUsing, letterIf, wrapInitializer, wrapInitializers, asConst, takeUp}
+use Rattle.meaning.specs.Statements.{isUsing, isAwaitUsing, letterIf, wrapInitializer, wrapInitializers, asTakenUp, takeUp}
 use Rattle.meaning.specs.Charges.{initializers, wraps}
 use Rattle.tables.specs.Loops.{turns}
 use Rattle.tables.specs.Table.{closedRowF, headF}
@@ -42,7 +42,7 @@ abbrev wrapped : ℕ → ℕ → Head → Forest → Forest
 wrapped letter ctx h k = if eqb (h .tag) 6 then wrapInitializer letter ctx (h .b) k else k
 
 abbrev item : Bool → ℕ → ℕ → Head → Forest → Forest → Forest
-item b letter ctx h k r = if b then more (asConst h) (wrapInitializers letter ctx k) r else more h k r
+item b letter ctx h k r = if b then more (asTakenUp h) (wrapInitializers letter ctx k) r else more h k r
 
 -- ---- how many records there are
 
@@ -187,8 +187,8 @@ module _ (z : List ℕ) (letter ctx : ℕ) where
 
 -- ---- a list
 
-as-const : (h : Head) (n : ℕ) → asConstF (line h n) ≡ line (asConst h) n
-unfolding asConstF asConst
+as-const : (h : Head) (n : ℕ) → asConstF (line h n) ≡ line (asTakenUp h) n
+unfolding asConstF asTakenUp
 as-const h n = by (eqb (h .b) 0)
   where
     by : (b : Bool) → (if b then closedRowF 5 2 0 0 n else closedRowF 5 0 0 0 n) ≡ closedRowF 5 (if b then 2 else 0) 0 0 n
@@ -211,7 +211,7 @@ module _ (z : List ℕ) where
   unfolding rowsOf count size
   one-law true letter ctx h k a g v q =
       let x = line h (count k) in
-      let y = line (asConst h) (count k) in
+      let y = line (asTakenUp h) (count k) in
       let u = rowsOf k ++ v in
       rw (as-const h (count k), pass-as-gapped z a (initializers k + g) x u y (omega arith))
       (declarators-law z letter ctx k (a ++ y ∷ []) g v (omega (arith, length-snoc a y))
