@@ -62,7 +62,7 @@ fn show_too_long() {
 }
 
 pub fn show_line(line: &[u8], seen: Seen) -> Seen {
-    let c = fields::byte(line, 0);
+    let c = lines::byte(line, 0);
     match c {
         b'#' => {
             lines::put(line);

@@ -61,6 +61,11 @@ pub fn plus(a: usize, b: usize) -> usize {
     LAST
 }
 
+// The character at a place, or 0 past the end.
+pub fn byte(text: &[u8], at: usize) -> u8 {
+    if at < text.len() { text[at] } else { 0 }
+}
+
 // The place of the next such character, or the end.
 pub fn find(text: &[u8], from: usize, c: u8) -> usize {
     let mut i = from;
@@ -102,7 +107,7 @@ pub fn read_more(fd: i32, room: &mut [u8], kept: usize) -> usize {
 pub fn whole_lines(room: &[u8], n: usize) -> usize {
     let mut end = n;
     while 0 < end {
-        if fields::byte(room, end - 1) == b'\n' {
+        if byte(room, end - 1) == b'\n' {
             return end;
         }
         end -= 1;
@@ -190,7 +195,7 @@ fn hex_digit(c: u8) -> u16
 
 // The byte that stands at a place; 256 or more, if there is none.
 pub fn hex_at(text: &[u8], at: usize) -> u16 {
-    hex_digit(fields::byte(text, at)) * 16 + hex_digit(fields::byte(text, plus(at, 1)))
+    hex_digit(byte(text, at)) * 16 + hex_digit(byte(text, plus(at, 1)))
 }
 
 fn wide(x: u8) -> u16 {
@@ -235,11 +240,11 @@ pub fn spells(text: &[u8], from: usize, file: &[u8]) -> bool {
 // ---- answers: `ok`, perhaps with figures, or `refused NUMBER PLACE`
 
 pub fn is_fine(text: &[u8], at: usize) -> bool {
-    fields::byte(text, at) == b'o'
+    byte(text, at) == b'o'
 }
 
 pub fn same_refusal(text: &[u8], at: usize, number: u8, place: usize) -> bool {
-    if fields::byte(text, at) != b'r' {
+    if byte(text, at) != b'r' {
         return false;
     }
     let n = read_number(text, behind(text, at, b' '));

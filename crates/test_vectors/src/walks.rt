@@ -37,7 +37,7 @@ fn own_number(tree: &[u8], at: usize, own: u8, k: u8) -> u16 {
 
 // The number of children, which stands behind a record's own numbers.
 fn children(tree: &[u8], at: usize, own: u8) -> u16 {
-    own_number(tree, at, fields::numbers_of(fields::byte(tree, at)), own)
+    own_number(tree, at, fields::numbers_of(fields::tag_at(tree, at)), own)
 }
 
 fn same_scope(tree: &[u8], at: usize, scopes: &[u16], k: u16) -> bool {
@@ -64,8 +64,8 @@ fn same_symbol(tree: &[u8], at: usize, symbols: &[u16], k: u16) -> bool {
 
 // The mark of a Declaration is not written.
 fn same_record(tree: &[u8], at: usize, r: Row) -> bool {
-    let own = rules::own_numbers(fields::byte(tree, at));
-    if (fields::byte(tree, at) as u16) != r.tag {
+    let own = rules::own_numbers(fields::tag_at(tree, at));
+    if fields::tag_at(tree, at) != r.tag {
         return false;
     }
     if own_number(tree, at, own, 0) != r.a {
@@ -151,7 +151,7 @@ fn same_row(
     scopes: &[u16],
     symbols: &[u16],
 ) -> bool {
-    let t = fields::byte(tree, at) as u16;
+    let t = fields::tag_at(tree, at);
     match t {
         tag::SCOPE => same_scope(tree, at, scopes, before.scopes),
         tag::SYMBOL => same_symbol(tree, at, symbols, before.symbols),
@@ -179,7 +179,7 @@ fn same_tree(tree: &[u8], w: Walk, records: &[u16], scopes: &[u16], symbols: &[u
         if !same_row(tree, at, rows, w, records, scopes, symbols) {
             return false;
         }
-        rows = counted(rows, fields::byte(tree, at) as u16);
+        rows = counted(rows, fields::tag_at(tree, at));
         at = next_field(tree, at);
         k += 1;
     }
@@ -212,7 +212,7 @@ fn rows_told(text: &[u8], at: usize) -> Rows {
 // The tree of a line takes the place of the last one, if it is another; its length.
 fn next_tree(text: &[u8], at: usize, end: usize, tree: &mut [u8], last: usize) -> usize {
     let from = lines::behind(text, lines::behind(text, at, b' '), b' ');
-    if fields::byte(text, from) == b's' {
+    if lines::byte(text, from) == b's' {
         return last;
     }
     notation::encode(lines::part(text, from, end), tree)
@@ -263,7 +263,7 @@ fn step(
 
 // A line of a state begins with a digit.
 fn is_state(text: &[u8], at: usize) -> bool {
-    let c = fields::byte(text, at);
+    let c = lines::byte(text, at);
     if c < b'0' {
         return false;
     }
@@ -323,7 +323,7 @@ fn replay_file(file: &[u8], text: &[u8], at: usize, seen: Seen) -> Seen {
 
 // The walk whose first line the text begins with; none, if that line is none's.
 pub fn replay(text: &[u8], seen: Seen) -> Seen {
-    if fields::byte(text, 0) != b'f' {
+    if lines::byte(text, 0) != b'f' {
         return seen;
     }
     let mut buffer = io::large_buffer();

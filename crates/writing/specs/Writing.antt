@@ -9,6 +9,8 @@ use lib.Dec.{ltb}
 use Rattle.meaning.specs.Numbers.Tag
 use Rattle.meaning.specs.Tree.{if_then_else_}
 use Rattle.meaning.specs.File.{numbersOf, ownNumbers, twoBytes, field}
+use Rattle.tables.specs.Columns.ScopeTable
+use Rattle.tables.specs.Columns.SymbolTable
 use Rattle.tables.specs.Table.{rowF}
 use Rattle.tables.specs.declared.Row.{Row}
 use Rattle.path.specs.declared.Walk.{Walk}
@@ -34,11 +36,12 @@ fieldWith t a b c d = field t (take (numbersOf t) (a ∷ b ∷ c ∷ d ∷ []))
 -- ---- rows
 
 unfoldable pub scopeBytes : List ℕ → ℕ → List ℕ
-scopeBytes t k = fieldWith Tag.Scope (getD t (k * 2) 0) (getD t (k * 2 + 1) 0) 0 0
+scopeBytes t k = let at = k * ScopeTable.Numbers in fieldWith Tag.Scope (getD t at 0) (getD t (at + 1) 0) 0 0
 
 unfoldable pub symbolBytes : List ℕ → ℕ → List ℕ
 symbolBytes t k =
-    fieldWith Tag.Symbol (getD t (k * 5) 0) (getD t (k * 5 + 1) 0) (getD t (k * 5 + 2) 0) (getD t (k * 5 + 3) 0)
+    let at = k * SymbolTable.Numbers in
+    fieldWith Tag.Symbol (getD t at 0) (getD t (at + 1) 0) (getD t (at + 2) 0) (getD t (at + 3) 0)
 
 -- a record's own number, or n behind them
 unfoldable pub ownOr : ℕ → ℕ → ℕ → ℕ → ℕ

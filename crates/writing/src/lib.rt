@@ -3,7 +3,9 @@
 // Bytes go to an offset; past the end of the output nothing is stored.
 use fields::HEAD_BYTES;
 use fields::MOST_FIELD_BYTES;
+use fields::NUMBER_B;
 use fields::NUMBER_BYTES;
+use fields::NUMBER_C;
 use fields::SCOPE_BYTES;
 use fields::SETTINGS_BYTES;
 use fields::SYMBOL_BYTES;
@@ -12,6 +14,8 @@ use meaning::RecordId;
 use meaning::tag;
 use path::Walk;
 use tables::Row;
+use tables::scope;
+use tables::symbol;
 ghost use mathlib.Core.Path.{_≡_};
 ghost use mathlib.Core.List.{[], _∷_};
 ghost use Prim.Native.Nat.{_+_, _*_, _-_, _≤_};
@@ -21,16 +25,6 @@ ghost use lib.Seq.{sets};
 ghost use Rattle.meaning.specs.Tree.{if_then_else_};
 ghost use Rattle.meaning.specs.File.{headBytes, settingsBytes, twoBytes};
 ghost use Rattle.writing.specs.Writing.{mostBytes, mostFirst, mostTree, mostOffset, fieldWith, ownOr, scopeBytes, symbolBytes, recordBytes, rowsBytes, recordAt, fileBytes, lesserOf, pickOf, lastOf, numbersOver};
-
-// The numbers of a scope row and of a symbol row in the lent tables.
-const SCOPE_NUMBERS: usize = 2;
-
-const SYMBOL_NUMBERS: usize = 5;
-
-// Where the second and the third number of a field stand, from its tag on.
-const SECOND_AT: usize = HEAD_BYTES + NUMBER_BYTES;
-
-const THIRD_AT: usize = SECOND_AT + NUMBER_BYTES;
 
 // ---- fields
 
@@ -66,7 +60,7 @@ fn put_scopes(out: &mut [u8], scopes: &[u16], count: u16)
 {
     let mut k: u16 = 0;
     while k < count {
-        let at = (k as usize) * SCOPE_NUMBERS;
+        let at = (k as usize) * scope::NUMBERS;
         put_field(
             out,
             SETTINGS_BYTES + SCOPE_BYTES * (k as usize),
@@ -85,7 +79,7 @@ fn put_symbol(out: &mut [u8], to: usize, symbols: &[u16], k: u16)
     requires { ⌜ to ≤ mostOffset ⌝ }
     ensures { λ _. ⌜ now (out .exit) ≡ sets (now (out .entry)) to (symbolBytes (now (symbols .entry)) k) ⌝ }
 {
-    let at = (k as usize) * SYMBOL_NUMBERS;
+    let at = (k as usize) * symbol::NUMBERS;
     let name = tables::get(symbols, at);
     let flags = tables::get(symbols, at + 1);
     let scope = tables::get(symbols, at + 2);
@@ -207,8 +201,8 @@ fn last_number(at: usize, last: usize, children: bool, r: Row) -> u16
     ensures { λ v. ⌜ v ≡ lastOf children at last r ⌝ }
 {
     let n = r.n;
-    let third = pick(at + THIRD_AT, last, n, r.c);
-    let second = pick(at + SECOND_AT, last, third, r.b);
+    let third = pick(at + NUMBER_C, last, n, r.c);
+    let second = pick(at + NUMBER_B, last, third, r.b);
     either(children, n, pick(at + HEAD_BYTES, last, second, r.a))
 }
 
@@ -218,8 +212,8 @@ fn put_numbers(out: &mut [u8], at: usize, last: usize, children: bool, r: Row)
     ensures { λ _. ⌜ now (out .exit) ≡ numbersOver children at last r (now (out .entry)) ⌝ }
 {
     put_two_at(out, at + HEAD_BYTES, r.a);
-    put_two_at(out, lesser(at + SECOND_AT, last), r.b);
-    put_two_at(out, lesser(at + THIRD_AT, last), r.c);
+    put_two_at(out, lesser(at + NUMBER_B, last), r.b);
+    put_two_at(out, lesser(at + NUMBER_C, last), r.c);
     put_two_at(out, last, last_number(at, last, children, r));
 }
 
