@@ -47,7 +47,7 @@ use Rattle.tables.specs.declared.Row.{Row}
 use Rattle.representation.specs.Gap.Cells.{table, line, rowsOf, count-&, size-&}
 use Rattle.representation.specs.Gap.Rows.{length-snoc}
 use Rattle.table_laws.specs.Lists.TakeUp.{length-line}
-use Rattle.table_laws.specs.Lists.Plan.{cap-sum, parted, row-here, end-here, plan-eq}
+use Rattle.table_laws.specs.Lists.Plan.{cap-sum, parted, row-here, end-here}
 use Rattle.rewrite_items.specs.Kinds.{itemF, defaultItemF, defaultClassItemF, exportedItemF}
 use Rattle.rewrite_items.specs.declared.Item.{Item}
 use Rattle.rewrite_items.specs.declared.Item.the-variants.{Kept, DefaultClass, DefaultValue, ExportedClass, ExportedDeclaration}
@@ -182,6 +182,9 @@ items-size f st x =
     let (s, st′) = programItems f st in
     let scope = insertScopeBelow 0 (s .moved) st′ .0 in
     omega (arith, program-pays (hd 1 0 0 0) f st x .records, size-& (s .kept) (block scope (s .moved)))
+
+plan-eq : {i u m n i′ u′ m′ n′ : ℕ} → i ≡ i′ → u ≡ u′ → m ≡ m′ → n ≡ n′ → plan i u m n ≡ plan i′ u′ m′ n′
+plan-eq e₁ e₂ e₃ e₄ = λ i. plan (e₁ i) (e₂ i) (e₃ i) (e₄ i)
 
 module _ (z : List ℕ) where
   plan-law : (f : Forest) (st : Store) (a v : List Row) (u m n : ℕ) (t : List ℕ) → t ≡ table (a ++ (rowsOf f ++ v)) z
