@@ -30,7 +30,6 @@ use Rattle.checking.specs.Flat.{
   Past,
   entered,
   past,
-  refusalOf,
   enterF,
   addF,
   listF,
@@ -59,38 +58,38 @@ pub record-entered : (l : ℕ) (f : List ℕ) (scopes syms : ℕ) (p : Place) (u
     → o ≡ recordF l f scopes syms p u cur t at m
 record-entered l f scopes syms p u cur t at m e o enters after = rw (record-is l f scopes syms p u cur t at m, ← enters, after)
 
+-- or refused at once
+pub record-refused : (l : ℕ) (f : List ℕ) (scopes syms : ℕ) (p : Place) (u : Role) (cur : ℕ) (t : Tally) (at : ℕ) (m m₁ : List ℕ)
+    (d : Reading) (c q : ℕ) → entered d m₁ ≡ enterF f syms p cur at m → d ≡ RefusedField c q
+    → refused c q ≡ recordF l f scopes syms p u cur t at m
+unfolding afterF
+record-refused l f scopes syms p u cur t at m m₁ d c q enters e =
+    rw (record-is l f scopes syms p u cur t at m, ← enters, e)
+
 module _ (l : ℕ) (f : List ℕ) (scopes syms : ℕ) (p : Place) (u : Role) (cur : ℕ) (t : Tally) (at : ℕ) (m₁ : List ℕ)
-    (d : Reading) where
-  pub after-refused : (c q : ℕ) (a : Answer) (m₂ : List ℕ) → d ≡ RefusedField c q → a ≡ refusalOf d
-      → past a m₂ ≡ afterF l f scopes syms p u cur t at (entered d m₁)
+    (x : Field) where
+  pub after-deep : l ≡ 0 → refused 6 at ≡ afterF l f scopes syms p u cur t at (entered (Whole x) m₁)
   unfolding afterF
-  after-refused c q a m₂ e r =
-      let w : a ≡ RefusedAnswer c q = rw e at r in
-      rw (e, w)
+  after-deep z = rw z
 
-  pub after-deep : (x : Field) → d ≡ Whole x → l ≡ 0
-      → refused 6 at ≡ afterF l f scopes syms p u cur t at (entered d m₁)
-  unfolding afterF
-  after-deep x e z = rw (e, z)
-
-  module _ (x : Field) (a : Answer) (m₂ : List ℕ) (is-whole : d ≡ Whole x) (has-level : l ≡ 0 → ⊥)
+  module _ (a : Answer) (m₂ : List ℕ) (has-level : l ≡ 0 → ⊥)
       (inside : past a m₂ ≡ childrenF (l - 1) f scopes syms p u x (below cur (scopeOf (headOf x))) m₁) where
-    after-inside : afterF l f scopes syms p u cur t at (entered d m₁) ≡ past a m₂ >>= addedF f scopes syms u t x
+    after-inside : afterF l f scopes syms p u cur t at (entered (Whole x) m₁) ≡ past a m₂ >>= addedF f scopes syms u t x
     unfolding afterF
     after-inside =
         let s : l ≡ suc (l - 1) = omega arith in
         let k : kidsF l f scopes syms p u cur at x m₁ ≡ past a m₂ =
         subst (λ (n : ℕ). kidsF n f scopes syms p u cur at x m₁ ≡ past a m₂) (sym s) (sym inside) in
-        rw (is-whole, k)
+        rw k
 
     pub after-stop : (c q : ℕ) → a ≡ RefusedAnswer c q
-        → past a m₂ ≡ afterF l f scopes syms p u cur t at (entered d m₁)
+        → past a m₂ ≡ afterF l f scopes syms p u cur t at (entered (Whole x) m₁)
     after-stop c q e = rw (after-inside, e)
 
     pub after-fine : (q : ℕ) (kids : Tally) (inserted : Bool) (sum : Tally) → a ≡ Next q kids
         → inserted ≡ insertsIn (symbolsIn f syms (7 + 7 * scopes)) u (headOf x)
         → sum ≡ cap (t ⊞ cap (own u inserted (headOf x) (childrenOf x) kids))
-        → past (Next q sum) m₂ ≡ afterF l f scopes syms p u cur t at (entered d m₁)
+        → past (Next q sum) m₂ ≡ afterF l f scopes syms p u cur t at (entered (Whole x) m₁)
     after-fine q kids inserted sum e i r =
         let w : sum ≡ addF f scopes syms u x t kids =
         r ∙ ap (λ (b : Bool). cap (t ⊞ cap (own u b (headOf x) (childrenOf x) kids))) i in

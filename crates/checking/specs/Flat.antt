@@ -48,10 +48,6 @@ abbrev pub past : Answer → List ℕ → Outcome Past
 past (Next at t) m = accepted (record { next = at; marks = m; tally = t })
 past (RefusedAnswer c p) m = refused c p
 
-abbrev pub refusalOf : Reading → Answer
-refusalOf (WholeField x) = RefusedAnswer 0 0
-refusalOf (RefusedField c p) = RefusedAnswer c p
-
 -- ---- leaves: plain records without scope and children
 
 -- a field with this tag may stand here, and is whole with `len` bytes of numbers

@@ -30,7 +30,8 @@ ghost use Rattle.meaning.specs.Numbers.Tag;
 ghost use Rattle.meaning.specs.Reading.{scopeAt, symbolAt, mostRows, readScopes, readSymbols, readFile};
 ghost use Rattle.meaning.specs.Lowering.{checkFile, figuresOf};
 ghost use Rattle.figures.specs.Figures.{figuredOf};
-ghost use Rattle.checking.specs.Flat.{isWhole, expressionSize, mentionSize, leafSize, entered, enterF, refusalOf, past, recordF, childrenF, afterF, rowsRefusal, treeF, fileRefusal, fileRows, withRecords, runAnswer, rowsF, fileF, checkedOf};
+ghost use Rattle.meaning.specs.declared.Reading.the-variants.{Whole as WholeField};
+ghost use Rattle.checking.specs.Flat.{isWhole, expressionSize, mentionSize, leafSize, entered, enterF, past, recordF, childrenF, afterF, rowsRefusal, treeF, fileRefusal, fileRows, withRecords, runAnswer, rowsF, fileF, checkedOf};
 ghost use Rattle.checking.specs.Survey.{withFigures, surveyedOf};
 
 // A file holds so many bytes at most, and its records so many levels; more rows than such a file has.
@@ -53,6 +54,19 @@ const MENTION_SIZE: u32 = MENTION_BYTES as u32;
 enum Answer {
     Next(usize, Tally),
     Refused(u8, usize),
+}
+
+// Where a record stands: its place, what it is to the record around it, and the scope around it.
+struct Site {
+    place: Place,
+    role: Role,
+    scope: ScopeId,
+}
+
+// The offset behind what was checked, and the tally so far.
+struct Progress {
+    at: usize,
+    tally: Tally,
 }
 
 // How many scope and symbol rows a file has.
@@ -139,16 +153,6 @@ fn enter_record(
     read
 }
 
-// A refusal handed on; it is not called with a field.
-fn refusal(r: Reading) -> Answer
-    ensures { λ q. ⌜ q ≡ refusalOf r ⌝ }
-{
-    match r {
-        Reading::Whole(_) => Answer::Refused(0, 0),
-        Reading::Refused(c, p) => Answer::Refused(c, p),
-    }
-}
-
 // ---- leaves: plain records without scope and children, passed at once
 
 // A field with this tag may stand here, and is whole with `len` bytes of numbers; its tag is not looked at.
@@ -223,29 +227,27 @@ fn check_entered(
     file: &[u8],
     marks: &mut [u8],
     rows: RowCounts,
-    place: Place,
-    up: Role,
-    cur: ScopeId,
-    before: Tally,
-    at: usize,
+    site: Site,
+    done: Progress,
     levels: u16,
-    read: Reading,
+    x: Field,
 ) -> Answer
-    ensures { λ r. ⌜ past r (now (marks .exit)) ≡ afterF levels (now (file .entry)) (rows .scopes) (rows .symbols) place up (cur .0) before at (entered read (now (marks .entry))) ⌝ }
+    ensures { λ r. ⌜ past r (now (marks .exit)) ≡ afterF levels (now (file .entry)) (rows .scopes) (rows .symbols) (site .place) (site .role) (site .scope .0) (done .tally) (done .at) (entered (WholeField x) (now (marks .entry))) ⌝ }
 {
-    let Reading::Whole(x) = read else {
-        return refusal(read);
-    };
     if levels == 0 {
-        return Answer::Refused(refusal::TOO_DEEP, at);
+        return Answer::Refused(refusal::TOO_DEEP, done.at);
     }
-    let below = rules::scope_below(cur, rules::scope_in(x));
-    let inside = check_children(file, marks, rows, place, up, x, below, levels - 1);
+    let place = site.place;
+    let role = site.role;
+    let around = site.scope;
+    let scope = rules::scope_below(around, rules::scope_in(x));
+    let inside = check_children(file, marks, rows, Site { place, role, scope }, x, levels - 1);
     let Answer::Next(next, kids) = inside else {
         return inside;
     };
-    let inserted = tally::inserts(file, rows.scopes, rows.symbols, up, x);
-    Answer::Next(next, tally::add_record(before, up, inserted, x, kids))
+    let inserted = tally::inserts(file, rows.scopes, rows.symbols, role, x);
+    let before = done.tally;
+    Answer::Next(next, tally::add_record(before, role, inserted, x, kids))
 }
 
 // A record at a place that is no expression's.
@@ -253,17 +255,19 @@ fn check_statement(
     file: &[u8],
     marks: &mut [u8],
     rows: RowCounts,
-    place: Place,
-    up: Role,
-    cur: ScopeId,
-    before: Tally,
-    at: usize,
+    site: Site,
+    done: Progress,
     levels: u16,
 ) -> Answer
-    ensures { λ r. ⌜ past r (now (marks .exit)) ≡ recordF levels (now (file .entry)) (rows .scopes) (rows .symbols) place up (cur .0) before at (now (marks .entry)) ⌝ }
+    ensures { λ r. ⌜ past r (now (marks .exit)) ≡ recordF levels (now (file .entry)) (rows .scopes) (rows .symbols) (site .place) (site .role) (site .scope .0) (done .tally) (done .at) (now (marks .entry)) ⌝ }
 {
-    let read = enter_record(file, marks, rows.symbols as usize, place, cur, at);
-    check_entered(file, marks, rows, place, up, cur, before, at, levels, read)
+    let place = site.place;
+    let scope = site.scope;
+    let read = enter_record(file, marks, rows.symbols as usize, place, scope, done.at);
+    match read {
+        Reading::Whole(x) => check_entered(file, marks, rows, site, done, levels, x),
+        Reading::Refused(c, p) => Answer::Refused(c, p),
+    }
 }
 
 // An expression.
@@ -271,17 +275,19 @@ fn check_expression(
     file: &[u8],
     marks: &mut [u8],
     rows: RowCounts,
-    place: Place,
-    up: Role,
-    cur: ScopeId,
-    before: Tally,
-    at: usize,
+    site: Site,
+    done: Progress,
     levels: u16,
 ) -> Answer
-    ensures { λ r. ⌜ past r (now (marks .exit)) ≡ recordF levels (now (file .entry)) (rows .scopes) (rows .symbols) place up (cur .0) before at (now (marks .entry)) ⌝ }
+    ensures { λ r. ⌜ past r (now (marks .exit)) ≡ recordF levels (now (file .entry)) (rows .scopes) (rows .symbols) (site .place) (site .role) (site .scope .0) (done .tally) (done .at) (now (marks .entry)) ⌝ }
 {
-    let read = enter_record(file, marks, rows.symbols as usize, place, cur, at);
-    check_entered(file, marks, rows, place, up, cur, before, at, levels, read)
+    let place = site.place;
+    let scope = site.scope;
+    let read = enter_record(file, marks, rows.symbols as usize, place, scope, done.at);
+    match read {
+        Reading::Whole(x) => check_entered(file, marks, rows, site, done, levels, x),
+        Reading::Refused(c, p) => Answer::Refused(c, p),
+    }
 }
 
 // A child at its place.
@@ -289,64 +295,55 @@ fn check_child(
     file: &[u8],
     marks: &mut [u8],
     rows: RowCounts,
-    place: Place,
-    up: Role,
-    cur: ScopeId,
-    before: Tally,
-    at: usize,
+    site: Site,
+    done: Progress,
     levels: u16,
 ) -> Answer
-    ensures { λ r. ⌜ past r (now (marks .exit)) ≡ recordF levels (now (file .entry)) (rows .scopes) (rows .symbols) place up (cur .0) before at (now (marks .entry)) ⌝ }
+    ensures { λ r. ⌜ past r (now (marks .exit)) ≡ recordF levels (now (file .entry)) (rows .scopes) (rows .symbols) (site .place) (site .role) (site .scope .0) (done .tally) (done .at) (now (marks .entry)) ⌝ }
 {
-    let size = leaf_size(file, place, up, rows.symbols as usize, levels, at);
+    let place = site.place;
+    let role = site.role;
+    let size = leaf_size(file, place, role, rows.symbols as usize, levels, done.at);
     if size != 0 {
-        let next = at + (size as usize);
+        let next = done.at + (size as usize);
+        let before = done.tally;
         return Answer::Next(next, tally::add_leaf(before, size));
     }
     match place {
-        Place::Expression | Place::SwitchExpression => check_expression(
-            file,
-            marks,
-            rows,
-            place,
-            up,
-            cur,
-            before,
-            at,
-            levels,
-        ),
-        _ => check_statement(file, marks, rows, place, up, cur, before, at, levels),
+        Place::Expression | Place::SwitchExpression => {
+            check_expression(file, marks, rows, site, done, levels)
+        }
+        _ => check_statement(file, marks, rows, site, done, levels),
     }
 }
 
-// The children of a record at `place`, one after another.
+// The children of a record at `site`, one after another; the site's scope is that around the children.
 fn check_children(
     file: &[u8],
     marks: &mut [u8],
     rows: RowCounts,
-    place: Place,
-    up: Role,
+    site: Site,
     x: Field,
-    cur: ScopeId,
     levels: u16,
 ) -> Answer
-    ensures { λ r. ⌜ past r (now (marks .exit)) ≡ childrenF levels (now (file .entry)) (rows .scopes) (rows .symbols) place up x (cur .0) (now (marks .entry)) ⌝ }
+    ensures { λ r. ⌜ past r (now (marks .exit)) ≡ childrenF levels (now (file .entry)) (rows .scopes) (rows .symbols) (site .place) (site .role) x (site .scope .0) (now (marks .entry)) ⌝ }
 {
     let n = rules::children_of(x);
+    let around = site.place;
+    let role_around = site.role;
+    let scope = site.scope;
     let mut at = x.next;
     let mut t = tally::no_tally();
     let mut k: u16 = 0;
     while k < n {
-        let here = rules::place_of(place, x, k);
+        let place = rules::place_of(around, x, k);
+        let role = tally::role_in(file, role_around, x, k);
         let a = check_child(
             file,
             marks,
             rows,
-            here,
-            tally::role_in(file, up, x, k),
-            cur,
-            t,
-            at,
+            Site { place, role, scope },
+            Progress { at, tally: t },
             levels,
         );
         let Answer::Next(next, sum) = a else {
@@ -471,17 +468,13 @@ fn check_tree(file: &[u8], marks: &mut [u8], rows: RowCounts, at: usize) -> Answ
     requires { ⌜ length (now marks) ≤ mostRows ⌝ }
     ensures { λ r. ⌜ r ≡ treeF (now (file .entry)) (rows .scopes) (rows .symbols) at (now (marks .entry)) ⌝ }
 {
-    let a = check_statement(
-        file,
-        marks,
-        rows,
-        Place::Program,
-        Role::Plain,
-        ScopeId(0),
-        tally::no_tally(),
-        at,
-        MOST_LEVELS,
-    );
+    let site = Site {
+        place: Place::Program,
+        role: Role::Plain,
+        scope: ScopeId(0),
+    };
+    let tally = tally::no_tally();
+    let a = check_statement(file, marks, rows, site, Progress { at, tally }, MOST_LEVELS);
     let Answer::Next(next, t) = a else {
         return a;
     };

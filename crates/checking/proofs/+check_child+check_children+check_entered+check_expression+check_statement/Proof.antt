@@ -8,7 +8,7 @@ use borrow.Author.Needs.{needs}
 use Rattle.meaning.specs.Grammar.{placeOf}
 use Rattle.checking.specs.Flat.{upsF, listF, recordF, childrenF}
 use Rattle.checking.proofs.Leaf.{leaf-inside, leaf-fine}
-use Rattle.checking.proofs.Laws.{record-entered, after-refused, after-deep, after-stop, after-fine, list-step, list-stop, list-end}
+use Rattle.checking.proofs.Laws.{record-entered, record-refused, after-deep, after-stop, after-fine, list-step, list-stop, list-end}
 use borrow.Fn.Kinds.{In}
 use borrow.Fn.PlainCycle.{Measures, is, falls, and}
 use Rattle.checking.proofs.check_child.Reads as check-child
@@ -28,7 +28,6 @@ use Rattle.checking.proofs.check_statement.Kinds as check-statement-kin
 use Rattle.checking.proofs.+check_child+check_children+check_entered+check_expression+check_statement.Lts-check_statement as check-statement-lts
 use Rattle.checking.proofs.enter_record.Reads as enter-record-reads
 use Rattle.checking.proofs.leaf_size.Reads as leaf-size-reads
-use Rattle.checking.proofs.refusal.Reads as refusal-reads
 use Rattle.rules.proofs.children_of.Reads as children-of-reads
 use Rattle.rules.proofs.place_of.Reads as place-of-reads
 use Rattle.rules.proofs.scope_in.Reads as scope-in-reads
@@ -44,19 +43,19 @@ use Rattle.checking.proofs.+check_child+check_children+check_entered+ch
 -- an entered record hands its children a level less; a list asks for its children, a child for its record, and a record for
 -- what is left of it, with the same levels
 abbrev μ-check-child : Measures 2 check-child-kinds.ps ℕ
-μ-check-child κs a = 4 * a .1 .1 .1 .1 .1 .1 .1 .1 .0 + 2
+μ-check-child κs a = 4 * a .1 .1 .1 .1 .1 .0 + 2
 
 abbrev μ-check-children : Measures 2 check-children-kinds.ps ℕ
-μ-check-children κs a = 4 * a .1 .1 .1 .1 .1 .1 .1 .0 + 3
+μ-check-children κs a = 4 * a .1 .1 .1 .1 .1 .0 + 3
 
 abbrev μ-check-entered : Measures 2 check-entered-kinds.ps ℕ
-μ-check-entered κs a = 4 * a .1 .1 .1 .1 .1 .1 .1 .1 .0
+μ-check-entered κs a = 4 * a .1 .1 .1 .1 .1 .0
 
 abbrev μ-check-expression : Measures 2 check-expression-kinds.ps ℕ
-μ-check-expression κs a = 4 * a .1 .1 .1 .1 .1 .1 .1 .1 .0 + 1
+μ-check-expression κs a = 4 * a .1 .1 .1 .1 .1 .0 + 1
 
 abbrev μ-check-statement : Measures 2 check-statement-kinds.ps ℕ
-μ-check-statement κs a = 4 * a .1 .1 .1 .1 .1 .1 .1 .1 .0 + 1
+μ-check-statement κs a = 4 * a .1 .1 .1 .1 .1 .0 + 1
 
 -- what each is given at the measure t, and what a call of it asks below t
 abbrev check-child-at : ℕ → In 2 check-child-kinds.ps
@@ -118,8 +117,6 @@ check-children-calls t = (
 
 abbrev check-entered-calls : ℕ → check-entered-lts.Claims
 check-entered-calls t = (
-  refusal-reads.Asked,
-  refusal-reads.Learnt,
   scope-in-reads.Asked,
   scope-in-reads.Learnt,
   scope-below-reads.Asked,
@@ -151,14 +148,15 @@ check-statement-calls t = (
 check-child-add-next : (t : ℕ)
     → check-child-lts.Need-add-next (check-child-calls t) (check-child-at t) check-child.Post
 check-child-add-next t c =
-    let at-leaf-size = c .before in
-    let fits = leaf-inside _ _ _ _ _ _ _ (at-leaf-size .leaf-size .ensures) (c .if1 .taken) in
+    let at-if1 = c .before in
+    let at-leaf-size = at-if1 .before in
+    let fits = leaf-inside _ _ _ _ _ _ _ (at-leaf-size .leaf-size .ensures) (at-if1 .if1 .taken) in
     omega arith
 
 check-child-returns : (t : ℕ)
     → check-child-lts.Need-returns (check-child-calls t) (check-child-at t) check-child.Post
 check-child-returns t c =
-    let at-if1 = c .before in
+    let at-if1 = c .before .before .before in
     let at-leaf-size = at-if1 .before in
     leaf-fine _ _ _ _ _ _ _ (at-leaf-size .leaf-size .ensures) (at-if1 .if1 .taken) _ _ _ _ _ (c .add-leaf .ensures)
 
@@ -171,22 +169,22 @@ check-child-returns-3 : (t : ℕ)
 check-child-returns-3 t c = c .before .before .check-statement .ensures
 
 abbrev check-children-Inv-loop : check-children-lts.InvT-loop
-check-children-Inv-loop file marks₀ rows place up x cur levels n at₀ t₀ k₀ marks at t k =
+check-children-Inv-loop file marks₀ rows x levels n around role scope at₀ t₀ k₀ marks at t k =
     (k ≤ n) × (length marks ≡ length marks₀)
-    × (childrenF levels file (rows .scopes) (rows .symbols) place up x (cur .0) marks₀
+    × (childrenF levels file (rows .scopes) (rows .symbols) around role x (scope .0) marks₀
     ≡ listF
-    (λ j s a m. recordF levels file (rows .scopes) (rows .symbols) (placeOf place x j) (upsF file up x j) (cur .0) s a m)
+    (λ j s a m. recordF levels file (rows .scopes) (rows .symbols) (placeOf around x j) (upsF file role x j) (scope .0) s a m)
     (n - k) k t at marks)
 
 abbrev check-children-μ-loop : check-children-lts.MeasureT-loop
-check-children-μ-loop file marks₀ rows place up x cur levels n at₀ t₀ k₀ marks at t k = n - k
+check-children-μ-loop file marks₀ rows x levels n around role scope at₀ t₀ k₀ marks at t k = n - k
 
 check-children-loop-holds : (t : ℕ)
     → check-children-lts.Need-loop-holds (check-children-calls t) (check-children-at t) check-children.Post
     check-children-Inv-loop check-children-μ-loop
 unfolding childrenF
 check-children-loop-holds t c =
-    let at-children-of = c .before in
+    let at-children-of = c .before .before in
     (search needs, refl, rw (at-children-of .children-of .ensures, c .no-tally .ensures, sub-zero))
 
 check-children-same-length : (t : ℕ)
@@ -202,8 +200,8 @@ check-children-returns : (t : ℕ)
     check-children-Inv-loop check-children-μ-loop
 check-children-returns t c =
     let at-check-child = c .before .before .before .before in
-    let at-role-in = at-check-child .before in
-    let at-place-of = at-role-in .before .before in
+    let at-role-in = at-check-child .before .before in
+    let at-place-of = at-role-in .before in
     let at-loop-test = at-place-of .before in
     let at-loop = at-loop-test .before in
     list-stop _ _ _ _ _ _ _ (at-loop .loop .inv .2) _ _ _ _ (at-loop-test .loop-test .taken)
@@ -216,8 +214,8 @@ check-children-loop-again : (t : ℕ)
 check-children-loop-again t c =
     let at-a = c .before in
     let at-check-child = at-a .before .before .before .before in
-    let at-role-in = at-check-child .before in
-    let at-place-of = at-role-in .before .before in
+    let at-role-in = at-check-child .before .before in
+    let at-place-of = at-role-in .before in
     let at-loop-test = at-place-of .before in
     let at-loop = at-loop-test .before in (
       search needs,
@@ -236,40 +234,30 @@ check-children-returns-2 t c =
 
 check-entered-returns : (t : ℕ)
     → check-entered-lts.Need-returns (check-entered-calls t) (check-entered-at t) check-entered.Post
-check-entered-returns t c =
-    let at-enum-told = c .before in
-    after-refused _ _ _ _ _ _ _ _ _ _ _ _ _ _ _ (at-enum-told .enum-told .given .1) (c .refusal .ensures)
+check-entered-returns t c = after-deep _ _ _ _ _ _ _ _ _ _ _ (c .if1 .taken)
 
 check-entered-returns-2 : (t : ℕ)
     → check-entered-lts.Need-returns-2 (check-entered-calls t) (check-entered-at t) check-entered.Post
 check-entered-returns-2 t c =
-    let at-read = c .before .before in
-    after-deep _ _ _ _ _ _ _ _ _ _ _ _ (at-read .read .given .1) (c .if1 .taken)
+    let at-check-children = c .before .before .before .before in
+    let at-scope-below = at-check-children .before .before in
+    let at-scope-in = at-scope-below .before in
+    let at-if1 = at-scope-in .before .before in
+    after-stop _ _ _ _ _ _ _ _ _ _ _ (at-check-children .check-children .result) _
+    (at-if1 .if1 .left)
+    (rw (← at-scope-in .scope-in .ensures, ← at-scope-below .scope-below .ensures)
+    (at-check-children .check-children .ensures)) _ _ (c .enum-told .given .1)
 
 check-entered-returns-3 : (t : ℕ)
     → check-entered-lts.Need-returns-3 (check-entered-calls t) (check-entered-at t) check-entered.Post
 check-entered-returns-3 t c =
-    let at-check-children = c .before .before .before .before in
-    let at-scope-below = at-check-children .before .before in
-    let at-scope-in = at-scope-below .before in
-    let at-if1 = at-scope-in .before in
-    let at-read = at-if1 .before .before in
-    after-stop _ _ _ _ _ _ _ _ _ _ _ _ (at-check-children .check-children .result) _ (at-read .read .given .1)
-    (at-if1 .if1 .left)
-    (rw (← at-scope-in .scope-in .ensures, ← at-scope-below .scope-below .ensures)
-    (at-check-children .check-children .ensures)) _ _ (c .enum-told2 .given .1)
-
-check-entered-returns-4 : (t : ℕ)
-    → check-entered-lts.Need-returns-4 (check-entered-calls t) (check-entered-at t) check-entered.Post
-check-entered-returns-4 t c =
-    let at-inserts = c .before in
+    let at-inserts = c .before .before in
     let at-inside = at-inserts .before .before in
     let at-check-children = at-inside .before .before .before .before in
     let at-scope-below = at-check-children .before .before in
     let at-scope-in = at-scope-below .before in
-    let at-if1 = at-scope-in .before in
-    let at-read = at-if1 .before .before in
-    after-fine _ _ _ _ _ _ _ _ _ _ _ _ (at-check-children .check-children .result) _ (at-read .read .given .1)
+    let at-if1 = at-scope-in .before .before in
+    after-fine _ _ _ _ _ _ _ _ _ _ _ (at-check-children .check-children .result) _
     (at-if1 .if1 .left)
     (rw (← at-scope-in .scope-in .ensures, ← at-scope-below .scope-below .ensures)
     (at-check-children .check-children .ensures)) _ _ _ _ (at-inside .inside .given .1) (at-inserts .inserts .ensures)
@@ -279,31 +267,47 @@ check-expression-same-length : (t : ℕ)
     → check-expression-lts.Need-same-length (check-expression-calls t) (check-expression-at t) check-expression.Post
 check-expression-same-length t c =
     let at-check-entered = c .before .before in
-    let at-enter-record = at-check-entered .before .before .before .before in
+    let at-enter-record = at-check-entered .before .before .before .before .before .before .before in
     at-check-entered .check-entered .kept .1 .0 ∙ at-enter-record .enter-record .kept .1 .0
 
 check-expression-returns : (t : ℕ)
     → check-expression-lts.Need-returns (check-expression-calls t) (check-expression-at t) check-expression.Post
 check-expression-returns t c =
     let at-check-entered = c .before .before in
-    let at-enter-record = at-check-entered .before .before .before .before in
-    record-entered _ _ _ _ _ _ _ _ _ _ _ _ (at-enter-record .enter-record .ensures)
+    let at-read = at-check-entered .before .before .before in
+    let at-enter-record = at-read .before .before .before .before in
+    record-entered _ _ _ _ _ _ _ _ _ _ _ _ (rw (at-read .read .given .1) at (at-enter-record .enter-record .ensures))
     (at-check-entered .check-entered .ensures)
+
+check-expression-returns-2 : (t : ℕ)
+    → check-expression-lts.Need-returns-2 (check-expression-calls t) (check-expression-at t) check-expression.Post
+check-expression-returns-2 t c =
+    let at-read2 = c .before in
+    let at-enter-record = at-read2 .before .before .before .before in
+    record-refused _ _ _ _ _ _ _ _ _ _ _ _ _ _ (at-enter-record .enter-record .ensures) (at-read2 .read2 .given .1)
 
 check-statement-same-length : (t : ℕ)
     → check-statement-lts.Need-same-length (check-statement-calls t) (check-statement-at t) check-statement.Post
 check-statement-same-length t c =
     let at-check-entered = c .before .before in
-    let at-enter-record = at-check-entered .before .before .before .before in
+    let at-enter-record = at-check-entered .before .before .before .before .before .before .before in
     at-check-entered .check-entered .kept .1 .0 ∙ at-enter-record .enter-record .kept .1 .0
 
 check-statement-returns : (t : ℕ)
     → check-statement-lts.Need-returns (check-statement-calls t) (check-statement-at t) check-statement.Post
 check-statement-returns t c =
     let at-check-entered = c .before .before in
-    let at-enter-record = at-check-entered .before .before .before .before in
-    record-entered _ _ _ _ _ _ _ _ _ _ _ _ (at-enter-record .enter-record .ensures)
+    let at-read = at-check-entered .before .before .before in
+    let at-enter-record = at-read .before .before .before .before in
+    record-entered _ _ _ _ _ _ _ _ _ _ _ _ (rw (at-read .read .given .1) at (at-enter-record .enter-record .ensures))
     (at-check-entered .check-entered .ensures)
+
+check-statement-returns-2 : (t : ℕ)
+    → check-statement-lts.Need-returns-2 (check-statement-calls t) (check-statement-at t) check-statement.Post
+check-statement-returns-2 t c =
+    let at-read2 = c .before in
+    let at-enter-record = at-read2 .before .before .before .before in
+    record-refused _ _ _ _ _ _ _ _ _ _ _ _ _ _ (at-enter-record .enter-record .ensures) (at-read2 .read2 .given .1)
 
 pub +check-child+check-children+check-entered+check-expression+check-statement-spec : {M : Type 1} → statement M
 +check-child+check-children+check-entered+check-expression+check-statement-spec =
@@ -314,8 +318,8 @@ pub +check-child+check-children+check-entered+check-expression+check-statement-s
     (λ t. check-children-lts.spec (check-children-calls t) (check-children-at t) check-children.Post
     check-children-Inv-loop check-children-μ-loop (λ c κs. search needs) (λ c κs. search needs) (check-children-loop-holds t) (λ c κs. search needs) (λ c κs. search needs) (λ c κs. search needs) (λ c. search needs) (λ c. search needs) (check-children-same-length t) (check-children-returns t) (λ c. search needs) (λ c. search needs) (check-children-loop-again t) (λ c. search needs) (check-children-returns-2 t))
     (λ t. check-entered-lts.spec (check-entered-calls t) (check-entered-at t) check-entered.Post
-    (λ c. search needs) (λ c. search needs) (λ c κs. search needs) (check-entered-returns t) (check-entered-returns-2 t) (λ c κs. search needs) (λ c κs. search needs) (λ c. search needs) (λ c κs. search needs) (λ c. search needs) (λ c. search needs) (λ c. search needs) (check-entered-returns-3 t) (λ c κs. search needs) (λ c κs. search needs) (λ c. search needs) (check-entered-returns-4 t))
+    (check-entered-returns t) (λ c κs. search needs) (λ c κs. search needs) (λ c. search needs) (λ c κs. search needs) (λ c. search needs) (λ c. search needs) (λ c. search needs) (check-entered-returns-2 t) (λ c κs. search needs) (λ c κs. search needs) (λ c. search needs) (check-entered-returns-3 t))
     (λ t. check-expression-lts.spec (check-expression-calls t) (check-expression-at t) check-expression.Post
-    (λ c. search needs) (λ c κs. search needs) (λ c κs. search needs) (check-expression-same-length t) (check-expression-returns t))
+    (λ c. search needs) (λ c κs. search needs) (λ c. search needs) (λ c κs. search needs) (λ c. search needs) (check-expression-same-length t) (check-expression-returns t) (λ c. search needs) (check-expression-returns-2 t))
     (λ t. check-statement-lts.spec (check-statement-calls t) (check-statement-at t) check-statement.Post
-    (λ c. search needs) (λ c κs. search needs) (λ c κs. search needs) (check-statement-same-length t) (check-statement-returns t))
+    (λ c. search needs) (λ c κs. search needs) (λ c. search needs) (λ c κs. search needs) (λ c. search needs) (check-statement-same-length t) (check-statement-returns t) (λ c. search needs) (check-statement-returns-2 t))

@@ -7,7 +7,7 @@ use Rattle.checking.proofs.check_tree.Tie as tie
 returns : tie.Need-returns
 returns c =
     let at-check-statement = c .before .before .before .before in
-    let at-no-tally = at-check-statement .before in
+    let at-no-tally = at-check-statement .before .before in
     tree-refused _ _ _ _ _ _ _ _ (at-no-tally .no-tally .ensures) (at-check-statement .check-statement .ensures) _ _
     (c .enum-told .given .1)
 
@@ -15,7 +15,7 @@ returns-2 : tie.Need-returns-2
 returns-2 c =
     let at-a = c .before .before in
     let at-check-statement = at-a .before .before .before .before in
-    let at-no-tally = at-check-statement .before in
+    let at-no-tally = at-check-statement .before .before in
     tree-more _ _ _ _ _ _ _ _ (at-no-tally .no-tally .ensures) (at-check-statement .check-statement .ensures) _ _
     (at-a .a .given .1) (c .if1 .taken)
 
@@ -25,7 +25,7 @@ returns-3 c =
     let at-if1 = at-first-unnamed .before .before in
     let at-a = at-if1 .before .before in
     let at-check-statement = at-a .before .before .before .before in
-    let at-no-tally = at-check-statement .before in
+    let at-no-tally = at-check-statement .before .before in
     tree-unnamed _ _ _ _ _ _ _ _ (at-no-tally .no-tally .ensures) (at-check-statement .check-statement .ensures) _ _
     (at-a .a .given .1) _ (at-if1 .if1 .left) (at-first-unnamed .first-unnamed .ensures)
     (at-check-statement .check-statement .kept .1 .0) (c .if2 .taken)
@@ -36,7 +36,7 @@ returns-4 c =
     let at-if1 = at-first-unnamed .before .before in
     let at-a = at-if1 .before .before in
     let at-check-statement = at-a .before .before .before .before in
-    let at-no-tally = at-check-statement .before in
+    let at-no-tally = at-check-statement .before .before in
     tree-fine _ _ _ _ _ _ _ _ (at-no-tally .no-tally .ensures) (at-check-statement .check-statement .ensures) _ _
     (at-a .a .given .1) _ (at-if1 .if1 .left) (at-first-unnamed .first-unnamed .ensures)
     (at-check-statement .check-statement .kept .1 .0) (c .if2 .left)
