@@ -1,9 +1,4 @@
 // Checking a tree file on its bytes, and the figures of what it is lowered to.
-use figures::Figured;
-use figures::FinalFigures;
-use figures::tally;
-use figures::tally::Role;
-use figures::tally::Tally;
 use fields::EXPRESSION_BYTES;
 use fields::HEAD_BYTES;
 use fields::MENTION_BYTES;
@@ -11,6 +6,11 @@ use fields::NUMBER_A;
 use fields::NUMBER_B;
 use fields::SCOPE_BYTES;
 use fields::SETTINGS_BYTES;
+use figures::Figured;
+use figures::FinalFigures;
+use figures::tally;
+use figures::tally::Role;
+use figures::tally::Tally;
 use meaning::Field;
 use meaning::Place;
 use meaning::Reading;
@@ -241,7 +241,14 @@ fn check_entered(
     let role = site.role;
     let around = site.scope;
     let scope = rules::scope_below(around, rules::scope_in(x));
-    let inside = check_children(file, marks, rows, Site { place, role, scope }, x, levels - 1);
+    let inside = check_children(
+        file,
+        marks,
+        rows,
+        Site { place, role, scope },
+        x,
+        levels - 1,
+    );
     let Answer::Next(next, kids) = inside else {
         return inside;
     };

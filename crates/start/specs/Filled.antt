@@ -83,9 +83,10 @@ module _ (b : List ℕ) (f : File) (q : ParsedFile b f)
     (fits : (finalFigures f .records ≤ 65535) × (finalFigures f .scopes ≤ 65535) × (finalFigures f .symbols ≤ 65535)) where
   -- where its layout says that the symbol rows and Program stand
   offsets : (layoutOf f .first ≡ q .first) × (layoutOf f .tree ≡ q .root)
-  offsets =
-      (omega (arith, q .scopes-many, q .scope-rows .next-is),
-      omega (arith, q .scopes-many, q .symbols-many, q .scope-rows .next-is, q .symbol-rows .next-is))
+  offsets = (
+    omega (arith, q .scopes-many, q .scope-rows .next-is),
+    omega (arith, q .scopes-many, q .symbols-many, q .scope-rows .next-is, q .symbol-rows .next-is),
+  )
 
   fill-is : (r s y : List ℕ) → finalFigures f .records ≤ length r / 7 → finalFigures f .scopes ≤ length s / 2
       → finalFigures f .symbols ≤ length y / 5
