@@ -107,7 +107,8 @@ never-nine false out p e = let z : _≡_ {A = ℕ} 10 9 = cc in omega arith
 
 -- a file that is admitted is written
 first-written : (a : Outcome File) (c p : ℕ)
-    → (a >>= (λ f. accepted (record { file = written (fileAt (lastSpot f)); figures = finalFigures f }))) ≡ refused c p → a ≡ refused c p
+    → _>>=_ {B = Written} a (λ f. accepted (record { file = written (fileAt (lastSpot f)); figures = finalFigures f })) ≡ refused c p
+    → a ≡ refused c p
 first-written (accepted f) c p e = absurd (taken-refused _ c p e)
 first-written (refused c₀ p₀) c p e = cc
 
