@@ -26,7 +26,7 @@ use Rattle.figures.specs.declared.tally.Role.the-variants.{Plain}
 use Rattle.checking.specs.declared.Layout.{Layout}
 use Rattle.checking.specs.declared.Whole.{Whole}
 use Rattle.checking.specs.declared.Whole.the-variants.{Accepted, Refused as RefusedFile}
-use Rattle.checking.specs.Flat.{Past, listF, recordF, runAnswer, endF, answerOf, treeF, layout, withRecords, byRows, byField, rowsF, fileF}
+use Rattle.checking.specs.Flat.{Past, listF, recordF, runAnswer, endF, answerOf, treeF, layout, withRecords, byRows, byField, symbolsF, rowsF, settingsF, fileF}
 use Rattle.checking.specs.Survey.{layoutOf}
 use Rattle.checking.proofs.Cap.{none-⊞}
 use Rattle.checking.proofs.Link.{forget, asRead, link-forest}
@@ -149,7 +149,7 @@ file-is f s n at syms at₂ k h es en ey =
     made-is f s n syms at at₂ k (omega (arith, x .0, x .1)) (x .0) (omega (arith, x .0, y .0, y .1))
 
 pub whole-is : (f : List ℕ) → wholeOf (readFile f) ≡ fileF f
-unfolding readFile fileF rowsF treeF
+unfolding readFile fileF settingsF rowsF symbolsF treeF
 whole-is f =
     by-size (leb (length f) 65535) _ _ (λ short.
     by-field (fieldAt f Settings 0) _ _ (λ s es.

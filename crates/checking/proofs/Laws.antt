@@ -38,7 +38,6 @@ use Rattle.checking.specs.Flat.{
   kidsF,
   addedF,
   afterF,
-  rowsRefusal,
   answerOf,
   endF,
   treeF,
@@ -140,14 +139,13 @@ module _ (again : ℕ → ℕ → Bool) (one : ℕ → ℕ → Reading) (n k at 
       let s : n - k ≡ suc (n - (k + 1)) = omega arith in
       rw (s, ← eb, bt, ← ed, dw) at so-far
 
-  pub rows-bad : (b : Bool) (d : Reading) (c p : ℕ) (q : Rows) → k < n → b ≡ again k at → b ≡ true → d ≡ one k at
-      → d ≡ RefusedField c p → q ≡ rowsRefusal d → q ≡ r
+  pub rows-bad : (b : Bool) (d : Reading) (c p : ℕ) → k < n → b ≡ again k at → b ≡ true → d ≡ one k at → d ≡ RefusedField c p
+      → RefusedRows c p ≡ r
   unfolding readRows
-  rows-bad b d c p q h eb bt ed dw eq =
+  rows-bad b d c p h eb bt ed dw =
       let s : n - k ≡ suc (n - (k + 1)) = omega arith in
       let w : r ≡ RefusedRows c p = rw (s, ← eb, bt, ← ed, dw) at so-far in
-      let v : q ≡ RefusedRows c p = rw dw at eq in
-      v ∙ sym w
+      sym w
 
   pub rows-end : n ≤ k → Read k at ≡ r
   unfolding readRows

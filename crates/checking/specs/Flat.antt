@@ -5,9 +5,11 @@ use mathlib.Core.Bool.{Bool, not, _&&_}
 use mathlib.Core.List.{List}
 use lib.Dec.{eqb, leb}
 use lib.ListN.{getD, length, replicate}
+use Rattle.meaning.specs.Numbers.Mode
+use Rattle.meaning.specs.Numbers.Refusal
 use Rattle.meaning.specs.Tree.{if_then_else_}
 use Rattle.meaning.specs.Grammar.{allowed, two, fieldAt, isRow, right, scopeOf, below, childrenOf, placeOf, headOf, mayName, naming, unnamed}
-use Rattle.meaning.specs.Reading.{Outcome, accepted, refused, _>>=_, _>>_, ensure, field, symbolsIn, readScopes, readSymbols}
+use Rattle.meaning.specs.Reading.{Outcome, accepted, refused, _>>=_, _>>_, ensure, field, symbolsIn, readScopes, readSymbols, mostBytes}
 use Rattle.meaning.specs.declared.Place.{Place}
 use Rattle.meaning.specs.declared.Place.the-variants.{Settings, Program}
 use Rattle.meaning.specs.declared.Field.{Field}
@@ -141,18 +143,6 @@ afterF l f scopes syms p u cur t at o = do
 
 -- ---- the whole file
 
-abbrev pub rowsRefusal : Reading → Rows
-rowsRefusal (WholeField x) = RefusedRows 0 0
-rowsRefusal (RefusedField c p) = RefusedRows c p
-
-abbrev pub fileRefusal : Reading → Whole
-fileRefusal (WholeField x) = RefusedFile 0 0
-fileRefusal (RefusedField c p) = RefusedFile c p
-
-abbrev pub fileRows : Rows → Whole
-fileRows (Read k at) = RefusedFile 0 0
-fileRows (RefusedRows c p) = RefusedFile c p
-
 -- before the records are counted
 abbrev pub layout : Field → ℕ → ℕ → ℕ → ℕ → Layout
 layout s scopes symbols first tree =
@@ -197,18 +187,20 @@ abbrev pub byField : Reading → (Field → Whole) → Whole
 byField (WholeField x) g = g x
 byField (RefusedField c p) g = RefusedFile c p
 
--- the rows behind the settings, and the tree
+-- the symbol rows and the tree behind so many scope rows; the rows behind the settings; the settings
+unfoldable pub symbolsF : List ℕ → Field → ℕ → ℕ → Whole
+symbolsF f s n at = byRows (readSymbols f n at) (λ syms at₂. runAnswer (layout s n syms at at₂) (treeF f n syms at₂ (replicate n 0)))
+
 unfoldable pub rowsF : List ℕ → Field → Whole
-rowsF f s =
-    byRows (readScopes f (s .next)) (λ n at.
-    byRows (readSymbols f n at) (λ syms at₂. runAnswer (layout s n syms at at₂) (treeF f n syms at₂ (replicate n 0))))
+rowsF f s = byRows (readScopes f (s .next)) (symbolsF f s)
+
+unfoldable pub settingsF : List ℕ → Field → Whole
+settingsF f s =
+    if leb (s .a) Mode.Inline then (if leb (s .b) 1 then rowsF f s else RefusedFile Refusal.WrongNumber 0)
+    else RefusedFile Refusal.WrongNumber 0
 
 unfoldable pub fileF : List ℕ → Whole
-fileF f =
-    if leb (length f) 65535
-    then byField (fieldAt f Settings 0) (λ s.
-    if leb (s .a) 2 then (if leb (s .b) 1 then rowsF f s else RefusedFile 5 0) else RefusedFile 5 0)
-    else RefusedFile 1 65535
+fileF f = if leb (length f) mostBytes then byField (fieldAt f Settings 0) (settingsF f) else RefusedFile Refusal.TooLong mostBytes
 
 -- 01's answer of a check
 abbrev pub checkedOf : {A : Type 0} → Outcome A → Checked

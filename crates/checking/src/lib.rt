@@ -31,7 +31,7 @@ ghost use Rattle.meaning.specs.Reading.{scopeAt, symbolAt, mostRows, readScopes
 ghost use Rattle.meaning.specs.Lowering.{checkFile, figuresOf};
 ghost use Rattle.figures.specs.Figures.{figuredOf};
 ghost use Rattle.meaning.specs.declared.Reading.the-variants.{Whole as WholeField};
-ghost use Rattle.checking.specs.Flat.{isWhole, expressionSize, mentionSize, leafSize, entered, enterF, past, recordF, childrenF, afterF, rowsRefusal, treeF, fileRefusal, fileRows, withRecords, runAnswer, rowsF, fileF, checkedOf};
+ghost use Rattle.checking.specs.Flat.{isWhole, expressionSize, mentionSize, leafSize, entered, enterF, past, recordF, childrenF, afterF, treeF, withRecords, runAnswer, symbolsF, rowsF, settingsF, fileF, checkedOf};
 ghost use Rattle.checking.specs.Survey.{withFigures, surveyedOf};
 
 // A file holds so many bytes at most, and its records so many levels; more rows than such a file has.
@@ -365,15 +365,6 @@ fn check_children(
 
 // ---- the rows before the tree
 
-fn rows_refusal(r: Reading) -> Rows
-    ensures { λ q. ⌜ q ≡ rowsRefusal r ⌝ }
-{
-    match r {
-        Reading::Whole(_) => Rows::Refused(0, 0),
-        Reading::Refused(c, p) => Rows::Refused(c, p),
-    }
-}
-
 // Scope row k, counted from 0.
 fn read_scope(file: &[u8], k: usize, at: usize) -> Reading
     ensures { λ r. ⌜ r ≡ scopeAt (now (file .entry)) k at ⌝ }
@@ -426,11 +417,15 @@ pub fn read_scopes(file: &[u8], from: usize) -> Rows
             return Rows::Read(k, at);
         }
         let read = read_scope(file, k, at);
-        let Reading::Whole(x) = read else {
-            return rows_refusal(read);
-        };
-        at = x.next;
-        k += 1;
+        match read {
+            Reading::Whole(x) => {
+                at = x.next;
+                k += 1;
+            }
+            Reading::Refused(c, p) => {
+                return Rows::Refused(c, p);
+            }
+        }
     }
     Rows::Read(k, at)
 }
@@ -445,11 +440,15 @@ pub fn read_symbols(file: &[u8], scopes: usize, from: usize) -> Rows
             return Rows::Read(k, at);
         }
         let read = read_symbol(file, scopes, at);
-        let Reading::Whole(x) = read else {
-            return rows_refusal(read);
-        };
-        at = x.next;
-        k += 1;
+        match read {
+            Reading::Whole(x) => {
+                at = x.next;
+                k += 1;
+            }
+            Reading::Refused(c, p) => {
+                return Rows::Refused(c, p);
+            }
+        }
     }
     Rows::Read(k, at)
 }
@@ -505,24 +504,6 @@ fn check_unmarked(file: &[u8], rows: RowCounts, at: usize) -> Answer
     check_tree(file, &mut marks[..scopes], rows, at)
 }
 
-fn file_refusal(r: Reading) -> Whole
-    ensures { λ q. ⌜ q ≡ fileRefusal r ⌝ }
-{
-    match r {
-        Reading::Whole(_) => Whole::Refused(0, 0),
-        Reading::Refused(c, p) => Whole::Refused(c, p),
-    }
-}
-
-fn rows_refused(r: Rows) -> Whole
-    ensures { λ q. ⌜ q ≡ fileRows r ⌝ }
-{
-    match r {
-        Rows::Read(_, _) => Whole::Refused(0, 0),
-        Rows::Refused(c, p) => Whole::Refused(c, p),
-    }
-}
-
 // A number, or the largest that fits.
 fn capped(x: usize) -> u16
     ensures { λ r. ⌜ r ≡ min x 65535 ⌝ }
@@ -555,52 +536,66 @@ fn run_answer(l: Layout, a: Answer) -> Whole
     }
 }
 
+// The symbol rows from an offset on, and the tree, in a file with so many scope rows.
+fn check_symbols(file: &[u8], settings: Field, scopes: u16, first: usize) -> Whole
+    requires { ⌜ scopes ≤ mostRows ⌝ }
+    ensures { λ r. ⌜ r ≡ symbolsF (now (file .entry)) settings scopes first ⌝ }
+{
+    match read_symbols(file, scopes as usize, first) {
+        Rows::Read(n, tree) => {
+            let rows = RowCounts {
+                scopes,
+                symbols: n as u16,
+            };
+            let l = Layout {
+                mode: settings.a,
+                esm: settings.b,
+                scopes,
+                symbols: rows.symbols,
+                records: 0,
+                first: capped(first),
+                tree: capped(tree),
+            };
+            run_answer(l, check_unmarked(file, rows, tree))
+        }
+        Rows::Refused(c, p) => Whole::Refused(c, p),
+    }
+}
+
 // The rows behind the settings, and the tree.
 fn check_rows(file: &[u8], settings: Field) -> Whole
     ensures { λ r. ⌜ r ≡ rowsF (now (file .entry)) settings ⌝ }
 {
-    let scopes = read_scopes(file, settings.next);
-    let Rows::Read(n, at) = scopes else {
-        return rows_refused(scopes);
-    };
-    let symbols = read_symbols(file, n, at);
-    let Rows::Read(m, tree) = symbols else {
-        return rows_refused(symbols);
-    };
-    let rows = RowCounts {
-        scopes: n as u16,
-        symbols: m as u16,
-    };
-    let l = Layout {
-        mode: settings.a,
-        esm: settings.b,
-        scopes: rows.scopes,
-        symbols: rows.symbols,
-        records: 0,
-        first: capped(at),
-        tree: capped(tree),
-    };
-    run_answer(l, check_unmarked(file, rows, tree))
+    match read_scopes(file, settings.next) {
+        Rows::Read(n, at) => check_symbols(file, settings, n as u16, at),
+        Rows::Refused(c, p) => Whole::Refused(c, p),
+    }
 }
 
-// Checks a whole file: how many rows, and the tally of its tree.
+// The settings of a file, its rows and its tree.
+fn check_settings(file: &[u8], settings: Field) -> Whole
+    ensures { λ r. ⌜ r ≡ settingsF (now (file .entry)) settings ⌝ }
+{
+    if mode::INLINE < settings.a {
+        return Whole::Refused(refusal::WRONG_NUMBER, 0);
+    }
+    if 1 < settings.b {
+        return Whole::Refused(refusal::WRONG_NUMBER, 0);
+    }
+    check_rows(file, settings)
+}
+
+// Checks a whole file: its layout, and the tally of its tree.
 fn check_whole(file: &[u8]) -> Whole
     ensures { λ r. ⌜ r ≡ fileF (now (file .entry)) ⌝ }
 {
     if MOST_BYTES < file.len() {
         return Whole::Refused(refusal::TOO_LONG, MOST_BYTES);
     }
-    let read = fields::read_field(file, Place::Settings, 0);
-    let Reading::Whole(s) = read else {
-        return file_refusal(read);
-    };
-    if mode::INLINE < s.a {
-        return Whole::Refused(refusal::WRONG_NUMBER, 0);
+    match fields::read_field(file, Place::Settings, 0) {
+        Reading::Whole(s) => check_settings(file, s),
+        Reading::Refused(c, p) => Whole::Refused(c, p),
     }
-    if 1 < s.b {
-        return Whole::Refused(refusal::WRONG_NUMBER, 0);
-    }
-    check_rows(file, s)
 }
 
 // ---- public

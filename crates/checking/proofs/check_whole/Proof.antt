@@ -12,63 +12,18 @@ returns c = rw (lt-leb _ _ (c .if1 .taken))
 returns-2 : tie.Need-returns-2
 unfolding fileF
 returns-2 c =
-    let at-enum-told = c .before in
-    let at-read-field = at-enum-told .before .before in
+    let at-s = c .before .before in
+    let at-read-field = at-s .before .before in
     let at-if1 = at-read-field .before in
-    rw (
-      le-leb _ _ (at-if1 .if1 .left),
-      ← at-read-field .read-field .ensures,
-      c .file-refusal .ensures,
-      at-enum-told .enum-told .given .1,
-    )
+    rw (le-leb _ _ (at-if1 .if1 .left), ← at-read-field .read-field .ensures, at-s .s .given .1) (c .check-settings .ensures)
 
 returns-3 : tie.Need-returns-3
 unfolding fileF
 returns-3 c =
-    let at-read = c .before .before .before in
-    let at-read-field = at-read .before .before in
+    let at-c = c .before in
+    let at-read-field = at-c .before .before in
     let at-if1 = at-read-field .before in
-    rw (
-      le-leb _ _ (at-if1 .if1 .left),
-      ← at-read-field .read-field .ensures,
-      at-read .read .given .1,
-      lt-leb _ _ (c .if2 .taken),
-    )
-
-returns-4 : tie.Need-returns-4
-unfolding fileF
-returns-4 c =
-    let at-if2 = c .before .before in
-    let at-read = at-if2 .before .before .before in
-    let at-read-field = at-read .before .before in
-    let at-if1 = at-read-field .before in
-    rw (
-      le-leb _ _ (at-if1 .if1 .left),
-      ← at-read-field .read-field .ensures,
-      at-read .read .given .1,
-      le-leb _ _ (at-if2 .if2 .left),
-      lt-leb _ _ (c .if3 .taken),
-    )
-
-returns-5 : tie.Need-returns-5
-unfolding fileF
-returns-5 c =
-    let at-if3 = c .before in
-    let at-if2 = at-if3 .before .before in
-    let at-read = at-if2 .before .before .before in
-    let at-read-field = at-read .before .before in
-    let at-if1 = at-read-field .before in
-    rw (
-      le-leb _ _ (at-if1 .if1 .left),
-      ← at-read-field .read-field .ensures,
-      at-read .read .given .1,
-      le-leb _ _ (at-if2 .if2 .left),
-      le-leb _ _ (at-if3 .if3 .left),
-    ) (c .check-rows .ensures)
+    rw (le-leb _ _ (at-if1 .if1 .left), ← at-read-field .read-field .ensures, at-c .c .given .1)
 
 pub check-whole-spec : {M : Type 1} → statement M
-check-whole-spec =
-    tie.close
-    (tie.spec
-    returns (λ c κs. search needs) (λ c. search needs) (λ c. search needs) (λ c κs. search needs)
-    returns-2 returns-3 returns-4 (λ c κs. search needs) returns-5)
+check-whole-spec = tie.close (tie.spec returns (λ c κs. search needs) (λ c. search needs) (λ c κs. search needs) (λ c. search needs) returns-2 returns-3)

@@ -34,15 +34,15 @@ returns c =
 
 returns-2 : tie.Need-returns-2 Inv-loop μ-loop
 returns-2 c =
-    let at-enum-told = c .before in
-    let at-read-scope = at-enum-told .before .before in
+    let at-read2 = c .before in
+    let at-read-scope = at-read2 .before .before in
     let at-if1 = at-read-scope .before in
     let at-more-scopes = at-if1 .before in
     let at-loop-test = at-more-scopes .before in
     let at-loop = at-loop-test .before in
-    rows-bad _ _ mostRows _ _ _ (at-loop .loop .inv .1) _ _ _ _ _ (at-loop-test .loop-test .taken)
+    rows-bad _ _ mostRows _ _ _ (at-loop .loop .inv .1) _ _ _ _ (at-loop-test .loop-test .taken)
     (at-more-scopes .more-scopes .ensures) (not-false _ (at-if1 .if1 .left)) (at-read-scope .read-scope .ensures)
-    (at-enum-told .enum-told .given .1) (c .rows-refusal .ensures)
+    (at-read2 .read2 .given .1)
 
 loop-again : tie.Need-loop-again Inv-loop μ-loop
 loop-again c =
@@ -68,5 +68,4 @@ read-scopes-spec =
     tie.close
     (tie.spec
     Inv-loop μ-loop loop-holds (λ c κs. search needs) returns (λ c κs. search needs)
-    (λ c. search needs) (λ c. search needs) (λ c κs. search needs) returns-2 (λ c. search needs)
-    (λ c. search needs) loop-again returns-3)
+    (λ c. search needs) (λ c. search needs) (λ c. search needs) loop-again (λ c. search needs) returns-2 returns-3)

@@ -33,15 +33,15 @@ returns c =
 
 returns-2 : tie.Need-returns-2 Inv-loop μ-loop
 returns-2 c =
-    let at-enum-told = c .before in
-    let at-read-symbol = at-enum-told .before .before in
+    let at-read2 = c .before in
+    let at-read-symbol = at-read2 .before .before in
     let at-if1 = at-read-symbol .before in
     let at-more-symbols = at-if1 .before in
     let at-loop-test = at-more-symbols .before in
     let at-loop = at-loop-test .before in
-    rows-bad _ _ mostRows _ _ _ (at-loop .loop .inv .1) _ _ _ _ _ (at-loop-test .loop-test .taken)
+    rows-bad _ _ mostRows _ _ _ (at-loop .loop .inv .1) _ _ _ _ (at-loop-test .loop-test .taken)
     (at-more-symbols .more-symbols .ensures) (not-false _ (at-if1 .if1 .left)) (at-read-symbol .read-symbol .ensures)
-    (at-enum-told .enum-told .given .1) (c .rows-refusal .ensures)
+    (at-read2 .read2 .given .1)
 
 loop-again : tie.Need-loop-again Inv-loop μ-loop
 loop-again c =
@@ -67,5 +67,4 @@ read-symbols-spec =
     tie.close
     (tie.spec
     Inv-loop μ-loop loop-holds (λ c κs. search needs) returns (λ c κs. search needs)
-    (λ c. search needs) (λ c. search needs) (λ c κs. search needs) returns-2 (λ c. search needs)
-    (λ c. search needs) loop-again returns-3)
+    (λ c. search needs) (λ c. search needs) (λ c. search needs) loop-again (λ c. search needs) returns-2 returns-3)
