@@ -115,13 +115,14 @@ pub fn put(file: &mut [u8], at: usize, b: u8)
     }
 }
 
-// Stores a number, high byte first.
+// Stores a number, high byte first; what lies past the end is left out.
 pub fn put_two(file: &mut [u8], at: usize, n: u16)
-    requires { ⌜ at ≤ 4000000000 ⌝ }
     ensures { λ _. ⌜ now (file .exit) ≡ sets (now (file .entry)) at (twoBytes (n ∷ [])) ⌝ }
 {
     put(file, at, (n / 256) as u8);
-    put(file, at + 1, (n % 256) as u8);
+    if at < file.len() {
+        put(file, at + 1, (n % 256) as u8);
+    }
 }
 
 // The tag at an offset, or 0 behind the end.
@@ -331,7 +332,7 @@ fn field_at(file: &[u8], place: Place, at: usize) -> Reading
 
 // Number i of the field at an offset that may not be whole, or 0 where a field of its tag has no such number.
 fn number_of(file: &[u8], at: usize, len: u8, i: u8) -> u16
-    requires { ⌜ at ≤ 4000000000 ⌝ }
+    requires { ⌜ at ≤ 4294967295 ⌝ }
     ensures { λ r. ⌜ r ≡ number (now (file .entry)) at len i ⌝ }
 {
     if i < len {
@@ -341,10 +342,10 @@ fn number_of(file: &[u8], at: usize, len: u8, i: u8) -> u16
 }
 
 // The field at an offset, whatever stands there: nothing is checked, and a missing byte reads as 0.
-pub fn field_of(file: &[u8], at: usize) -> Field
-    requires { ⌜ at ≤ 4000000000 ⌝ }
-    ensures { λ r. ⌜ r ≡ fieldOf (now (file .entry)) at ⌝ }
+pub fn field_of(file: &[u8], offset: u32) -> Field
+    ensures { λ r. ⌜ r ≡ fieldOf (now (file .entry)) offset ⌝ }
 {
+    let at = offset as usize;
     let tag = tag_at(file, at);
     let len = numbers_of(tag);
     Field {

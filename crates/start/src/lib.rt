@@ -137,7 +137,7 @@ fn put_records(file: &[u8], records: &mut [u16], free: u16, end: u16, tree: u16)
     let mut at = tree as usize;
     let mut k = free;
     while k < end {
-        let x = fields::field_of(file, at);
+        let x = fields::field_of(file, at as u32);
         tables::put_row(records, RecordId(k), row_of(x));
         at = x.next;
         k += 1;
