@@ -49,7 +49,7 @@ module _ (K : Kind) (r : Role) where
   act-within : {a : Act} {h : Head} {k : Forest} (cur hoist : ℕ) (st : Store) → Chosen a h k
       → Within K r h k st (enterAs a cur hoist h k st)
   unfolding enterAs
-  act-within cur hoist st kept = omega arith
+  act-within cur hoist st (kept i) = omega arith
   act-within {h = h} {k = k} cur hoist st (as-program e u) = program-within K r h k st (eq-eqb (h .tag) 1 e) u
   act-within {h = h} {k = k} cur hoist st (as-block e u) = block-within K r cur hoist h k st u (eq-eqb (h .tag) 2 e)
   act-within {h = h} {k = k} cur hoist st (as-body e u) = body-within K r cur hoist h k st u (eq-eqb (h .tag) 14 e)

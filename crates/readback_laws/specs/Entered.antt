@@ -97,7 +97,7 @@ module _ (h h₁ : Head) (k₁ : Forest) (h₂ : Head) (k₂ : Forest) (h₃ : H
 entered : {a : Act} {h : Head} {k : Forest} (cur hoist : ℕ) (st : Store) → Childless (one h k) → Fit h k → Chosen a h k
     → Childless (single ((enterAs a cur hoist h k st) .0))
 unfolding enterAs hasChildren
-entered cur hoist st p o kept = p
+entered cur hoist st p o (kept i) = p
 entered {h = h} {k = k} cur hoist st p o (as-program e u) = program-childless h k st (ap hasChildren e) (p .1)
 entered {h = h} {k = k} cur hoist st p o (as-block e u) = block-childless cur hoist h k st (p .1)
 entered {k = k} cur hoist st p o (as-body e u) = body-childless cur hoist k st (p .1)

@@ -133,7 +133,7 @@ rewrite-law done h k r path st g z p q =
 agreed-as : {x : Act} {h : Head} {k : Forest} (path : List Crumb) (st : Store) → Fit h k → Catches k → Agreed st → Chosen x h k
     → Agreed (enterAs x (currentScope path) (hoistScope path) h k st .1)
 unfolding enterAs
-agreed-as path st p c a kept = a
+agreed-as path st p c a (kept i) = a
 agreed-as {h = h} {k = k} path st p c a (as-program e u) = program-kept h k st (p .items (eq-eqb (h .tag) 1 e) u .0) a
 agreed-as {h = h} {k = k} path st p c a (as-block e u) = block-kept path h k st a
 agreed-as {h = h} {k = k} path st p c a (as-body e u) = body-kept path h k st a

@@ -150,7 +150,7 @@ module _ (ys : List Symbol) where
   act-enters : {a : Act} {h : Head} {k : Forest} (cur hoist : ℕ) (st : Store) → Fit h k → Chosen a h k
       → Enters ys a h k (enterAs a cur hoist h k st)
   unfolding enterAs visitsAs enterLines isUsing enterProgram transformBlockStatement transformForStatement transformSwitchStatement enterTryStatement enterFunctionBody enterForOfStatement createTryStmt
-  act-enters {h = h} {k = k} cur hoist st p kept =
+  act-enters {h = h} {k = k} cur hoist st p (kept i) =
       record {
         visits =
             λ xs. ap (λ (v : List (List Line)). [] ∷ (visitsIn ys k standing ++ v))

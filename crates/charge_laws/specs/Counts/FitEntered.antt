@@ -304,7 +304,7 @@ program-fits h k st p =
 entered-fits : {a : Act} {h : Head} {k : Forest} (cur hoist : ℕ) (st : Store) → Fit h k → Fits k → Chosen a h k
     → Fits ((enterAs a cur hoist h k st) .0 .children)
 unfolding enterAs enterTryStatement
-entered-fits cur hoist st o p kept = p
+entered-fits cur hoist st o p (kept i) = p
 entered-fits {h = h} {k = k} cur hoist st o p (as-program e u) = program-fits h k st p
 entered-fits {h = h} {k = k} cur hoist st o p (as-block e u) = block-fits cur hoist h k st p
 entered-fits {k = k} cur hoist st o p (as-body e u) = body-fits cur hoist k st p

@@ -12,7 +12,7 @@ use Rattle.meaning.specs.Statements.{isUsing, anyUsing}
 use Rattle.meaning.specs.Contexts.{anyPartUsing, anyCaseUsing, forList}
 use Rattle.meaning.specs.ForOf.{bindsIdentifier, boundSymbol, bindsName}
 use Rattle.meaning.specs.Walk.{Act, keep, program, block, functionBody, tryParts, forLoop, switch, forOfInsert, forOfWrap, forOfAct, actOf}
-use Rattle.spec_laws.specs.Tags.{clash, and-left, and-right}
+use Rattle.spec_laws.specs.Tags.{Seen, other, here, there, seen, clash, and-left, and-right}
 
 -- the left side of a ForOf that is rewritten: a using of an identifier
 pub record Binds (h : Head) (k : Forest) : Type 0 where
@@ -20,8 +20,20 @@ pub record Binds (h : Head) (k : Forest) : Type 0 where
   pub identifier : bindsIdentifier k ≡ true
   pub both : (isUsing h && bindsIdentifier k) ≡ true
 
+-- of at least three children, those of a ForOf, the first is a using of an identifier
+unfoldable pub heldUsing : Forest → Bool
+heldUsing none = false
+heldUsing (more h₁ k₁ none) = false
+heldUsing (more h₁ k₁ (more h₂ k₂ none)) = false
+heldUsing (more h₁ k₁ (more h₂ k₂ (more h₃ k₃ r))) = isUsing h₁ && bindsIdentifier k₁
+
+-- why a record is kept: no using stands in its list, and a ForOf holds none
+pub record Idle (h : Head) (k : Forest) : Type 0 where
+  pub list : oneOf (1 ∷ 2 ∷ 7 ∷ 14 ∷ []) (h .tag) ≡ true → anyUsing k ≡ false
+  pub loop : eqb (h .tag) 8 ≡ true → heldUsing k ≡ false
+
 pub data Chosen : Act → Head → Forest → Type 0 where
-  kept : {h : Head} {k : Forest} → Chosen keep h k
+  kept : {h : Head} {k : Forest} → Idle h k → Chosen keep h k
   as-program : {h : Head} {k : Forest} → h .tag ≡ 1 → anyUsing k ≡ true → Chosen program h k
   as-block : {h : Head} {k : Forest} → h .tag ≡ 2 → anyUsing k ≡ true → Chosen block h k
   as-body : {h : Head} {k : Forest} → h .tag ≡ 14 → anyUsing k ≡ true → Chosen functionBody h k
@@ -33,34 +45,59 @@ pub data Chosen : Act → Head → Forest → Type 0 where
   as-wrap : {h h₁ h₂ h₃ : Head} {k₁ k₂ k₃ r : Forest} → h .tag ≡ 8 → Binds h₁ k₁
       → Chosen forOfWrap h (more h₁ k₁ (more h₂ k₂ (more h₃ k₃ r)))
 
-chosen-if : {h : Head} {k : Forest} (b : Bool) {x y : Act} → (b ≡ true → Chosen x h k) → Chosen y h k → Chosen (if b then x else y) h k
-chosen-if true p q = p refl
-chosen-if false p q = q
+-- a record that is kept for its list, for what it holds, or because neither is looked at
+idle-list : {h : Head} {k : Forest} → eqb (h .tag) 8 ≡ false → anyUsing k ≡ false → Idle h k
+idle-list n u = record { list = (λ _. u); loop = (λ e. absurd (clash n e)) }
 
-for-of-chosen : (ys : List Symbol) (h : Head) (k : Forest) → h .tag ≡ 8 → Chosen (forOfAct ys k) h k
-unfolding forOfAct
-for-of-chosen ys h none t = kept
-for-of-chosen ys h (more h₁ k₁ none) t = kept
-for-of-chosen ys h (more h₁ k₁ (more h₂ k₂ none)) t = kept
-for-of-chosen ys h (more h₁ k₁ (more h₂ k₂ (more h₃ k₃ r))) t =
+idle-loop : {h : Head} {k : Forest} → oneOf (1 ∷ 2 ∷ 7 ∷ 14 ∷ []) (h .tag) ≡ false → heldUsing k ≡ false → Idle h k
+idle-loop n u = record { list = (λ e. absurd (clash n e)); loop = (λ _. u) }
+
+idle : {h : Head} {k : Forest} → oneOf (1 ∷ 2 ∷ 7 ∷ 14 ∷ []) (h .tag) ≡ false → eqb (h .tag) 8 ≡ false → Idle h k
+idle n m = record { list = (λ e. absurd (clash n e)); loop = (λ e. absurd (clash m e)) }
+
+chosen-if : {h : Head} {k : Forest} (b : Bool) {x y : Act} → (b ≡ true → Chosen x h k) → (b ≡ false → Chosen y h k)
+    → Chosen (if b then x else y) h k
+chosen-if true p q = p refl
+chosen-if false p q = q refl
+
+for-of-chosen : (ys : List Symbol) (a b c : ℕ) (k : Forest) → Chosen (forOfAct ys k) (hd 8 a b c) k
+unfolding forOfAct heldUsing
+for-of-chosen ys a b c none = kept (idle-loop refl refl)
+for-of-chosen ys a b c (more h₁ k₁ none) = kept (idle-loop refl refl)
+for-of-chosen ys a b c (more h₁ k₁ (more h₂ k₂ none)) = kept (idle-loop refl refl)
+for-of-chosen ys a b c (more h₁ k₁ (more h₂ k₂ (more h₃ k₃ r))) =
     let free = not (bindsName ys (h₃ .a) (boundSymbol k₁)) in
     chosen-if (isUsing h₁ && bindsIdentifier k₁)
     (λ e.
-    let b : Binds h₁ k₁ = record { uses = and-left (isUsing h₁) _ e; identifier = and-right (isUsing h₁) _ e; both = e } in
-    chosen-if (eqb (h₃ .tag) 2 && free) (λ d. as-insert t b (eqb-true (h₃ .tag) 2 (and-left (eqb (h₃ .tag) 2) free d))) (as-wrap t b))
-    kept
+    let d : Binds h₁ k₁ = record { uses = and-left (isUsing h₁) _ e; identifier = and-right (isUsing h₁) _ e; both = e } in
+    chosen-if (eqb (h₃ .tag) 2 && free)
+    (λ f. as-insert refl d (eqb-true (h₃ .tag) 2 (and-left (eqb (h₃ .tag) 2) free f)))
+    (λ _. as-wrap refl d))
+    (λ e. kept (idle-loop refl e))
 
+chosen-as : (ys : List Symbol) {t : ℕ} (a b c : ℕ) (k : Forest) → Seen (1 ∷ 2 ∷ 4 ∷ 7 ∷ 8 ∷ 9 ∷ 11 ∷ 14 ∷ []) t
+    → Chosen (actOf ys (hd t a b c) k) (hd t a b c) k
+unfolding actOf forList
+chosen-as ys a b c k here = chosen-if (anyUsing k) (as-program refl) (λ u. kept (idle-list refl u))
+chosen-as ys a b c k (there e₁ here) = chosen-if (anyUsing k) (as-block refl) (λ u. kept (idle-list refl u))
+chosen-as ys a b c k (there e₁ (there e₂ here)) = chosen-if (anyUsing (forList k)) (as-for refl) (λ _. kept (idle refl refl))
+chosen-as ys a b c k (there e₁ (there e₂ (there e₄ here))) = chosen-if (anyUsing k) (as-for refl) (λ u. kept (idle-list refl u))
+chosen-as ys a b c k (there e₁ (there e₂ (there e₄ (there e₇ here)))) = for-of-chosen ys a b c k
+chosen-as ys a b c k (there e₁ (there e₂ (there e₄ (there e₇ (there e₈ here))))) =
+    chosen-if (anyCaseUsing k) (as-switch refl) (λ _. kept (idle refl refl))
+chosen-as ys a b c k (there e₁ (there e₂ (there e₄ (there e₇ (there e₈ (there e₉ here)))))) =
+    chosen-if (anyPartUsing k) (as-try refl) (λ _. kept (idle refl refl))
+chosen-as ys a b c k (there e₁ (there e₂ (there e₄ (there e₇ (there e₈ (there e₉ (there e₁₁ here))))))) =
+    chosen-if (anyUsing k) (as-body refl) (λ u. kept (idle-list refl u))
+chosen-as ys {t} a b c k (there e₁ (there e₂ (there e₄ (there e₇ (there e₈ (there e₉ (there e₁₁ (there e₁₄ other)))))))) =
+    let h = hd t a b c in
+    let none-of : actOf ys h k ≡ keep = rw (e₁, e₂, e₄, e₇, e₈, e₉, e₁₁, e₁₄) in
+    let no-list : oneOf (1 ∷ 2 ∷ 7 ∷ 14 ∷ []) t ≡ false = rw (e₁, e₂, e₇, e₁₄) in
+    subst (λ (x : Act). Chosen x h k) (sym none-of) (kept (idle no-list e₈))
+
+-- THE VIEW: what is known of every record for which a visit chooses an act.
 pub chosen : (ys : List Symbol) (h : Head) (k : Forest) → Chosen (actOf ys h k) h k
-unfolding actOf
-chosen ys h k =
-    let t = h .tag in
-    chosen-if (eqb t 1) (λ e. chosen-if (anyUsing k) (as-program (eqb-true t 1 e)) kept)
-    (chosen-if (eqb t 2) (λ e. chosen-if (anyUsing k) (as-block (eqb-true t 2 e)) kept)
-    (chosen-if (oneOf (4 ∷ 7 ∷ []) t) (λ e. chosen-if (anyUsing (forList (one h k))) (as-for e) kept)
-    (chosen-if (eqb t 8) (λ e. for-of-chosen ys h k (eqb-true t 8 e))
-    (chosen-if (eqb t 9) (λ e. chosen-if (anyCaseUsing k) (as-switch (eqb-true t 9 e)) kept)
-    (chosen-if (eqb t 11) (λ e. chosen-if (anyPartUsing k) (as-try (eqb-true t 11 e)) kept)
-    (chosen-if (eqb t 14) (λ e. chosen-if (anyUsing k) (as-body (eqb-true t 14 e)) kept) kept))))))
+chosen ys h k = chosen-as ys (h .a) (h .b) (h .c) k (seen (1 ∷ 2 ∷ 4 ∷ 7 ∷ 8 ∷ 9 ∷ 11 ∷ 14 ∷ []) (h .tag))
 
 -- ---- what holds of a record with a tag
 

@@ -37,7 +37,7 @@ Proper h k = (eqb (h .tag) 1 ≡ true → anyUsing k ≡ true → Exports k) × 
 act-pays : {a : Act} {h : Head} {k : Forest} (cur hoist : ℕ) (st : Store) → Proper h k → Chosen a h k
     → PaysFor (enterLines a h k) (one h k) st (enterAs a cur hoist h k st)
 unfolding enterLines enterAs
-act-pays {h = h} {k = k} cur hoist st p kept = pays-nothing (one h k) st
+act-pays {h = h} {k = k} cur hoist st p (kept i) = pays-nothing (one h k) st
 act-pays {h = h} {k = k} cur hoist st p (as-program e u) = program-pays h k st (p .0 (eq-eqb (h .tag) 1 e) u)
 act-pays {h = h} {k = k} cur hoist st p (as-block e u) = block-pays cur hoist h k st e u
 act-pays {h = h} {k = k} cur hoist st p (as-body e u) = body-pays cur hoist h k st e u

@@ -64,7 +64,7 @@ module _ (w : List ℕ → ℕ → ℕ) (read : ℕ) where
     act-keeps : {a : Act} {h : Head} {k : Forest} (st : Store) → read ≤ length (st .symbols) → Fit h k → Chosen a h k
         → Opens h k (enterAs a cur hoist h k st)
     unfolding enterAs enterProgram transformBlockStatement transformForStatement transformSwitchStatement enterTryStatement enterFunctionBody enterForOfStatement createTryStmt
-    act-keeps {h = h} {k = k} st new p kept = (refl, (λ r. same-refl (more h k r)))
+    act-keeps {h = h} {k = k} st new p (kept i) = (refl, (λ r. same-refl (more h k r)))
     act-keeps {h = h} {k = k} st new p (as-program e u) =
         let i = p .items (eq-eqb (h .tag) 1 e) u in
         at-change 1 (λ g. enterProgram g k st) h k e refl refl (program-keeps w read old (h .a) (h .b) (h .c) k st new (i .0) (i .1))

@@ -13,7 +13,8 @@ use Rattle.meaning.specs.Walk.{isStaticBlock, Crumb, crumb, Spot, at, leaving, 
 use Rattle.spec_laws.specs.Tags.{clash, or-none}
 use Rattle.charge_laws.specs.Counts.Visits.{&-none, &-assoc}
 use Rattle.hint_laws.specs.Outline.{Neutral, Same, same-&, same-below}
-use Rattle.hint_laws.specs.Lowered.Quiet.{heldUsing, Quiet, AllQuiet, quiet-&}
+use Rattle.hint_laws.specs.Lowered.Quiet.{Quiet, AllQuiet, quiet-&}
+use Rattle.charge_laws.specs.Growth.Chosen.{heldUsing}
 use Rattle.hint_laws.specs.Balanced.Alike.{neutral-using, Alike}
 
 -- an open record; a StaticBlock's usings are taken up when it is left

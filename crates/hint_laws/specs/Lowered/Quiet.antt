@@ -10,15 +10,9 @@ use Rattle.meaning.specs.Tree.{if_then_else_, Head, Forest, none, more, _&_}
 use Rattle.meaning.specs.Statements.{isUsing, anyUsing}
 use Rattle.meaning.specs.ForOf.{bindsIdentifier}
 use Rattle.spec_laws.specs.Tags.{clash}
+use Rattle.charge_laws.specs.Growth.Chosen.{heldUsing}
 use Rattle.hint_laws.specs.Hints.{sumOver, namesOf, overDeclarators, letterFor, takesUp, usingsIn, forOfUsing, asksFor}
 use Rattle.spec_laws.specs.Bools.{no-summand}
-
--- of at least three children, those of a ForOf, the first is a using with an identifier
-unfoldable pub heldUsing : Forest → Bool
-heldUsing none = false
-heldUsing (more h₁ k₁ none) = false
-heldUsing (more h₁ k₁ (more h₂ k₂ none)) = false
-heldUsing (more h₁ k₁ (more h₂ k₂ (more h₃ k₃ r))) = isUsing h₁ && bindsIdentifier k₁
 
 -- entering the record again would take up none of its usings: none stands in its list, and a ForOf's first child is none with an identifier
 unfoldable pub Quiet : Head → Forest → Type 0
