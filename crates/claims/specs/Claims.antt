@@ -7,8 +7,9 @@
 --   start    answers and leaves `startF file records scopes symbols`,
 --   visit    leaves `visitF` of the tables and the walk that it is handed,
 --   lower    answers and leaves `lowerF file records scopes symbols out`.
--- The claims below are about these same definitions. `readFile`, `figuresOf`, `admit`, `visits`, `dues`, `finalFigures`, `lastSpot`, `written` and
--- `lower` are document 01 (crate meaning); `visitCharges` tells the charges without the walk. A list of numbers stands for a lent slice; `lentIn r s y` are the rows of tables.
+-- The claims below are about these same definitions. `readFile`, `figuresOf`, `admit`, `visits`, `dues`, `finalFigures`, `lastSpot`, `written`
+-- and `lower` are document 01 (crate meaning); `visitCharges` tells the charges without the walk. A list of numbers stands for a lent slice;
+-- `lentIn r s y` are the rows of tables.
 -- Assumes nothing.
 use mathlib.Core.Path.{_≡_, sym, ap, _∙_}
 use mathlib.Core.Bool.{true}
