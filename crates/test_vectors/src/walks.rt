@@ -218,10 +218,9 @@ fn next_tree(text: &[u8], at: usize, end: usize, tree: &mut [u8], last: usize) -
     notation::encode(lines::part(text, from, end), tree)
 }
 
-// The tables hold the state of a line.
+// The tables hold the state of a line: so many rows, and the tree.
 fn holds(
-    text: &[u8],
-    at: usize,
+    told: Rows,
     tree: &[u8],
     len: usize,
     w: Walk,
@@ -229,7 +228,7 @@ fn holds(
     scopes: &[u16],
     symbols: &[u16],
 ) -> bool {
-    if !same_rows(rows_told(text, at), rows_of(w)) {
+    if !same_rows(told, rows_of(w)) {
         return false;
     }
     same_tree(lines::part(tree, 0, len), w, records, scopes, symbols)
@@ -248,7 +247,8 @@ fn step(
     let w = s.walk;
     let end = lines::find(text, at, b'\n');
     let len = next_tree(text, at, end, tree, s.len);
-    let agrees = holds(text, at, tree, len, w, records, scopes, symbols);
+    let told = rows_told(text, at);
+    let agrees = holds(told, tree, len, w, records, scopes, symbols);
     let before = s.seen;
     let seen = lines::add(before, agrees);
     let moved = walk::visit(w, records, scopes, symbols);
@@ -289,7 +289,8 @@ fn replay_states(
         k += 1;
     }
     let w = s.walk;
-    let agrees = holds(text, s.last, tree, s.len, w, records, scopes, symbols);
+    let told = rows_told(text, s.last);
+    let agrees = holds(told, tree, s.len, w, records, scopes, symbols);
     let seen = s.seen;
     lines::add(seen, agrees)
 }
