@@ -42,7 +42,7 @@ use Rattle.meaning.specs.Contexts.{
   namesIn,
   lastBlockScope,
   anyPartUsing,
-  transformHandler,
+  moveCatchNames,
   transformTryParts,
   enterTryStatement,
   forList,
@@ -53,6 +53,7 @@ use Rattle.meaning.specs.Contexts.{
   takeUpCases,
   transformSwitchStatement,
 }
+use Rattle.spec_laws.specs.Trees.{transformHandler}
 use Rattle.spec_laws.specs.Tags.{Seen, other, here, there, seen, clash, and-left, and-right}
 use Rattle.charge_laws.specs.Growth.Rows.{
   Grown,
@@ -224,7 +225,7 @@ PartsWithin K f st e = rows K (e .1) + weigh K plain (e .0) ≤ rows K st + weig
 
 handler-within : (K : Kind) (h : Head) (k : Forest) (inside : Change Forest) (st : Store) → eqb (h .tag) 12 ≡ true
     → PartsWithin K k st (inside st) → Within K plain h k st (transformHandler h k inside st)
-unfolding transformHandler below
+unfolding moveCatchNames below
 handler-within K h k inside st e i =
     let p = inside st in
     rw (eqb-true (h .tag) 12 e)

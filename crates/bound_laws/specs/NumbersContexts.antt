@@ -35,7 +35,7 @@ use Rattle.meaning.specs.Contexts.{
   transformTryBlock,
   lastBlockScope,
   anyPartUsing,
-  transformHandler,
+  moveCatchNames,
   transformTryParts,
   enterTryStatement,
   takeUpFor,
@@ -43,6 +43,7 @@ use Rattle.meaning.specs.Contexts.{
   takeUpCases,
   transformSwitchStatement,
 }
+use Rattle.spec_laws.specs.Trees.{transformHandler}
 use Rattle.bound_laws.specs.Numbers.{
   UpTo,
   HeadWithin,
@@ -276,7 +277,7 @@ module _ {B : ℕ} (big : 32 ≤ B) where
 
   handler-kept : (h : Head) (k : Forest) (inside : Change Forest) (st : Store) → HeadWithin B h
       → Keeps B (Unit {0}) (TreeWithin B) st (inside st) → Rewritten B st (transformHandler h k inside st)
-  unfolding transformHandler
+  unfolding moveCatchNames
   handler-kept h k inside st p q =
       step q (λ _. tt)
       (step (branch (anyPartUsing k) _ _ _ (bindings-kept big _ _ _) (gives (λ _. tt))) (λ (_, parts). block-scope-most _ parts)
@@ -288,7 +289,7 @@ module _ {B : ℕ} (big : 32 ≤ B) where
   parts-kept cur hoist none st d w = gives (λ _. tt)
   parts-kept cur hoist (more h k r) st d w =
       step
-      (branch (eqb (h .tag) 12) _ _ st (handler-kept h k _ st (w .0) (parts-kept cur hoist k st d (w .1)))
+      (branch (eqb (h .tag) 12) _ _ st (handler-kept h k (transformTryParts cur hoist k) st (w .0) (parts-kept cur hoist k st d (w .1)))
       (branch (eqb (h .tag) 2 && anyUsing k) _ _ st (part-kept cur hoist h k st d (w .0) (w .1)) (gives (λ _. (w .0, w .1)))))
       (λ _. tt)
       (step (parts-kept cur hoist r _ d (w .2)) (λ _. tt)

@@ -10,3 +10,4 @@ pub mod Fits
 pub mod FitEntered
 pub mod Pending
 pub mod Figures
+pub mod TryParts

@@ -10,6 +10,7 @@ use Rattle.meaning.specs.Numbers.Mode as LoadMode
 use Rattle.meaning.specs.Tree.{if_then_else_, oneOf, Head, Forest, none, more, one}
 use Rattle.meaning.specs.File.{Symbol, File}
 use Rattle.meaning.specs.Statements.{isUsing, anyUsing}
+use Rattle.meaning.specs.ForOf.{ForOfAct, stay, insert, wrap}
 use Rattle.meaning.specs.Program.{boundNames, keepsDefault}
 use Rattle.meaning.specs.Walk.{
   isStaticBlock,
@@ -40,7 +41,7 @@ pub data Mode : Type 0 where
   -- Program's items: what stays of them, and what moves into the Block
   kept moved skipped : Mode
   -- the children of a ForOf
-  left right body : Act → Mode
+  left right body : ForOfAct → Mode
 
 -- the mode of the next record
 unfoldable pub next : Mode → Mode
@@ -92,8 +93,8 @@ visitsAs functionBody h k = inTry (enterLines functionBody h k ∷ free 1) taken
 visitsAs tryParts h k = around (enterLines tryParts h k ∷ []) parts []
 visitsAs forLoop h k = around (enterLines forLoop h k ∷ free 6) (if eqb (h .tag) Tag.Label then loop else takenUp) (free 6)
 visitsAs switch h k = around (enterLines switch h k ∷ free 6) cases (free 6)
-visitsAs forOfInsert h k = around (enterLines forOfInsert h k ∷ []) (left forOfInsert) []
-visitsAs forOfWrap h k = around (enterLines forOfWrap h k ∷ []) (left forOfWrap) []
+visitsAs forOfInsert h k = around (enterLines forOfInsert h k ∷ []) (left insert) []
+visitsAs forOfWrap h k = around (enterLines forOfWrap h k ∷ []) (left wrap) []
 
 module _ (asRead : List Symbol) where
   unfoldable pub visitsStanding : Head → Forest → Visits
@@ -103,16 +104,10 @@ module _ (asRead : List Symbol) where
   visitsTakenUp h k = if isUsing h then around (free 1) declarators [] else visitsStanding h k
 
   -- the body of a ForOf: a context for it, and five records for the using that went in
-  unfoldable pub visitsBody : Act → Head → Forest → Visits
-  visitsBody keep h k = visitsStanding h k
-  visitsBody program h k = visitsStanding h k
-  visitsBody block h k = visitsStanding h k
-  visitsBody functionBody h k = visitsStanding h k
-  visitsBody tryParts h k = visitsStanding h k
-  visitsBody forLoop h k = visitsStanding h k
-  visitsBody switch h k = visitsStanding h k
-  visitsBody forOfInsert h k = inTry ((context ofBlock ∷ wrapped (1 + wraps k) ∷ []) ∷ free 5) takenUp
-  visitsBody forOfWrap h k =
+  unfoldable pub visitsBody : ForOfAct → Head → Forest → Visits
+  visitsBody stay h k = visitsStanding h k
+  visitsBody insert h k = inTry ((context ofBlock ∷ wrapped (1 + wraps k) ∷ []) ∷ free 5) takenUp
+  visitsBody wrap h k =
       let v = visitsTakenUp h k in
       record {
         before = (context ofBlock ∷ wrapped (1 + wraps (one h k)) ∷ []) ∷ (free 10 ++ v .before);

@@ -13,7 +13,8 @@ use Rattle.meaning.specs.File.{Symbol, File, numbersOf, fieldBytes, sett
 use Rattle.meaning.specs.Statements.{isUsing, anyUsing}
 use Rattle.meaning.specs.Contexts.{anyCaseUsing}
 use Rattle.meaning.specs.Program.{boundNames, keepsDefault}
-use Rattle.meaning.specs.Walk.{Act, keep, program, block, functionBody, tryParts, forLoop, switch, forOfInsert, forOfWrap, forOfAct, Spot, fileAt, storeAt}
+use Rattle.meaning.specs.ForOf.{ForOfAct, stay, insert, wrap, forOfAct}
+use Rattle.meaning.specs.Walk.{Spot, fileAt, storeAt}
 
 -- ---- 01's lines
 
@@ -193,16 +194,10 @@ bodyLines (more h₁ k₁ none) = []
 bodyLines (more h₁ k₁ (more h₂ k₂ none)) = []
 bodyLines (more h₁ k₁ (more h₂ k₂ (more h₃ k₃ r))) = if anyUsing k₃ then [] else context ofBlock ∷ []
 
-unfoldable pub forOfLines : Act → Forest → List Line
-forOfLines keep k = []
-forOfLines program k = []
-forOfLines block k = []
-forOfLines functionBody k = []
-forOfLines tryParts k = []
-forOfLines forLoop k = []
-forOfLines switch k = []
-forOfLines forOfInsert k = forOf ∷ wrapped 1 ∷ bodyLines k
-forOfLines forOfWrap k = forOfBlock ∷ wrapped 1 ∷ context ofBlock ∷ []
+unfoldable pub forOfLines : ForOfAct → Forest → List Line
+forOfLines stay k = []
+forOfLines insert k = forOf ∷ wrapped 1 ∷ bodyLines k
+forOfLines wrap k = forOfBlock ∷ wrapped 1 ∷ context ofBlock ∷ []
 
 -- `up` is the tag of the record around it: a Block below a Try or a Catch is a try part
 unfoldable pub ownLines : List Symbol → ℕ → Head → Forest → List Line

@@ -88,19 +88,19 @@ anyPartUsing none = false
 anyPartUsing (more h k r) =
     (eqb (h .tag) Tag.Block && anyUsing k) || (eqb (h .tag) Tag.Catch && anyPartUsing k) || anyPartUsing r
 
--- a Catch, its parts being transformed by `inside`: its names move with a lowered body
-unfoldable pub transformHandler : Head → Forest → Change Forest → Change Node
-transformHandler h k inside = do
-  parts ← inside
-  if anyPartUsing k then moveBindings (namesIn k) (lastBlockScope parts) else return tt
-  return (node h parts)
+-- the names of a Catch move with its body, if that was lowered and so has another scope
+unfoldable pub moveCatchNames : Forest → Forest → Change (Unit {0})
+moveCatchNames k parts = if anyPartUsing k then moveBindings (namesIn k) (lastBlockScope parts) else return tt
 
--- `enter_try_statement`: block, handler and finalizer in turn
+-- `enter_try_statement`: block, handler and finalizer in turn; of a handler its body, then its names
 unfoldable pub transformTryParts : ℕ → ℕ → Forest → Change Forest
 transformTryParts cur hoist none = return none
 transformTryParts cur hoist (more h k r) = do
   part ←
-      if eqb (h .tag) Tag.Catch then transformHandler h k (transformTryParts cur hoist k)
+      if eqb (h .tag) Tag.Catch then (do
+        parts ← transformTryParts cur hoist k
+        moveCatchNames k parts
+        return (node h parts))
       else if eqb (h .tag) Tag.Block && anyUsing k then transformTryBlock cur hoist h k
       else return (node h k)
   rest ← transformTryParts cur hoist r

@@ -9,6 +9,7 @@ use Rattle.meaning.specs.Numbers.Kind
 use Rattle.meaning.specs.Numbers.SymbolFlag
 use Rattle.meaning.specs.Tree.{if_then_else_, Head, hd, Forest, none, more, one, Node, node, _&_}
 use Rattle.meaning.specs.File.{Symbol}
+use Rattle.meaning.specs.Statements.{isUsing}
 use Rattle.meaning.specs.Shapes.{block, declaration, read}
 use Rattle.meaning.specs.Scoping.{
   Change,
@@ -46,6 +47,20 @@ unfoldable pub bindsName : List Symbol → ℕ → ℕ → Bool
 bindsName asRead scope y =
     let s = rowAt noSymbol asRead y in
     eqb (s .made) 0 && not (eqb (getBinding asRead scope (s .name)) 0)
+
+-- What becomes of a ForOf: nothing without a using of an identifier; the using goes in at index 0 of a body Block that does not bind its name;
+-- any other body is wrapped.
+pub data ForOfAct : Type 0 where
+  stay insert wrap : ForOfAct
+
+unfoldable pub forOfAct : List Symbol → Forest → ForOfAct
+forOfAct asRead none = stay
+forOfAct asRead (more h₁ k₁ none) = stay
+forOfAct asRead (more h₁ k₁ (more h₂ k₂ none)) = stay
+forOfAct asRead (more h₁ k₁ (more h₂ k₂ (more h₃ k₃ r))) =
+    if isUsing h₁ && bindsIdentifier k₁ then
+    (if eqb (h₃ .tag) Tag.Block && not (bindsName asRead (h₃ .a) (boundSymbol k₁)) then insert else wrap)
+    else stay
 
 -- the body with the using at index 0, which moves to the body's scope
 unfoldable pub insertUsing : ℕ → Forest → Head → Forest → Change Forest

@@ -1,7 +1,7 @@
 -- The walk, one visit at a time (01, "Rewrites").
 -- Assumes nothing.
 use mathlib.Core.List.{List, [], _∷_}
-use mathlib.Core.Bool.{Bool, true, false, not, _&&_}
+use mathlib.Core.Bool.{Bool, true, false}
 use Prim.Native.Nat.{ℕ, zero, suc}
 use lib.Dec.{eqb}
 use Rattle.meaning.specs.Numbers.Tag
@@ -9,7 +9,7 @@ use Rattle.meaning.specs.Tree.{if_then_else_, oneOf, Head, Forest, none,
 use Rattle.meaning.specs.File.{Symbol, File}
 use Rattle.meaning.specs.Grammar.{scopeOf, below}
 use Rattle.meaning.specs.Scoping.{Store, Change, return}
-use Rattle.meaning.specs.Statements.{isUsing, anyUsing}
+use Rattle.meaning.specs.Statements.{anyUsing}
 use Rattle.meaning.specs.Contexts.{
   anyPartUsing,
   anyCaseUsing,
@@ -21,7 +21,7 @@ use Rattle.meaning.specs.Contexts.{
   transformForStatement,
   transformSwitchStatement,
 }
-use Rattle.meaning.specs.ForOf.{bindsIdentifier, boundSymbol, bindsName, enterForOfStatement}
+use Rattle.meaning.specs.ForOf.{ForOfAct, stay, insert, wrap, forOfAct, enterForOfStatement}
 use Rattle.meaning.specs.Program.{enterProgram}
 
 -- ---- what entering a record does
@@ -32,15 +32,10 @@ pub data Act : Type 0 where
 abbrev pub actIf : Bool → Act → Act
 actIf b a = if b then a else keep
 
--- a ForOf with a using: the using goes in at index 0 of a body Block that does not bind its name; any other body is wrapped
-unfoldable pub forOfAct : List Symbol → Forest → Act
-forOfAct asRead none = keep
-forOfAct asRead (more h₁ k₁ none) = keep
-forOfAct asRead (more h₁ k₁ (more h₂ k₂ none)) = keep
-forOfAct asRead (more h₁ k₁ (more h₂ k₂ (more h₃ k₃ r))) =
-    actIf
-    (isUsing h₁ && bindsIdentifier k₁)
-    (if eqb (h₃ .tag) Tag.Block && not (bindsName asRead (h₃ .a) (boundSymbol k₁)) then forOfInsert else forOfWrap)
+abbrev pub ofForOf : ForOfAct → Act
+ofForOf stay = keep
+ofForOf insert = forOfInsert
+ofForOf wrap = forOfWrap
 
 -- A Block below a Try or a Catch is never met here with a using: the visit to its Try took it up.
 unfoldable pub actOf : List Symbol → Head → Forest → Act
@@ -49,7 +44,7 @@ actOf asRead h k =
     if eqb t Tag.Program then actIf (anyUsing k) program
     else if eqb t Tag.Block then actIf (anyUsing k) block
     else if oneOf (Tag.Label ∷ Tag.For ∷ []) t then actIf (anyUsing (forList (one h k))) forLoop
-    else if eqb t Tag.ForOf then forOfAct asRead k
+    else if eqb t Tag.ForOf then ofForOf (forOfAct asRead k)
     else if eqb t Tag.Switch then actIf (anyCaseUsing k) switch
     else if eqb t Tag.Try then actIf (anyPartUsing k) tryParts
     else if eqb t Tag.Body then actIf (anyUsing k) functionBody

@@ -26,7 +26,7 @@ use Rattle.meaning.specs.Contexts.{
   enterFunctionBody,
   exitStaticBlock,
   transformTryBlock,
-  transformHandler,
+  moveCatchNames,
   transformTryParts,
   enterTryStatement,
   forList,
@@ -37,6 +37,7 @@ use Rattle.meaning.specs.Contexts.{
   transformSwitchStatement,
 }
 use Rattle.meaning.specs.Walk.{leave}
+use Rattle.spec_laws.specs.Trees.{transformHandler}
 use Rattle.readback_laws.specs.Back.{Childless}
 use Rattle.readback_laws.specs.Taken.{Bare, never, list-childless, cases-childless, for-childless, try-childless}
 
@@ -133,7 +134,7 @@ one-part : (x y : Bool) (cur hoist : ℕ) (h : Head) (k r : Forest) (inside : Ch
     (single
     (((if x then transformHandler h k inside else if y then transformTryBlock cur hoist h k else return (node h k)) st) .0)
     & r)
-unfolding transformHandler _&_
+unfolding moveCatchNames _&_
 one-part true y cur hoist h k r inside st o p s i q = ((λ e. s (o e)), i, q)
 one-part false true cur hoist h k r inside st o p s i q = try-block cur hoist h k r st p q
 one-part false false cur hoist h k r inside st o p s i q = (o, p, q)

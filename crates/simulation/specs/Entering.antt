@@ -9,6 +9,7 @@ use Rattle.meaning.specs.Tree.{Head, hd, Forest, none, more, one}
 use Rattle.meaning.specs.Scoping.{Store}
 use Rattle.meaning.specs.Statements.{anyUsing}
 use Rattle.meaning.specs.Contexts.{anyPartUsing, anyCaseUsing, forList}
+use Rattle.meaning.specs.ForOf.{forOfAct}
 use Rattle.meaning.specs.Walk.{
   Act,
   keep,
@@ -19,7 +20,7 @@ use Rattle.meaning.specs.Walk.{
   forLoop,
   switch,
   actIf,
-  forOfAct,
+  ofForOf,
   actOf,
   enterAs,
   enter,
@@ -100,7 +101,7 @@ module _ (done k r : Forest) (path : List Crumb) (st : Store) (g : ℕ) (z : Res
       (λ g z. rw (tag-is done (tagged 7) k r path st g z))
       (for-by done (tagged 7) k r path st g z (anyUsing (forList (one (tagged 7) k))) refl (p .label))
   by-tag p q (there e₁ (there e₂ (there e₄ (there e₇ here)))) =
-      by-its 8 rewriteForOfF (forOfAct (st .asRead) k)
+      by-its 8 rewriteForOfF (ofForOf (forOfAct (st .asRead) k))
       (λ g z. rw (tag-is done (tagged 8) k r path st g z))
       (for-of-by done (tagged 8) k r path st g z (p .side refl))
   by-tag p q (there e₁ (there e₂ (there e₄ (there e₇ (there e₈ here))))) =

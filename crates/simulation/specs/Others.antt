@@ -15,22 +15,16 @@ use Rattle.meaning.specs.Contexts.{anyPartUsing, transformTryParts, enterTrySta
 use Rattle.meaning.specs.Program.{programItems, enterProgram}
 use Rattle.meaning.specs.Charges.{forOf, forOfBlock, lineCharge, total}
 use Rattle.meaning.specs.Due.{isContext, missing}
-use Rattle.meaning.specs.ForOf.{bindsIdentifier, boundSymbol, bindsName}
+use Rattle.meaning.specs.ForOf.{bindsIdentifier, boundSymbol, bindsName, ForOfAct, stay, insert, wrap, forOfAct}
 use Rattle.meaning.specs.Walk.{
   Crumb,
   at,
   Act,
   keep,
   program,
-  block,
-  functionBody,
   tryParts,
-  forLoop,
-  switch,
-  forOfInsert,
-  forOfWrap,
   actIf,
-  forOfAct,
+  ofForOf,
   enterAs,
   currentScope,
   hoistScope,
@@ -123,16 +117,10 @@ module _ (done : Forest) (h : Head) (k r : Forest) (path : List Crumb) (st : Sto
 -- ---- a ForOf
 
 -- what an act does to the tables
-abbrev doneAs : Act → Tables → Tables
-doneAs keep q = q
-doneAs program q = q
-doneAs block q = q
-doneAs functionBody q = q
-doneAs tryParts q = q
-doneAs forLoop q = q
-doneAs switch q = q
-doneAs forOfInsert q = insertUsingF q
-doneAs forOfWrap q = wrapBodyF q
+abbrev doneAs : ForOfAct → Tables → Tables
+doneAs stay q = q
+doneAs insert q = insertUsingF q
+doneAs wrap q = wrapBodyF q
 
 as-decided : (q : Tables) → rewriteForOfF q ≡ doneAs (forOfActF q) q
 unfolding rewriteForOfF
@@ -142,26 +130,26 @@ as-decided q =
   where
     by : (b c : Bool)
         → (if b then (if c then insertUsingF q else wrapBodyF q) else q)
-        ≡ doneAs (if b then (if c then forOfInsert else forOfWrap) else keep) q
+        ≡ doneAs (if b then (if c then insert else wrap) else stay) q
     by true true = refl
     by true false = refl
     by false c = refl
 
 -- 01's act is done
-acts : (done : Forest) (h : Head) (k r : Forest) (path : List Crumb) (st : Store) (g : ℕ) (z : Rest) (a : Act)
+acts : (done : Forest) (h : Head) (k r : Forest) (path : List Crumb) (st : Store) (g : ℕ) (z : Rest) (a : ForOfAct)
     → (let s = at done h k r path st in
     length (visitedAt s) + g + length (restAt s) ≤ 65535 → Agreed st → Left k → forOfAct (st .asRead) k ≡ a
     → rewriteForOfF (held s g z) ≡ doneAs a (held s g z))
 acts done h k r path st g z a fits ag l e =
     let q = held (at done h k r path st) g z in
-    as-decided q ∙ ap (λ (x : Act). doneAs x q) (for-of-act-law done h k r path st g z fits ag l ∙ e)
+    as-decided q ∙ ap (λ (x : ForOfAct). doneAs x q) (for-of-act-law done h k r path st g z fits ag l ∙ e)
 
 -- without three children, or without a using
 plain-by : (done : Forest) (h : Head) (k r : Forest) (path : List Crumb) (st : Store) (g : ℕ) (z : Rest) → Left k
-    → forOfAct (st .asRead) k ≡ keep → By done h k r path st g z rewriteForOfF keep
+    → forOfAct (st .asRead) k ≡ stay → By done h k r path st g z rewriteForOfF keep
 unfolding enterAs
 plain-by done h k r path st g z l e =
-    kept-by done h k r path st g z rewriteForOfF (λ fits a. acts done h k r path st g z keep fits a l e)
+    kept-by done h k r path st g z rewriteForOfF (λ fits a. acts done h k r path st g z stay fits a l e)
 
 module _ (done : Forest) (h h₁ : Head) (k₁ : Forest) (h₂ : Head) (k₂ : Forest) (h₃ : Head) (k₃ r₃ r : Forest) (path : List Crumb)
     (st : Store) (g : ℕ) (z : Rest) where
@@ -178,24 +166,24 @@ module _ (done : Forest) (h h₁ : Head) (k₁ : Forest) (h₂ : Head) (k₂ : F
   is-using e = and-left (isUsing h₁) (bindsIdentifier k₁) e
 
   three-by : (b c : Bool) → takes ≡ b → inserts ≡ c → Left k
-      → By done h k r path st g z rewriteForOfF (actIf b (if c then forOfInsert else forOfWrap))
+      → By done h k r path st g z rewriteForOfF (ofForOf (if b then (if c then insert else wrap) else stay))
   unfolding enterAs forOfAct lineCharge isContext
   three-by true true e d l =
       done-by done h k r path st g z rewriteForOfF _ 4 0 1
       (λ a. line-takes h k st _ forOf (insert-pays h h₁ k₁ h₂ k₂ h₃ k₃ r₃ st (is-using e) (l e .0)) refl)
       (λ fits a room.
-      acts done h k r path st (4 + g) (withFree 0 1 z) forOfInsert fits a l (rw (e, d))
+      acts done h k r path st (4 + g) (withFree 0 1 z) insert fits a l (rw (e, d))
       ∙ insert-law done h h₁ k₁ h₂ k₂ h₃ k₃ r₃ r path st g z (l e .1) fits a room)
   three-by true false e d l =
       done-by done h k r path st g z rewriteForOfF _ 5 1 1
       (λ a. line-takes h k st _ forOfBlock (wrap-pays h h₁ k₁ h₂ k₂ h₃ k₃ r₃ st (is-using e) (l e .0)) refl)
       (λ fits a room.
-      acts done h k r path st (5 + g) (withFree 1 1 z) forOfWrap fits a l (rw (e, d))
+      acts done h k r path st (5 + g) (withFree 1 1 z) wrap fits a l (rw (e, d))
       ∙ wrap-law done h h₁ k₁ h₂ k₂ h₃ k₃ r₃ r path st g z (l e .1) fits a room)
   three-by false c e d l = plain-by done h k r path st g z l (rw e)
 
 pub for-of-by : (done : Forest) (h : Head) (k r : Forest) (path : List Crumb) (st : Store) (g : ℕ) (z : Rest) → Left k
-    → By done h k r path st g z rewriteForOfF (forOfAct (st .asRead) k)
+    → By done h k r path st g z rewriteForOfF (ofForOf (forOfAct (st .asRead) k))
 unfolding forOfAct
 for-of-by done h none r path st g z l = plain-by done h none r path st g z l refl
 for-of-by done h (more h₁ k₁ none) r path st g z l = plain-by done h (one h₁ k₁) r path st g z l refl

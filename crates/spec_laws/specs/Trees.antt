@@ -8,9 +8,10 @@ use native.Mathlib.Omega.{arith}
 use lib.Dec.{eqb}
 use lib.ListN.{length, length-set}
 use borrow.Author.Tests.{eqb-true}
-use Rattle.meaning.specs.Tree.{if_then_else_, oneOf, Head, hd, Forest, none, more, count, size}
+use Rattle.meaning.specs.Tree.{if_then_else_, oneOf, Head, hd, Forest, none, more, count, size, Node, node}
 use Rattle.meaning.specs.File.{numbersOf, twoBytes}
-use Rattle.meaning.specs.Scoping.{setRow}
+use Rattle.meaning.specs.Scoping.{Change, _>>=_, _>>_, return, setRow}
+use Rattle.meaning.specs.Contexts.{moveCatchNames}
 use Rattle.meaning.specs.Walk.{Spot, visit, visits}
 
 -- ---- trees
@@ -24,6 +25,13 @@ count-size (more h k r) = omega (arith, count-size r)
 pub expression-tag : (b : Bool) (h : Head) → eqb (h .tag) 15 ≡ b → (if b then hd 15 1 (h .b) (h .c) else h) .tag ≡ h .tag
 expression-tag true h e = sym (eqb-true (h .tag) 15 e)
 expression-tag false h e = refl
+
+-- what becomes of a Catch whose parts `inside` lowers
+abbrev pub transformHandler : Head → Forest → Change Forest → Change Node
+transformHandler h k inside = do
+  parts ← inside
+  moveCatchNames k parts
+  return (node h parts)
 
 -- ---- rows
 

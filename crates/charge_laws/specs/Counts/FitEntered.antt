@@ -27,7 +27,7 @@ use Rattle.meaning.specs.Contexts.{
   transformBlockStatement,
   enterFunctionBody,
   transformTryBlock,
-  transformHandler,
+  moveCatchNames,
   transformTryParts,
   enterTryStatement,
   forList,
@@ -58,6 +58,7 @@ use Rattle.meaning.specs.Program.{
   enterProgram,
 }
 use Rattle.meaning.specs.Walk.{Act, enterAs, enter}
+use Rattle.spec_laws.specs.Trees.{transformHandler}
 use Rattle.spec_laws.specs.Tags.{Seen, other, here, there, seen, clash, and-left}
 use Rattle.charge_laws.specs.Totals.Roles.{Lacks}
 use Rattle.charge_laws.specs.Growth.Chosen.{Chosen, kept, as-program, as-block, as-body, as-try, as-for, as-switch, as-insert, as-wrap, chosen}
@@ -156,7 +157,7 @@ one-part : {t : ℕ} (cur hoist a b c : ℕ) (k r : Forest) (inside : Change For
     else return (node h k))
     st) .0)
     & r)
-unfolding transformHandler _&_
+unfolding moveCatchNames _&_
 one-part cur hoist a b c k r inside st here o p l i q = (catch-fit (l (o .handler refl)), i, q)
 one-part cur hoist a b c k r inside st (there e₁₂ here) o p l i q = block-part (anyUsing k) cur hoist a b c k r st o p q
 one-part {t} cur hoist a b c k r inside st (there e₁₂ (there e₂ other)) o p l i q =

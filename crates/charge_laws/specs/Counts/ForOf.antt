@@ -11,7 +11,7 @@ use Rattle.meaning.specs.File.{Symbol}
 use Rattle.meaning.specs.Scoping.{Store, symbolIn, createSymbol, insertScopeBelow}
 use Rattle.meaning.specs.Shapes.{declaration, read}
 use Rattle.meaning.specs.Statements.{isUsing, anyUsing}
-use Rattle.meaning.specs.ForOf.{bindsIdentifier, boundSymbol, rebind, insertUsing, wrapBody, enterForOfStatement}
+use Rattle.meaning.specs.ForOf.{bindsIdentifier, boundSymbol, rebind, insert, wrap, insertUsing, wrapBody, enterForOfStatement}
 use Rattle.meaning.specs.Walk.{forOfInsert, forOfWrap, actOf}
 use Rattle.meaning.specs.Charges.{Line, ofBlock, context, wrapped, initializers, wraps, contextLines}
 use Rattle.meaning.specs.Due.{enterLines}
@@ -57,7 +57,7 @@ module _ (ys : List Symbol) where
 
   insert-visits : (kind y temp : ℕ) (h : Head) (k : Forest) (xs : List (List Line)) → h .tag ≡ 2 → oneOf (3 ∷ 4 ∷ []) kind ≡ true
       → let list = declaration kind y (read temp) & k in
-      spread ys (visitsStanding ys h list) list xs ≡ spread ys (visitsBody ys forOfInsert h k) k xs
+      spread ys (visitsStanding ys h list) list xs ≡ spread ys (visitsBody ys insert h k) k xs
   unfolding visitsBody
   insert-visits kind y temp h k xs e u =
       let list = declaration kind y (read temp) & k in
@@ -71,7 +71,7 @@ module _ (ys : List Symbol) where
 
   wrap-visits : (kind y temp scope : ℕ) (h : Head) (k : Forest) (xs : List (List Line)) → oneOf (3 ∷ 4 ∷ []) kind ≡ true
       → let list = declaration kind y (read temp) & one h k in
-      spread ys (visitsStanding ys (hd 2 scope 0 0) list) list xs ≡ spread ys (visitsBody ys forOfWrap h k) k xs
+      spread ys (visitsStanding ys (hd 2 scope 0 0) list) list xs ≡ spread ys (visitsBody ys wrap h k) k xs
   unfolding visitsBody visitsIn visitsOf
   wrap-visits kind y temp scope h k xs u =
       held-visits y temp scope 0 0 (one h k) xs (seen (3 ∷ 4 ∷ []) kind) u
@@ -94,7 +94,7 @@ module _ (ys : List Symbol) where
         (sym
         (ap (λ (v : List (List Line)). spread ys (visitsStanding ys (hd 5 2 0 0) (rebind t k₁)) (rebind t k₁) (spread ys (visitsStanding ys h₂ k₂) k₂ v))
         (insert-visits (h₁ .a) (boundSymbol k₁) t h₃ k₃ rest e kind)
-        ∙ left-visits t h₁ k₁ (spread ys (visitsStanding ys h₂ k₂) k₂ (spread ys (visitsBody ys forOfInsert h₃ k₃) k₃ rest)) u b n))
+        ∙ left-visits t h₁ k₁ (spread ys (visitsStanding ys h₂ k₂) k₂ (spread ys (visitsBody ys insert h₃ k₃) k₃ rest)) u b n))
 
     pub wrap-opens : Opens ys forOfWrap h sides (enterForOfStatement true h sides st)
     unfolding enterForOfStatement wrapBody visitsAs visitsIn visitsOf next _&_
@@ -107,4 +107,4 @@ module _ (ys : List Symbol) where
         (sym
         (ap (λ (v : List (List Line)). spread ys (visitsStanding ys (hd 5 2 0 0) (rebind t k₁)) (rebind t k₁) (spread ys (visitsStanding ys h₂ k₂) k₂ v))
         (wrap-visits (h₁ .a) (boundSymbol k₁) t (s .0) h₃ k₃ rest kind)
-        ∙ left-visits t h₁ k₁ (spread ys (visitsStanding ys h₂ k₂) k₂ (spread ys (visitsBody ys forOfWrap h₃ k₃) k₃ rest)) u b n))
+        ∙ left-visits t h₁ k₁ (spread ys (visitsStanding ys h₂ k₂) k₂ (spread ys (visitsBody ys wrap h₃ k₃) k₃ rest)) u b n))

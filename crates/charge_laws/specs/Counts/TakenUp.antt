@@ -7,6 +7,7 @@ use Prim.Native.Nat.{ℕ, zero, suc}
 use lib.Dec.{eqb}
 use Rattle.meaning.specs.Tree.{if_then_else_, Head, hd, Forest, none, more, one, _&_}
 use Rattle.meaning.specs.File.{Symbol}
+use Rattle.meaning.specs.Scoping.{Store}
 use Rattle.meaning.specs.Statements.{
   isUsing,
   isAwaitUsing,
@@ -17,8 +18,11 @@ use Rattle.meaning.specs.Statements.{
   wrapInitializers,
   asTakenUp,
   takeUp,
+  createCatchClause,
+  createFinallyBlock,
+  createTryStmt,
 }
-use Rattle.meaning.specs.Contexts.{forList, takeUpFor, anyCaseUsing, takeUpCases}
+use Rattle.meaning.specs.Contexts.{anyPartUsing, forList, takeUpFor, anyCaseUsing, takeUpCases}
 use Rattle.meaning.specs.Walk.{forLoop, actOf}
 use Rattle.meaning.specs.Charges.{Line}
 use Rattle.charge_laws.specs.VisitCharges.{standing, takenUp, declarators, initializer, loop, cases, next, around, free, visitsAs, visitsStanding, visitsTakenUp, visitsOf, visitsIn}
@@ -72,6 +76,15 @@ no-loop-left : (f : Forest) (ctx : ℕ) → anyUsing (forList (takeUpFor ctx f))
 unfolding takeUpFor forList anyUsing
 no-loop-left none ctx = refl
 no-loop-left (more h k r) ctx = loop-gone (eqb (h .tag) 4) (eqb (h .tag) 7) ctx k (no-loop-left k ctx)
+
+or-none : (b c : Bool) → b ≡ false → ((true && b) || (false && c) || false) ≡ false
+or-none b c e = rw e
+
+-- nor in the Try that is made around a list
+pub no-part-left : (scope : ℕ) (list : Forest) (ctx parent : ℕ) (needsAwait : Bool) (st : Store) → anyUsing list ≡ false
+    → anyPartUsing ((createTryStmt scope list ctx parent needsAwait st) .0 .children) ≡ false
+unfolding createTryStmt createCatchClause createFinallyBlock anyPartUsing anyUsing isUsing _&_
+no-part-left scope list ctx parent needsAwait st e = or-none (anyUsing list) true e
 
 -- ---- the visits
 

@@ -36,7 +36,7 @@ use Rattle.meaning.specs.Contexts.{
   enterFunctionBody,
   transformTryBlock,
   anyPartUsing,
-  transformHandler,
+  moveCatchNames,
   transformTryParts,
   enterTryStatement,
   forList,
@@ -50,10 +50,11 @@ use Rattle.meaning.specs.Contexts.{
 use Rattle.meaning.specs.Walk.{Act, block, functionBody, tryParts, forLoop, switch, actOf}
 use Rattle.meaning.specs.Charges.{Line}
 use Rattle.meaning.specs.Due.{enterLines}
+use Rattle.spec_laws.specs.Trees.{transformHandler}
 use Rattle.charge_laws.specs.VisitCharges.{standing, takenUp, parts, loop, cases, next, Visits, around, free, inTry, visitsAs, visitsStanding, visitsOf, visitsIn}
 use Rattle.spec_laws.specs.Tags.{Seen, other, here, there, seen, clash}
 use Rattle.charge_laws.specs.Counts.Visits.{++-nil, spread, kept-if}
-use Rattle.charge_laws.specs.Counts.TakenUp.{none-left, no-case-left, Labelled, list-visits, cases-visits, loop-visits}
+use Rattle.charge_laws.specs.Counts.TakenUp.{none-left, no-case-left, no-part-left, Labelled, list-visits, cases-visits, loop-visits}
 
 -- a list with others before it and behind it
 regroup : {v : List (List Line)} (a m b xs : List (List Line)) → v ≡ a ++ (m ++ b) → a ++ (m ++ (b ++ xs)) ≡ v ++ xs
@@ -81,22 +82,15 @@ module _ (ys : List Symbol) where
       kept-if ys (anyUsing list) block (hd 2 scope 0 0) (declaration 0 ctx ((helperLoad cur st) .0) & list) (free 6) e
       ∙ ap (λ (v : List (List Line)). [] ∷ (v ++ free 6)) (declared-if (eqb (st .mode) 0) ctx cur st list)
 
-  or-none : (b c : Bool) → b ≡ false → ((true && b) || (false && c) || false) ≡ false
-  or-none b c e = rw e
-
-  no-part-left : (scope : ℕ) (list : Forest) (ctx cur parent : ℕ) (needsAwait : Bool) (st st′ : Store) → anyUsing list ≡ false
-      → anyPartUsing ((tried scope list ctx cur parent needsAwait st st′) .children) ≡ false
-  unfolding createTryStmt createCatchClause createFinallyBlock anyPartUsing anyUsing isUsing _&_
-  no-part-left scope list ctx cur parent needsAwait st st′ e = or-none (anyUsing list) true e
-
   -- the Try itself, as it stands
   made-visits : (scope : ℕ) (list : Forest) (ctx cur parent : ℕ) (needsAwait : Bool) (st st′ : Store) → anyUsing list ≡ false
       → visitsIn ys (single (tried scope list ctx cur parent needsAwait st st′)) standing
       ≡ free 6 ++ (visitsIn ys list standing ++ free 6)
-  unfolding visitsIn visitsOf visitsStanding visitsAs actOf next createTryStmt
+  unfolding visitsIn visitsOf visitsStanding visitsAs actOf next createTryStmt anyUsing isUsing _&_
   made-visits scope list ctx cur parent needsAwait st st′ e =
       let kids = (tried scope list ctx cur parent needsAwait st st′) .children in
-      kept-if ys (anyPartUsing kids) tryParts (hd 11 3 0 0) kids [] (no-part-left scope list ctx cur parent needsAwait st st′ e)
+      kept-if ys (anyPartUsing kids) tryParts (hd 11 3 0 0) kids []
+      (no-part-left scope (declaration 0 ctx ((helperLoad cur st) .0) & list) ctx parent needsAwait st′ e)
       ∙ ap (_∷_ []) (++-nil (visitsIn ys kids standing) ∙ try-visits scope list ctx cur parent needsAwait st st′ e)
 
   -- ---- what is entered
@@ -205,7 +199,7 @@ module _ (ys : List Symbol) where
       st) .0)
       & r′) standing
       ≡ visitsIn ys (more h k r) parts
-  unfolding transformHandler visitsIn visitsOf visitsStanding visitsAs actOf next _&_
+  unfolding moveCatchNames visitsIn visitsOf visitsStanding visitsAs actOf next _&_
   one-part cur hoist a b c k r r′ inside st here i j = ap₂ (λ (v w : List (List Line)). [] ∷ (v ++ w)) i j
   one-part cur hoist a b c k r r′ inside st (there e₁₂ here) i j = block-part (anyUsing k) cur hoist a b c k r r′ st j
   one-part {t} cur hoist a b c k r r′ inside st (there e₁₂ (there e₂ other)) i j =

@@ -8,7 +8,8 @@ use native.Mathlib.Omega.{arith}
 use Rattle.meaning.specs.Tree.{if_then_else_, Head, hd, Forest, none, more, one}
 use Rattle.meaning.specs.File.{Symbol}
 use Rattle.meaning.specs.Statements.{isUsing, anyUsing}
-use Rattle.meaning.specs.Walk.{block, actIf, actOf, forOfInsert, forOfWrap}
+use Rattle.meaning.specs.ForOf.{insert, wrap}
+use Rattle.meaning.specs.Walk.{block, actIf, actOf}
 use Rattle.meaning.specs.Charges.{Line, context, wrapped, ofBlock, wraps, contextLines, bodyLines}
 use Rattle.meaning.specs.Due.{enterLines}
 use Rattle.charge_laws.specs.VisitCharges.{standing, left, right, body, next, free, visitsAs, visitsStanding, visitsTakenUp, visitsBody, visitsOf}
@@ -27,20 +28,20 @@ no-wraps (more h k r) e =
 module _ (w : Line → ℕ) (linear : Linear w) (ys : List Symbol) where
   -- the body Block that takes the using, by whether its list has one
   insert-if : (u : Bool) (a b c : ℕ) (k : Forest) → anyUsing k ≡ u
-      → costOf w ys (visitsBody ys forOfInsert (hd 2 a b c) k) k
+      → costOf w ys (visitsBody ys insert (hd 2 a b c) k) k
       ≡ w (wrapped 1) + cost w (if u then [] else context ofBlock ∷ []) + costOf w ys (visitsAs (actIf u block) (hd 2 a b c) k) k
   unfolding visitsBody visitsAs enterLines contextLines costs cost
   insert-if true a b c k u = rw u (omega (arith, linear (wraps k), taken-up-same w ys k))
   insert-if false a b c k u = rw (no-wraps k u) (omega (arith, taken-up-same w ys k))
 
   insert-body : (h : Head) (k : Forest) → h .tag ≡ 2
-      → costOf w ys (visitsBody ys forOfInsert h k) k
+      → costOf w ys (visitsBody ys insert h k) k
       ≡ w (wrapped 1) + cost w (if anyUsing k then [] else context ofBlock ∷ []) + costOf w ys (visitsStanding ys h k) k
   unfolding visitsStanding actOf visitsBody
   insert-body h k e = rw (standing-at ys h k 2 e) (insert-if (anyUsing k) (h .a) (h .b) (h .c) k refl)
 
   wrap-body : (h : Head) (k : Forest) → isUsing h ≡ false
-      → costOf w ys (visitsBody ys forOfWrap h k) k
+      → costOf w ys (visitsBody ys wrap h k) k
       ≡ w (wrapped 1) + w (context ofBlock) + costOf w ys (visitsStanding ys h k) k
   unfolding visitsBody visitsTakenUp anyUsing costs cost
   wrap-body h k e =
@@ -54,14 +55,14 @@ module _ (w : Line → ℕ) (linear : Linear w) (ys : List Symbol) where
     sides = more h₁ k₁ (more h₂ k₂ (more h₃ k₃ r))
 
     pub insert-same : h₃ .tag ≡ 2
-        → visited w ys sides (left forOfInsert) ≡ w (wrapped 1) + cost w (bodyLines sides) + visited w ys sides standing
+        → visited w ys sides (left insert) ≡ w (wrapped 1) + cost w (bodyLines sides) + visited w ys sides standing
     unfolding visitsOf next bodyLines
     insert-same e =
         omega (
           arith,
-          one-visited w ys (left forOfInsert) h₁ k₁ (more h₂ k₂ (more h₃ k₃ r)),
-          one-visited w ys (right forOfInsert) h₂ k₂ (more h₃ k₃ r),
-          one-visited w ys (body forOfInsert) h₃ k₃ r,
+          one-visited w ys (left insert) h₁ k₁ (more h₂ k₂ (more h₃ k₃ r)),
+          one-visited w ys (right insert) h₂ k₂ (more h₃ k₃ r),
+          one-visited w ys (body insert) h₃ k₃ r,
           one-visited w ys standing h₁ k₁ (more h₂ k₂ (more h₃ k₃ r)),
           one-visited w ys standing h₂ k₂ (more h₃ k₃ r),
           one-visited w ys standing h₃ k₃ r,
@@ -69,14 +70,14 @@ module _ (w : Line → ℕ) (linear : Linear w) (ys : List Symbol) where
         )
 
     pub wrap-same : isUsing h₃ ≡ false
-        → visited w ys sides (left forOfWrap) ≡ w (wrapped 1) + w (context ofBlock) + visited w ys sides standing
+        → visited w ys sides (left wrap) ≡ w (wrapped 1) + w (context ofBlock) + visited w ys sides standing
     unfolding visitsOf next
     wrap-same e =
         omega (
           arith,
-          one-visited w ys (left forOfWrap) h₁ k₁ (more h₂ k₂ (more h₃ k₃ r)),
-          one-visited w ys (right forOfWrap) h₂ k₂ (more h₃ k₃ r),
-          one-visited w ys (body forOfWrap) h₃ k₃ r,
+          one-visited w ys (left wrap) h₁ k₁ (more h₂ k₂ (more h₃ k₃ r)),
+          one-visited w ys (right wrap) h₂ k₂ (more h₃ k₃ r),
+          one-visited w ys (body wrap) h₃ k₃ r,
           one-visited w ys standing h₁ k₁ (more h₂ k₂ (more h₃ k₃ r)),
           one-visited w ys standing h₂ k₂ (more h₃ k₃ r),
           one-visited w ys standing h₃ k₃ r,

@@ -12,7 +12,7 @@ use Rattle.meaning.specs.Tree.{if_then_else_, Head, hd, Forest, none, more, one
 use Rattle.meaning.specs.File.{Symbol}
 use Rattle.meaning.specs.Statements.{isUsing, anyUsing}
 use Rattle.meaning.specs.Contexts.{anyPartUsing, anyCaseUsing, forList}
-use Rattle.meaning.specs.ForOf.{bindsIdentifier, boundSymbol, bindsName}
+use Rattle.meaning.specs.ForOf.{bindsIdentifier, boundSymbol, bindsName, ForOfAct, stay, insert, wrap, forOfAct}
 use Rattle.meaning.specs.Walk.{
   Act,
   keep,
@@ -22,10 +22,8 @@ use Rattle.meaning.specs.Walk.{
   tryParts,
   forLoop,
   switch,
-  forOfInsert,
-  forOfWrap,
   actIf,
-  forOfAct,
+  ofForOf,
   actOf,
 }
 use Rattle.meaning.specs.Charges.{Line, ofTryPart, contextLines, forOfLines, ownLines, treeLines}
@@ -125,18 +123,18 @@ module _ (w : Line → ℕ) (linear : Linear w) (ys : List Symbol) where
   -- ---- a ForOf
 
   module _ (a b c : ℕ) where
-    abbrev FoundAs : Forest → Act → Type 0
-    FoundAs k x = costOf w ys (visitsAs x (hd 8 a b c) k) k ≡ cost w (forOfLines x k) + found 8 k
+    abbrev FoundAs : Forest → ForOfAct → Type 0
+    FoundAs k x = costOf w ys (visitsAs (ofForOf x) (hd 8 a b c) k) k ≡ cost w (forOfLines x k) + found 8 k
 
-    found-if : (k : Forest) (e : Bool) (x y : Act) → (e ≡ true → FoundAs k x) → FoundAs k y → FoundAs k (if e then x else y)
+    found-if : (k : Forest) (e : Bool) (x y : ForOfAct) → (e ≡ true → FoundAs k x) → FoundAs k y → FoundAs k (if e then x else y)
     found-if k true x y p q = p refl
     found-if k false x y p q = q
 
-    plain-found : (k : Forest) → visited w ys k standing ≡ found 8 k → FoundAs k keep
+    plain-found : (k : Forest) → visited w ys k standing ≡ found 8 k → FoundAs k stay
     unfolding visitsAs forOfLines costs cost
     plain-found k s = omega arith
 
-    for-of-found : (k : Forest) → PlainBody k → visited w ys k standing ≡ found 8 k → Found (forOfAct ys k) (hd 8 a b c) k
+    for-of-found : (k : Forest) → PlainBody k → visited w ys k standing ≡ found 8 k → Found (ofForOf (forOfAct ys k)) (hd 8 a b c) k
     unfolding ownLines forOfAct visitsAs enterLines forOfLines costs cost
     for-of-found none p s = plain-found none s
     for-of-found (more h₁ k₁ none) p s = plain-found (one h₁ k₁) s
@@ -145,8 +143,8 @@ module _ (w : Line → ℕ) (linear : Linear w) (ys : List Symbol) where
         let k = more h₁ k₁ (more h₂ k₂ (more h₃ k₃ r)) in
         let unbound = not (bindsName ys (h₃ .a) (boundSymbol k₁)) in
         let two : Bool = eqb (h₃ .tag) 2 && unbound in
-        found-if k (isUsing h₁ && bindsIdentifier k₁) (if two then forOfInsert else forOfWrap) keep
-        (λ _. found-if k two forOfInsert forOfWrap
+        found-if k (isUsing h₁ && bindsIdentifier k₁) (if two then insert else wrap) stay
+        (λ _. found-if k two insert wrap
         (λ e. omega (arith, insert-same w linear ys h₁ k₁ h₂ k₂ h₃ k₃ r (eqb-true (h₃ .tag) 2 (and-left (eqb (h₃ .tag) 2) unbound e))))
         (omega (arith, wrap-same w linear ys h₁ k₁ h₂ k₂ h₃ k₃ r p)))
         (plain-found k s)

@@ -10,8 +10,8 @@ use Rattle.meaning.specs.Tree.{if_then_else_, oneOf, Head, hd, Forest, none, mo
 use Rattle.meaning.specs.File.{Symbol}
 use Rattle.meaning.specs.Statements.{isUsing, anyUsing}
 use Rattle.meaning.specs.Contexts.{anyPartUsing, anyCaseUsing, forList}
-use Rattle.meaning.specs.ForOf.{bindsIdentifier, boundSymbol, bindsName}
-use Rattle.meaning.specs.Walk.{Act, keep, program, block, functionBody, tryParts, forLoop, switch, forOfInsert, forOfWrap, forOfAct, actOf}
+use Rattle.meaning.specs.ForOf.{bindsIdentifier, boundSymbol, bindsName, ForOfAct, stay, insert, wrap, forOfAct}
+use Rattle.meaning.specs.Walk.{Act, keep, program, block, functionBody, tryParts, forLoop, switch, forOfInsert, forOfWrap, ofForOf, actOf}
 use Rattle.spec_laws.specs.Tags.{Seen, other, here, there, seen, clash, and-left, and-right}
 
 -- the left side of a ForOf that is rewritten: a using of an identifier
@@ -27,10 +27,11 @@ heldUsing (more h₁ k₁ none) = false
 heldUsing (more h₁ k₁ (more h₂ k₂ none)) = false
 heldUsing (more h₁ k₁ (more h₂ k₂ (more h₃ k₃ r))) = isUsing h₁ && bindsIdentifier k₁
 
--- why a record is kept: no using stands in its list, and a ForOf holds none
+-- why a record is kept: no using stands in its list, a ForOf holds none, and no part of a Try has one
 pub record Idle (h : Head) (k : Forest) : Type 0 where
   pub list : oneOf (1 ∷ 2 ∷ 7 ∷ 14 ∷ []) (h .tag) ≡ true → anyUsing k ≡ false
   pub loop : eqb (h .tag) 8 ≡ true → heldUsing k ≡ false
+  pub parts : eqb (h .tag) 11 ≡ true → anyPartUsing k ≡ false
 
 pub data Chosen : Act → Head → Forest → Type 0 where
   kept : {h : Head} {k : Forest} → Idle h k → Chosen keep h k
@@ -46,54 +47,62 @@ pub data Chosen : Act → Head → Forest → Type 0 where
       → Chosen forOfWrap h (more h₁ k₁ (more h₂ k₂ (more h₃ k₃ r)))
 
 -- a record that is kept for its list, for what it holds, or because neither is looked at
-idle-list : {h : Head} {k : Forest} → eqb (h .tag) 8 ≡ false → anyUsing k ≡ false → Idle h k
-idle-list n u = record { list = (λ _. u); loop = (λ e. absurd (clash n e)) }
+idle-list : {h : Head} {k : Forest} → eqb (h .tag) 8 ≡ false → eqb (h .tag) 11 ≡ false → anyUsing k ≡ false → Idle h k
+idle-list n m u = record { list = (λ _. u); loop = (λ e. absurd (clash n e)); parts = (λ e. absurd (clash m e)) }
 
-idle-loop : {h : Head} {k : Forest} → oneOf (1 ∷ 2 ∷ 7 ∷ 14 ∷ []) (h .tag) ≡ false → heldUsing k ≡ false → Idle h k
-idle-loop n u = record { list = (λ e. absurd (clash n e)); loop = (λ _. u) }
+idle-loop : {a b c : ℕ} {k : Forest} → heldUsing k ≡ false → Idle (hd 8 a b c) k
+idle-loop u = record { list = (λ e. absurd (clash refl e)); loop = (λ _. u); parts = (λ e. absurd (clash refl e)) }
 
-idle : {h : Head} {k : Forest} → oneOf (1 ∷ 2 ∷ 7 ∷ 14 ∷ []) (h .tag) ≡ false → eqb (h .tag) 8 ≡ false → Idle h k
-idle n m = record { list = (λ e. absurd (clash n e)); loop = (λ e. absurd (clash m e)) }
+idle-try : {a b c : ℕ} {k : Forest} → anyPartUsing k ≡ false → Idle (hd 11 a b c) k
+idle-try u = record { list = (λ e. absurd (clash refl e)); loop = (λ e. absurd (clash refl e)); parts = (λ _. u) }
+
+idle : {h : Head} {k : Forest} → oneOf (1 ∷ 2 ∷ 7 ∷ 14 ∷ []) (h .tag) ≡ false → eqb (h .tag) 8 ≡ false → eqb (h .tag) 11 ≡ false → Idle h k
+idle l n m = record { list = (λ e. absurd (clash l e)); loop = (λ e. absurd (clash n e)); parts = (λ e. absurd (clash m e)) }
 
 chosen-if : {h : Head} {k : Forest} (b : Bool) {x y : Act} → (b ≡ true → Chosen x h k) → (b ≡ false → Chosen y h k)
     → Chosen (if b then x else y) h k
 chosen-if true p q = p refl
 chosen-if false p q = q refl
 
-for-of-chosen : (ys : List Symbol) (a b c : ℕ) (k : Forest) → Chosen (forOfAct ys k) (hd 8 a b c) k
+for-of-if : {h : Head} {k : Forest} (b : Bool) (x y : ForOfAct) → (b ≡ true → Chosen (ofForOf x) h k) → (b ≡ false → Chosen (ofForOf y) h k)
+    → Chosen (ofForOf (if b then x else y)) h k
+for-of-if true x y p q = p refl
+for-of-if false x y p q = q refl
+
+for-of-chosen : (ys : List Symbol) (a b c : ℕ) (k : Forest) → Chosen (ofForOf (forOfAct ys k)) (hd 8 a b c) k
 unfolding forOfAct heldUsing
-for-of-chosen ys a b c none = kept (idle-loop refl refl)
-for-of-chosen ys a b c (more h₁ k₁ none) = kept (idle-loop refl refl)
-for-of-chosen ys a b c (more h₁ k₁ (more h₂ k₂ none)) = kept (idle-loop refl refl)
+for-of-chosen ys a b c none = kept (idle-loop refl)
+for-of-chosen ys a b c (more h₁ k₁ none) = kept (idle-loop refl)
+for-of-chosen ys a b c (more h₁ k₁ (more h₂ k₂ none)) = kept (idle-loop refl)
 for-of-chosen ys a b c (more h₁ k₁ (more h₂ k₂ (more h₃ k₃ r))) =
     let free = not (bindsName ys (h₃ .a) (boundSymbol k₁)) in
-    chosen-if (isUsing h₁ && bindsIdentifier k₁)
+    for-of-if (isUsing h₁ && bindsIdentifier k₁) (if eqb (h₃ .tag) 2 && free then insert else wrap) stay
     (λ e.
     let d : Binds h₁ k₁ = record { uses = and-left (isUsing h₁) _ e; identifier = and-right (isUsing h₁) _ e; both = e } in
-    chosen-if (eqb (h₃ .tag) 2 && free)
+    for-of-if (eqb (h₃ .tag) 2 && free) insert wrap
     (λ f. as-insert refl d (eqb-true (h₃ .tag) 2 (and-left (eqb (h₃ .tag) 2) free f)))
     (λ _. as-wrap refl d))
-    (λ e. kept (idle-loop refl e))
+    (λ e. kept (idle-loop e))
 
 chosen-as : (ys : List Symbol) {t : ℕ} (a b c : ℕ) (k : Forest) → Seen (1 ∷ 2 ∷ 4 ∷ 7 ∷ 8 ∷ 9 ∷ 11 ∷ 14 ∷ []) t
     → Chosen (actOf ys (hd t a b c) k) (hd t a b c) k
 unfolding actOf forList
-chosen-as ys a b c k here = chosen-if (anyUsing k) (as-program refl) (λ u. kept (idle-list refl u))
-chosen-as ys a b c k (there e₁ here) = chosen-if (anyUsing k) (as-block refl) (λ u. kept (idle-list refl u))
-chosen-as ys a b c k (there e₁ (there e₂ here)) = chosen-if (anyUsing (forList k)) (as-for refl) (λ _. kept (idle refl refl))
-chosen-as ys a b c k (there e₁ (there e₂ (there e₄ here))) = chosen-if (anyUsing k) (as-for refl) (λ u. kept (idle-list refl u))
+chosen-as ys a b c k here = chosen-if (anyUsing k) (as-program refl) (λ u. kept (idle-list refl refl u))
+chosen-as ys a b c k (there e₁ here) = chosen-if (anyUsing k) (as-block refl) (λ u. kept (idle-list refl refl u))
+chosen-as ys a b c k (there e₁ (there e₂ here)) = chosen-if (anyUsing (forList k)) (as-for refl) (λ _. kept (idle refl refl refl))
+chosen-as ys a b c k (there e₁ (there e₂ (there e₄ here))) = chosen-if (anyUsing k) (as-for refl) (λ u. kept (idle-list refl refl u))
 chosen-as ys a b c k (there e₁ (there e₂ (there e₄ (there e₇ here)))) = for-of-chosen ys a b c k
 chosen-as ys a b c k (there e₁ (there e₂ (there e₄ (there e₇ (there e₈ here))))) =
-    chosen-if (anyCaseUsing k) (as-switch refl) (λ _. kept (idle refl refl))
+    chosen-if (anyCaseUsing k) (as-switch refl) (λ _. kept (idle refl refl refl))
 chosen-as ys a b c k (there e₁ (there e₂ (there e₄ (there e₇ (there e₈ (there e₉ here)))))) =
-    chosen-if (anyPartUsing k) (as-try refl) (λ _. kept (idle refl refl))
+    chosen-if (anyPartUsing k) (as-try refl) (λ u. kept (idle-try u))
 chosen-as ys a b c k (there e₁ (there e₂ (there e₄ (there e₇ (there e₈ (there e₉ (there e₁₁ here))))))) =
-    chosen-if (anyUsing k) (as-body refl) (λ u. kept (idle-list refl u))
+    chosen-if (anyUsing k) (as-body refl) (λ u. kept (idle-list refl refl u))
 chosen-as ys {t} a b c k (there e₁ (there e₂ (there e₄ (there e₇ (there e₈ (there e₉ (there e₁₁ (there e₁₄ other)))))))) =
     let h = hd t a b c in
     let none-of : actOf ys h k ≡ keep = rw (e₁, e₂, e₄, e₇, e₈, e₉, e₁₁, e₁₄) in
     let no-list : oneOf (1 ∷ 2 ∷ 7 ∷ 14 ∷ []) t ≡ false = rw (e₁, e₂, e₇, e₁₄) in
-    subst (λ (x : Act). Chosen x h k) (sym none-of) (kept (idle no-list e₈))
+    subst (λ (x : Act). Chosen x h k) (sym none-of) (kept (idle no-list e₈ e₁₁))
 
 -- THE VIEW: what is known of every record for which a visit chooses an act.
 pub chosen : (ys : List Symbol) (h : Head) (k : Forest) → Chosen (actOf ys h k) h k

@@ -15,12 +15,13 @@ use Rattle.meaning.specs.Contexts.{
   namesIn,
   lastBlockScope,
   anyPartUsing,
-  transformHandler,
+  moveCatchNames,
   transformTryParts,
   enterTryStatement,
 }
 use Rattle.meaning.specs.Charges.{ofTryPart, contextCharge, wraps, contextLines, recordBytes}
 use Rattle.meaning.specs.Due.{partLines}
+use Rattle.spec_laws.specs.Trees.{transformHandler}
 use Rattle.charge_laws.specs.Growth.Rows.{Grown, both, either, unchanged, scope-between, binding-moved, bindings-moved}
 use Rattle.charge_laws.specs.Growth.Trees.{More, block-bytes}
 use Rattle.charge_laws.specs.Growth.Made.{context-pays, statements-grow, statements-more, try-grows, try-more}
@@ -57,7 +58,7 @@ part-pays cur hoist h k st e u =
 handler-pays : (h : Head) (k : Forest) (inside : Change Forest) (st : Store)
     → Pays (partLines k) k ((inside st) .0) st ((inside st) .1)
     → PaysFor (partLines k) (one h k) st (transformHandler h k inside st)
-unfolding transformHandler
+unfolding moveCatchNames
 handler-pays h k inside st i =
     let e = inside st in
     pays-below h

@@ -11,8 +11,7 @@ use Rattle.meaning.specs.Tree.{if_then_else_, oneOf, Head, hd, Forest, none, mo
 use Rattle.meaning.specs.File.{Symbol, fieldBytes}
 use Rattle.meaning.specs.Statements.{isUsing, anyUsing}
 use Rattle.meaning.specs.Contexts.{anyCaseUsing}
-use Rattle.meaning.specs.ForOf.{bindsIdentifier, boundSymbol, bindsName}
-use Rattle.meaning.specs.Walk.{forOfInsert, forOfWrap, forOfAct, actIf}
+use Rattle.meaning.specs.ForOf.{bindsIdentifier, boundSymbol, bindsName, stay, insert, wrap, forOfAct}
 use Rattle.meaning.specs.Charges.{
   Kind,
   ofBlock,
@@ -100,14 +99,14 @@ module _ (asRead : List Symbol) where
 
   -- the body is the third child
   body-lines : (b : Bool) (any : Bool) (k : Forest) → bodyLines k ≡ (if any then [] else context ofBlock ∷ [])
-      → bodyOwn true b any ≡ forOfLines (if b then forOfInsert else forOfWrap) k
+      → bodyOwn true b any ≡ forOfLines (if b then insert else wrap) k
   unfolding bodyOwn forOfLines
   body-lines true any k e = rw e
   body-lines false any k e = refl
 
   third-lines : (b : Bool) (y : ℕ) (h : Head) (any : Bool) (k : Forest) → bodyLines k ≡ (if any then [] else context ofBlock ∷ [])
       → bodyOwn (isBody (if b then Body y else Plain)) (insertsIn asRead (if b then Body y else Plain) h) any
-      ≡ forOfLines (actIf b (if eqb (h .tag) 2 && not (bindsName asRead (h .a) y) then forOfInsert else forOfWrap)) k
+      ≡ forOfLines (if b then (if eqb (h .tag) 2 && not (bindsName asRead (h .a) y) then insert else wrap) else stay) k
   unfolding roleIndex insertsIn bodyOwn forOfLines
   third-lines true y h any k e = body-lines (eqb (h .tag) 2 && not (bindsName asRead (h .a) y)) any k e
   third-lines false y h any k e = refl

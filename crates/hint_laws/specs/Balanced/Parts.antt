@@ -11,7 +11,8 @@ use Rattle.meaning.specs.Tree.{if_then_else_, Head, hd, Forest, none, more, one
 use Rattle.meaning.specs.Scoping.{Store, Change, return, insertScopeBetween}
 use Rattle.meaning.specs.HelperLoader.{helperLoad}
 use Rattle.meaning.specs.Statements.{isUsing, anyUsing, anyAwaitUsing, makeContext, transformStatements, createTryStmt}
-use Rattle.meaning.specs.Contexts.{transformTryBlock, transformHandler, transformTryParts, enterTryStatement}
+use Rattle.meaning.specs.Contexts.{transformTryBlock, moveCatchNames, transformTryParts, enterTryStatement}
+use Rattle.spec_laws.specs.Trees.{transformHandler}
 use Rattle.spec_laws.specs.Tags.{Seen, other, here, there, seen, clash}
 use Rattle.charge_laws.specs.Growth.Parts.{try-pays}
 use Rattle.hint_laws.specs.Hints.{usingsIn, asksFor, callsIn}
@@ -75,7 +76,7 @@ module _ (w : List ℕ → ℕ → ℕ) (read : ℕ) where
       else return (node h k))
       st) .0)
       & r′)
-  unfolding transformHandler callsIn _&_
+  unfolding moveCatchNames callsIn _&_
   one-part cur hoist a b c k r r′ inside st new here i j =
       let h = hd 12 a b c in
       let k′ = (inside st) .0 in (

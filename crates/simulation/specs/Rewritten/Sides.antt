@@ -10,8 +10,8 @@ use lib.ListN.{length, length-append}
 use Rattle.meaning.specs.Tree.{if_then_else_, Head, Forest, none, more, one, count, size}
 use Rattle.meaning.specs.Scoping.{Store, insertScopeBelow}
 use Rattle.meaning.specs.Statements.{isUsing}
-use Rattle.meaning.specs.ForOf.{bindsIdentifier, boundSymbol, bindsName}
-use Rattle.meaning.specs.Walk.{Act, keep, forOfInsert, forOfWrap, forOfAct, Crumb, Spot, at, storeAt}
+use Rattle.meaning.specs.ForOf.{bindsIdentifier, boundSymbol, bindsName, ForOfAct, stay, insert, wrap, forOfAct}
+use Rattle.meaning.specs.Walk.{Crumb, Spot, at, storeAt}
 use Rattle.charge_laws.specs.Counts.Enter.{Begins, Left}
 use Rattle.tables.specs.Table.{capped, columnF, rowF}
 use Rattle.tables.specs.declared.Row.{Row}
@@ -128,16 +128,16 @@ module _ (done : Forest) (h h₁ : Head) (k₁ : Forest) (h₂ : Head) (k₂ : F
 
 -- ---- what is done
 
-abbrev pub forOfActF : Tables → Act
+abbrev pub forOfActF : Tables → ForOfAct
 forOfActF q =
     let gap = q .walk .gap .0 in
     if takesUsingF (q .records) gap then (
-    if insertsF (q .records) (inSymbols (q .symbols) (q .walk .ctx)) gap then forOfInsert else forOfWrap)
-    else keep
+    if insertsF (q .records) (inSymbols (q .symbols) (q .walk .ctx)) gap then insert else wrap)
+    else stay
 
 -- with fewer than three children
 none-is : (done : Forest) (h : Head) (k r : Forest) (path : List Crumb) (st : Store) (g : ℕ) (z : Rest) → count k < 3
-    → forOfActF (held (at done h k r path st) g z) ≡ keep
+    → forOfActF (held (at done h k r path st) g z) ≡ stay
 none-is done h k r path st g z i =
     rw (
       gap-here done h k r path st g z,

@@ -7,7 +7,8 @@ use Prim.Native.Nat.{ℕ, _+_}
 use lib.Dec.{eqb}
 use Rattle.meaning.specs.Tree.{if_then_else_, Head, Forest, none, more, one, Node, single, count}
 use Rattle.meaning.specs.Scoping.{Store, Change}
-use Rattle.meaning.specs.Contexts.{transformHandler, transformTryParts}
+use Rattle.meaning.specs.Contexts.{transformTryParts}
+use Rattle.spec_laws.specs.Trees.{transformHandler}
 use Rattle.charge_laws.specs.Totals.Roles.{Lacks}
 use Rattle.tables.specs.Table.{rowF}
 use Rattle.tables.specs.declared.Row.{Row}

@@ -9,7 +9,8 @@ use lib.Dec.{eqb}
 use lib.ListN.{length}
 use Rattle.meaning.specs.Tree.{if_then_else_, Head, Forest, one, single, count, size}
 use Rattle.meaning.specs.Scoping.{Store, Change, return, moveBinding, moveBindings}
-use Rattle.meaning.specs.Contexts.{namesIn, lastBlockScope, anyPartUsing, transformHandler, transformTryParts}
+use Rattle.meaning.specs.Contexts.{namesIn, lastBlockScope, anyPartUsing, moveCatchNames, transformTryParts}
+use Rattle.spec_laws.specs.Trees.{transformHandler}
 use Rattle.charge_laws.specs.Totals.Roles.{Lacks}
 use Rattle.tables.specs.Table.{capped, columnF}
 use Rattle.tables.specs.Stream.{Buf, copyRowF}
@@ -111,7 +112,7 @@ module _ (cur hoist : ℕ) (h : Head) (k : Forest) (st : Store) (lacks : Lacks 1
 
   -- moving names adds no row
   after-ctx : ctxOf after ≡ ctxOf (parts .1)
-  unfolding transformHandler
+  unfolding moveCatchNames
   after-ctx = moved-ctx (anyPartUsing k) (namesIn k) (lastBlockScope (parts .0)) (parts .1)
 
   after-scopes : length (after .scopes) ≡ length (parts .1 .scopes)
@@ -128,7 +129,7 @@ module _ (cur hoist : ℕ) (h : Head) (k : Forest) (st : Store) (lacks : Lacks 1
       → (let a₁ = a ++ line h (count k) ∷ [] in
       handled (eqb (partRows k) 0) (length a₁) (count k) (passing z zs zy (a₁ ++ rowsOf (parts .0)) g v (parts .1))
       ≡ passing z zs zy (a ++ rowsOf (one h (parts .0))) g v after)
-  unfolding transformHandler
+  unfolding moveCatchNames
   names-moved z zs zy a g v fits =
       let f = parts .0 in
       let a₁ = a ++ line h (count k) ∷ [] in
@@ -144,7 +145,7 @@ module _ (cur hoist : ℕ) (h : Head) (k : Forest) (st : Store) (lacks : Lacks 1
   pub handler-law :
       (let e = transformHandler h k (transformTryParts cur hoist k) st in
       Rewrites (transformHandlerF cur hoist) (partRows k) (rowsOf (one h k)) (rowsOf (single (e .0))) st (e .1))
-  unfolding transformHandler size
+  unfolding moveCatchNames size
   handler-law =
       let p = parts-law k cur hoist st lacks ag in
       let f = parts .0 in
