@@ -2,9 +2,13 @@
 -- Assumes nothing.
 use mathlib.Core.Path.{_≡_, refl}
 use mathlib.Core.Bool.{false}
-use mathlib.Core.List.{[], _∷_}
+use mathlib.Core.List.{List, [], _∷_}
 use mathlib.Core.Logic.{_⊎_, inl, inr}
+use Prim.Native.Nat.{ℕ}
 use Rattle.meaning.specs.Tree.{oneOf, Head, Forest, none, more, _&_}
+use Rattle.meaning.specs.Statements.{isUsing, anyUsing}
+use Rattle.spec_laws.specs.Bools.{no-summand}
+use Rattle.hint_laws.specs.Hints.{overDeclarators, usingsIn}
 
 -- neither a Declaration nor a Declarator, a Name or a Call
 abbrev pub Neutral : Head → Type 0
@@ -37,3 +41,12 @@ same-below h r f g s = (inl (refl, s), same-refl r)
 pub same-neutral : (h h′ : Head) (k k′ r : Forest) → Neutral h → Neutral h′ → Same (more h k r) (more h′ k′ r)
 unfolding Same
 same-neutral h h′ k k′ r n n′ = (inr (n, n′), same-refl r)
+
+-- ---- lists without usings
+
+-- ask for nothing
+pub no-usings : (w : List ℕ → ℕ → ℕ) (letter : Head → ℕ) (f : Forest) → anyUsing f ≡ false → usingsIn w letter f ≡ 0
+unfolding usingsIn anyUsing
+no-usings w letter none e = refl
+no-usings w letter (more h k r) e =
+    no-summand (isUsing h) (anyUsing r) (overDeclarators (λ names _. w names (letter h)) k) (usingsIn w letter r) e (no-usings w letter r)

@@ -1,7 +1,7 @@
 -- Where reading a text stands, as the code holds it: a spot.
 -- Assumes nothing.
 use mathlib.Core.Path.{_≡_, refl, sym, _∙_}
-use mathlib.Core.Bool.{Bool, true, false, _&&_}
+use mathlib.Core.Bool.{true, false, _&&_}
 use mathlib.Core.List.{List, [], _∷_, _++_}
 use Prim.Native.Nat.{ℕ, _+_, _*_, _%_, _≤_, _<_}
 use lib.Dec.{leb}
@@ -9,6 +9,8 @@ use native.Mathlib.Omega.{arith}
 use lib.ListN.{length, getD, length-append}
 use borrow.Author.Tests.{leb-true, eq-eqb, ne-eqb}
 use Rattle.meaning.specs.File.{twoBytes}
+use Rattle.spec_laws.specs.Tags.{and-left}
+use Rattle.spec_laws.specs.Trees.{two-length}
 use Rattle.notation.specs.Notation.{Part, digit0, digit9, isDigit, fieldFrom, numbered, fielded, dotted}
 use Rattle.notation.specs.declared.Spot.{Spot}
 
@@ -23,18 +25,9 @@ pub record Reads (p : Part) (s : Spot) : Type 0 where
   pub digits-is : s .digits ≡ p .digits
   pub value-is : s .value ≡ p .value
 
-both-left : (a b : Bool) → (a && b) ≡ true → a ≡ true
-both-left true b e = refl
-both-left false b e = e
-
 pub digit-low : (c : ℕ) → isDigit c ≡ true → digit0 ≤ c
 unfolding isDigit
-digit-low c e = leb-true digit0 c (both-left (leb digit0 c) (leb c digit9) e)
-
-pub two-length : (ns : List ℕ) → length (twoBytes ns) ≡ 2 * length ns
-unfolding twoBytes
-two-length [] = refl
-two-length (n ∷ ns) = omega (arith, two-length ns)
+digit-low c e = leb-true digit0 c (and-left (leb digit0 c) (leb c digit9) e)
 
 none-length : (ns : List ℕ) → length ns ≡ 0 → length (fieldFrom ns) ≡ 0
 unfolding fieldFrom

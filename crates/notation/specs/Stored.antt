@@ -11,8 +11,9 @@ use lib.Seq.{sets, set-comm}
 use borrow.Author.Tests.{eqb-true}
 use Rattle.meaning.specs.Tree.{if_then_else_}
 use Rattle.meaning.specs.File.{twoBytes}
+use Rattle.spec_laws.specs.Trees.{two-length, sets-++}
 use Rattle.notation.specs.Notation.{Part, space, isDigit, isSpace, fieldFrom, numbered, fielded, dotted, after}
-use Rattle.notation.specs.Spots.{Reads, two-length}
+use Rattle.notation.specs.Spots.{Reads}
 use Rattle.notation.specs.declared.Spot.{Spot}
 
 -- a field whose length is not stored yet
@@ -25,12 +26,6 @@ unfoldable pub fileOf : List ℕ → Part → List ℕ
 fileOf out p = opened (sets out 0 (p .bytes)) (length (p .bytes)) (p .numbers)
 
 -- ---- stores
-
-sets-++ : (xs ys l : List ℕ) (i : ℕ) → sets l i (xs ++ ys) ≡ sets (sets l i xs) (i + length xs) ys
-sets-++ [] ys l i = let e : i + 0 ≡ i = omega arith in rw e
-sets-++ (x ∷ xs) ys l i =
-    let e : i + suc (length xs) ≡ suc i + length xs = omega arith in
-    rw e (sets-++ xs ys (set l i x) (suc i))
 
 -- a store before others may come after them
 set-before : (xs l : List ℕ) (i j a : ℕ) → i < j → set (sets l j xs) i a ≡ sets (set l i a) j xs

@@ -1,7 +1,7 @@
 -- At every spot of an accepted file's walk, records without n have no children.
 -- Assumes nothing.
 use mathlib.Core.Path.{_≡_, refl, sym, ap, subst, _∙_}
-use mathlib.Core.Bool.{Bool, true, false}
+use mathlib.Core.Bool.{false}
 use mathlib.Core.List.{List, [], _∷_}
 use Prim.Native.Nat.{ℕ, zero, suc}
 use native.Mathlib.Omega.{arith}
@@ -9,34 +9,15 @@ use Rattle.meaning.specs.Tree.{if_then_else_, Head, Forest, none, more, one, co
 use Rattle.meaning.specs.File.{File, hasChildren}
 use Rattle.meaning.specs.Grammar.{childrenOf, placeOf}
 use Rattle.meaning.specs.Reading.{accepted, readFile}
-use Rattle.meaning.specs.Scoping.{Store}
-use Rattle.meaning.specs.Walk.{
-  isStaticBlock,
-  enter,
-  leave,
-  Crumb,
-  crumb,
-  Spot,
-  at,
-  leaving,
-  over,
-  currentScope,
-  hoistScope,
-  settle,
-  visit,
-  visits,
-  storeOf,
-  start,
-  plug,
-  treeAt,
-}
+use Rattle.meaning.specs.Walk.{enter, leave, Crumb, crumb, Spot, at, leaving, over, currentScope, hoistScope, visit, visits, storeOf, start, plug, treeAt}
 use Rattle.meaning.specs.declared.Place.{Place}
 use Rattle.meaning.specs.declared.Place.the-variants.{Program}
 use Rattle.meaning.specs.declared.Field.{Field}
-use Rattle.charge_laws.specs.Counts.Visits.{&-none, &-assoc}
+use Rattle.charge_laws.specs.Counts.Visits.{&-assoc}
 use Rattle.charge_laws.specs.Counts.Pending.{Pending, pending-start, pending-visit}
 use Rattle.charge_laws.specs.Fit.Placed.{same-tag, Placed, accepted-placed}
 use Rattle.charge_laws.specs.Fit.Accepted.{accepted-fit}
+use Rattle.hint_laws.specs.Balanced.Visit.{settled}
 use Rattle.readback_laws.specs.Back.{Childless}
 use Rattle.readback_laws.specs.Contexts.{leave-childless}
 use Rattle.readback_laws.specs.Entered.{filled, enter-childless}
@@ -63,22 +44,6 @@ placed-childless syms (more h k r) place i q =
     )
 
 -- ---- the tree around a spot
-
-settled-if : (b : Bool) (h : Head) (d d₀ r₀ : Forest) (p : List Crumb) (st : Store)
-    → treeAt (settle (d₀ & one h d) r₀ p st) ≡ plug ((d₀ & one h d) & r₀) p
-    → treeAt (if b then leaving d h d₀ r₀ p st else settle (d₀ & one h d) r₀ p st) ≡ plug (d₀ & more h d r₀) p
-unfolding treeAt _&_
-settled-if true h d d₀ r₀ p st e = refl
-settled-if false h d d₀ r₀ p st e = e ∙ ap (λ (f : Forest). plug f p) (&-assoc d₀ (one h d) r₀)
-
--- going on changes no tree
-settled : (p : List Crumb) (d f : Forest) (st : Store) → treeAt (settle d f p st) ≡ plug (d & f) p
-unfolding settle treeAt plug
-settled [] d none st = sym (&-none d)
-settled [] d (more h k r) st = refl
-settled (crumb h d₀ r₀ ∷ p) d none st =
-    rw &-none (settled-if (isStaticBlock h) h d d₀ r₀ p st (settled p (d₀ & one h d) r₀ st))
-settled (c ∷ p) d (more h k r) st = refl
 
 -- a record beside others is replaced
 beside : (d : Forest) (h h′ : Head) (k k′ r : Forest) → (Childless (one h k) → Childless (one h′ k′))

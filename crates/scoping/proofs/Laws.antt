@@ -10,6 +10,7 @@ use lib.Dec.{eqb, leb}
 use borrow.Author.Tests.{eq-eqb, ne-eqb, le-leb, lt-leb}
 use Rattle.meaning.specs.Tree.{if_then_else_}
 use Rattle.meaning.specs.Scoping.{noScope, noSymbol, rowAt, binds, lastBinding, getBinding, findBinding}
+use Rattle.tables.specs.Loops.{one-less}
 use Rattle.tables.specs.Table.{capped}
 use Rattle.scoping.specs.Rows.{scopeNumber, symbolNumber, scopeAt, scopesF, symbolAt, symbolsF, storeF}
 use Rattle.scoping.specs.Search.{bindingFrom}
@@ -77,21 +78,18 @@ module _ (n k : ℕ) (ss ys : List ℕ) (x : Ctx) (scope name : ℕ) where
   abbrev sees : ℕ → ℕ → ℕ
   sees m s = findBinding m (storeF ss ys x) s name
 
-  one-less : k < n → n - k ≡ suc (n - (k + 1))
-  one-less h = omega arith
-
   pub find-here : (y : ℕ) → k < n → y ≡ here → (y ≡ 0 → ⊥) → sees (n - k) scope ≡ y
   unfolding findBinding storeF
-  find-here y h e z = rw (one-less h, ← e, ne-eqb y 0 z)
+  find-here y h e z = rw (one-less n k h, ← e, ne-eqb y 0 z)
 
   pub find-turn : (y parent : ℕ) → k < n → y ≡ here → y ≡ 0 → (scope ≡ 0 → ⊥) → parent ≡ scopeNumber ss (x .scopes) scope 0
       → sees (n - k) scope ≡ sees (n - (k + 1)) parent
   unfolding findBinding storeF
-  find-turn y parent h e z s p = rw (one-less h, ← e, eq-eqb y 0 z, ne-eqb scope 0 s, p, parent-is ss (x .scopes) scope)
+  find-turn y parent h e z s p = rw (one-less n k h, ← e, eq-eqb y 0 z, ne-eqb scope 0 s, p, parent-is ss (x .scopes) scope)
 
   pub find-none : (y : ℕ) → k < n → y ≡ here → y ≡ 0 → scope ≡ 0 → sees (n - k) scope ≡ 0
   unfolding findBinding storeF
-  find-none y h e z s = rw (one-less h, ← e, eq-eqb y 0 z, eq-eqb scope 0 s)
+  find-none y h e z s = rw (one-less n k h, ← e, eq-eqb y 0 z, eq-eqb scope 0 s)
 
   pub find-out : n ≤ k → sees (n - k) scope ≡ 0
   unfolding findBinding

@@ -11,6 +11,7 @@ use borrow.Author.Tests.{eq-eqb, ne-eqb, eqb-true, eqb-false}
 use Rattle.meaning.specs.Tree.{if_then_else_}
 use Rattle.meaning.specs.File.{Symbol}
 use Rattle.meaning.specs.Scoping.{binds, lastBinding, getBinding, findBinding}
+use Rattle.tables.specs.Loops.{one-less}
 use Rattle.tables.specs.Table.{capped}
 use Rattle.scoping.specs.Rows.{scopeNumber, symbolAt, symbolsF, storeF}
 use Rattle.scoping.specs.Candidates.{noCandidate, addCandidateF, candidatesF, climbsF}
@@ -108,21 +109,18 @@ module _ (name : ℕ) where
 -- ---- the way outwards
 
 module _ (n k : ℕ) (t : List ℕ) (scope to : ℕ) where
-  one-less : k < n → n - k ≡ suc (n - (k + 1))
-  one-less h = omega arith
-
   pub climb-here : k < n → to ≡ scope → climbsF (n - k) t n scope to ≡ true
   unfolding climbsF
-  climb-here h e = rw (one-less h, eq-eqb to scope e)
+  climb-here h e = rw (one-less n k h, eq-eqb to scope e)
 
   pub climb-top : k < n → (to ≡ scope → ⊥) → scope ≡ 0 → climbsF (n - k) t n scope to ≡ false
   unfolding climbsF
-  climb-top h d e = rw (one-less h, ne-eqb to scope d, eq-eqb scope 0 e)
+  climb-top h d e = rw (one-less n k h, ne-eqb to scope d, eq-eqb scope 0 e)
 
   pub climb-turn : (parent : ℕ) → k < n → (to ≡ scope → ⊥) → (scope ≡ 0 → ⊥) → parent ≡ scopeNumber t n scope 0
       → climbsF (n - k) t n scope to ≡ climbsF (n - (k + 1)) t n parent to
   unfolding climbsF
-  climb-turn parent h d z e = rw (one-less h, ne-eqb to scope d, ne-eqb scope 0 z, e)
+  climb-turn parent h d z e = rw (one-less n k h, ne-eqb to scope d, ne-eqb scope 0 z, e)
 
   pub climb-out : n ≤ k → climbsF (n - k) t n scope to ≡ false
   unfolding climbsF

@@ -12,7 +12,7 @@ use borrow.Author.Tests.{eq-eqb, ne-eqb, eqb-true, eqb-false}
 use Rattle.meaning.specs.Tree.{if_then_else_}
 use Rattle.meaning.specs.Scoping.{binds, getBinding, isAmongBindings}
 use Rattle.tables.specs.Table.{capped}
-use Rattle.tables.specs.Loops.{turns, next-turn as one-turn}
+use Rattle.tables.specs.Loops.{turns, one-less, next-turn as one-turn}
 use Rattle.scoping.specs.Rows.{symbolAt, symbolsF}
 use Rattle.scoping.specs.Search.{nextRowF, bindingFrom}
 use Rattle.scoping.specs.Candidates.{addCandidateF}
@@ -21,9 +21,6 @@ use Rattle.scoping.specs.declared.Ctx.{Ctx}
 use Rattle.scoping.specs.declared.Candidates.{Candidates}
 use Rattle.scoping.proofs.Laws.{binding-first, binding-turn}
 use Rattle.scoping.proofs.Single.{candidatesFrom, candidates-turn}
-
-one-less : (n k : ℕ) → k < n → n - k ≡ suc (n - (k + 1))
-one-less n k h = omega arith
 
 if-after : (b : Bool) (i r : ℕ) → i ≤ r → i ≤ (if b then i else r)
 if-after true i r h = omega arith

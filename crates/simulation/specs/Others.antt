@@ -16,19 +16,7 @@ use Rattle.meaning.specs.Program.{programItems, enterProgram}
 use Rattle.meaning.specs.Charges.{forOf, forOfBlock, lineCharge, total}
 use Rattle.meaning.specs.Due.{isContext, missing}
 use Rattle.meaning.specs.ForOf.{bindsIdentifier, boundSymbol, bindsName, ForOfAct, stay, insert, wrap, forOfAct}
-use Rattle.meaning.specs.Walk.{
-  Crumb,
-  at,
-  Act,
-  keep,
-  program,
-  tryParts,
-  actIf,
-  ofForOf,
-  enterAs,
-  currentScope,
-  hoistScope,
-}
+use Rattle.meaning.specs.Walk.{Crumb, at, keep, program, tryParts, actIf, ofForOf, enterAs, currentScope, hoistScope}
 use Rattle.spec_laws.specs.Tags.{and-left}
 use Rattle.charge_laws.specs.Growth.Rows.{scope-below}
 use Rattle.charge_laws.specs.Growth.Program.{Exports, program-pays}

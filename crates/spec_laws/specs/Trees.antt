@@ -2,11 +2,12 @@
 -- Assumes nothing.
 use mathlib.Core.Path.{_≡_, refl, sym}
 use mathlib.Core.Bool.{Bool, true, false}
-use mathlib.Core.List.{List, [], _∷_}
-use Prim.Native.Nat.{ℕ, zero, suc, _*_, _≤_}
+use mathlib.Core.List.{List, [], _∷_, _++_}
+use Prim.Native.Nat.{ℕ, zero, suc, _+_, _*_, _≤_}
 use native.Mathlib.Omega.{arith}
 use lib.Dec.{eqb}
-use lib.ListN.{length, length-set}
+use lib.ListN.{length, set, length-set}
+use lib.Seq.{sets}
 use borrow.Author.Tests.{eqb-true}
 use Rattle.meaning.specs.Tree.{if_then_else_, oneOf, Head, hd, Forest, none, more, count, size, Node, node}
 use Rattle.meaning.specs.File.{numbersOf, twoBytes}
@@ -57,6 +58,13 @@ pub two-length : (ns : List ℕ) → length (twoBytes ns) ≡ 2 * length ns
 unfolding twoBytes
 two-length [] = refl
 two-length (n ∷ ns) = omega (arith, two-length ns)
+
+-- bytes that are stored one after another
+pub sets-++ : (xs ys out : List ℕ) (at : ℕ) → sets out at (xs ++ ys) ≡ sets (sets out at xs) (at + length xs) ys
+sets-++ [] ys out at = let e : at + 0 ≡ at = omega arith in rw e
+sets-++ (x ∷ xs) ys out at =
+    let e : at + suc (length xs) ≡ suc at + length xs = omega arith in
+    rw e (sets-++ xs ys (set out at x) (suc at))
 
 -- ---- visits
 

@@ -13,7 +13,7 @@ use Rattle.meaning.specs.declared.Field.{Field}
 use Rattle.tables.specs.Loops.{turns, next-turn}
 use Rattle.tables.specs.Table.{setRowF}
 use Rattle.tables.specs.declared.Row.{Row}
-use Rattle.rules.specs.Numbers.{numbers-most}
+use Rattle.spec_laws.specs.Trees.{numbers-most}
 use Rattle.start.specs.Flat.{Filling, filling, nextRecord}
 use Rattle.representation.specs.Run.{recordRow}
 

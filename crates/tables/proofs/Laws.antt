@@ -3,16 +3,11 @@
 use mathlib.Core.Path.{_≡_}
 use mathlib.Core.List.{List}
 use Prim.Native.Nat.{ℕ, _+_, _-_, _<_}
-use native.Mathlib.Omega.{arith}
 use borrow.Author.Tests.{ne-eqb}
 use Rattle.tables.specs.Loops.{until, go-on}
-use Rattle.tables.specs.Table.{capped, columnF, rowF, moveRowF, Skipping, skipping, skipped, skipOne}
+use Rattle.tables.specs.Table.{capped, cap-one, columnF, rowF, moveRowF, Skipping, skipping, skipped, skipOne}
 use Rattle.tables.specs.Stream.{Buf, copyRowF, replaceRowF, Copying, copying, copied, copyOne}
 use Rattle.tables.specs.declared.Row.{Row}
-
-cap-one : (x : ℕ) → x < 65535 → capped x 1 ≡ x + 1
-unfolding capped
-cap-one x h = omega arith
 
 pub skip-turn : (r : Skipping) (t : List ℕ) (at p f : ℕ) → r ≡ until (65535 - at) skipped (skipOne t) (skipping at p) → at < 65535 → (p ≡ 0 → ⊥)
     → f ≡ columnF t at 4 → r ≡ until (65535 - (at + 1)) skipped (skipOne t) (skipping (at + 1) (p - 1 + f))

@@ -16,7 +16,7 @@ unfoldable pub until : {A : Type 0} → ℕ → (A → Bool) → (A → A) → A
 until zero stop f x = x
 until (suc n) stop f x = if stop x then x else until n stop f (f x)
 
-one-less : (n k : ℕ) → k < n → n - k ≡ suc (n - (k + 1))
+pub one-less : (n k : ℕ) → k < n → n - k ≡ suc (n - (k + 1))
 one-less n k h = omega arith
 
 none-left : (n k : ℕ) → n ≤ k → n - k ≡ 0

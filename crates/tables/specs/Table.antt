@@ -3,7 +3,8 @@
 use mathlib.Core.Path.{_≡_}
 use mathlib.Core.List.{List}
 use mathlib.Core.Bool.{Bool}
-use Prim.Native.Nat.{ℕ, _+_, _*_, _-_, min}
+use Prim.Native.Nat.{ℕ, _+_, _*_, _-_, _<_, min}
+use native.Mathlib.Omega.{arith}
 use lib.ListN.{getD, set}
 use lib.Dec.{eqb}
 use Rattle.meaning.specs.Tree.{Head, hd}
@@ -18,6 +19,10 @@ largest = 65535
 -- the sum, at most the largest number
 unfoldable pub capped : ℕ → ℕ → ℕ
 capped x k = min (x + k) largest
+
+pub cap-one : (x : ℕ) → x < largest → capped x 1 ≡ x + 1
+unfolding capped
+cap-one x h = omega arith
 
 -- column f of the row after i others, or 0 past the end
 unfoldable pub columnF : List ℕ → ℕ → ℕ → ℕ

@@ -11,7 +11,7 @@ use lib.Dec.{ltb}
 use borrow.Author.Tests.{lt-ltb, le-ltb}
 use Rattle.meaning.specs.Tree.{if_then_else_}
 use Rattle.meaning.specs.File.{numbersOf, hasChildren, ownNumbers, twoBytes}
-use Rattle.rules.specs.Numbers.{numbers-most}
+use Rattle.spec_laws.specs.Trees.{numbers-most}
 use Rattle.tables.specs.declared.Row.{Row}
 use Rattle.writing.specs.Writing.{fieldWith, ownOr, recordBytes, lastOf, twoAt, numbersOver}
 use Rattle.writing.specs.Stored.{putNumber, field-put}

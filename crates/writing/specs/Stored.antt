@@ -10,17 +10,11 @@ use lib.Seq.{sets, sets-eq}
 use lib.Dec.{ltb}
 use Rattle.meaning.specs.Tree.{if_then_else_}
 use Rattle.meaning.specs.File.{numbersOf, twoBytes, field}
-use Rattle.rules.specs.Numbers.{numbers-most}
+use Rattle.spec_laws.specs.Trees.{numbers-most, two-length, sets-++}
 use Rattle.writing.specs.Writing.{fieldWith, scopeBytes, symbolBytes, recordBytes, rowsBytes}
 use Rattle.tables.specs.declared.Row.{Row}
 
 -- ---- one after another
-
-pub sets-++ : (xs ys out : List ℕ) (at : ℕ) → sets out at (xs ++ ys) ≡ sets (sets out at xs) (at + length xs) ys
-sets-++ [] ys out at = let e : at + 0 ≡ at = omega arith in rw e
-sets-++ (x ∷ xs) ys out at =
-    let e : at + suc (length xs) ≡ suc at + length xs = omega arith in
-    rw e (sets-++ xs ys (set out at x) (suc at))
 
 -- over the front of a list that is long enough
 pub sets-front : (bs out : List ℕ) → length bs ≤ length out → sets out 0 bs ≡ bs ++ drop (length bs) out
@@ -29,11 +23,6 @@ sets-front bs out h =
     rw e at (sets-eq bs out 0 (omega arith))
 
 -- ---- a field
-
-two-length : (ns : List ℕ) → length (twoBytes ns) ≡ 2 * length ns
-unfolding twoBytes
-two-length [] = refl
-two-length (n ∷ ns) = omega (arith, two-length ns)
 
 take-length : (n a b c d : ℕ) → n ≤ 4 → length (take n (a ∷ b ∷ c ∷ d ∷ [])) ≡ n
 take-length zero a b c d h = refl

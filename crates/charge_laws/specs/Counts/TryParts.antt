@@ -1,6 +1,6 @@
 -- A Block directly below a Try, or below a Catch of one, has no using when the walk comes to it: the visit to the Try took them up.
 -- Assumes nothing.
-use mathlib.Core.Path.{_≡_, refl, ap}
+use mathlib.Core.Path.{_≡_, refl}
 use mathlib.Core.Bool.{Bool, true, false, _||_, _&&_}
 use mathlib.Core.List.{List, [], _∷_}
 use Prim.Native.Nat.{ℕ, zero, suc}
@@ -9,7 +9,7 @@ use Rattle.meaning.specs.Numbers.Tag
 use Rattle.meaning.specs.Tree.{if_then_else_, Head, hd, Forest, none, more, one, Node, node, single, _&_}
 use Rattle.meaning.specs.File.{File}
 use Rattle.meaning.specs.Scoping.{Store, Change, return}
-use Rattle.meaning.specs.Statements.{isUsing, anyUsing, takeUp, makeContext, transformStatements, createTryStmt}
+use Rattle.meaning.specs.Statements.{isUsing, anyUsing, transformStatements, createTryStmt}
 use Rattle.meaning.specs.Contexts.{
   anyPartUsing,
   moveCatchNames,

@@ -30,7 +30,8 @@ use Rattle.charge_laws.specs.Counts.Enter.{Begins, Body, Left}
 use Rattle.charge_laws.specs.Counts.Fits.{Fits}
 use Rattle.charge_laws.specs.Counts.Figures.{joined, dues-are, after}
 use Rattle.charge_laws.specs.Fit.Placed.{ReadAs, same-tag, Placed, accepted-placed}
-use Rattle.charge_laws.specs.Fit.Barred.{Bars, barred, no-catch}
+use Rattle.parsing.specs.Places.{Bars, body-bars-5}
+use Rattle.charge_laws.specs.Fit.Barred.{barred, no-catch}
 use Rattle.spec_laws.specs.Bools.{or-false}
 
 -- ---- a field
@@ -96,11 +97,6 @@ module _ {syms : ℕ} {p : Place} {x : Field} {h : Head} {k : Forest} (q : ReadA
       (t, sym a ∙ eqb-true (h .a) 0 (and-right (eqb (h .tag) 6) (eqb (h .a) 0) e))
 
 -- ---- lists
-
--- the body of a ForOf is no Declaration
-pub body-bars-5 : (p : Place) (x : Field) → x .tag ≡ 8 → Bars 5 (placeOf p x 2)
-unfolding Bars placeOf allowed tagsOf
-body-bars-5 p x e = rw e
 
 module _ (syms : ℕ) where
   exports : (f : Forest) (place : ℕ → Place) (i : ℕ) → Placed syms place i f → Exports f

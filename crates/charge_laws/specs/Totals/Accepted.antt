@@ -1,74 +1,27 @@
 -- The tree of an accepted file is regular, and not too large for the tally's counters.
 -- Assumes nothing.
-use mathlib.Core.Path.{_≡_, refl, subst}
-use mathlib.Core.Bool.{Bool, true, false, not, _&&_}
-use mathlib.Core.List.{List, [], _∷_}
+use mathlib.Core.Path.{_≡_, refl}
+use mathlib.Core.Bool.{false, _&&_}
+use mathlib.Core.List.{List, _∷_}
 use Prim.Native.Nat.{ℕ, _≤_, min}
 use native.Mathlib.Omega.{arith}
-use lib.Dec.{eqb, ltb}
+use lib.Dec.{eqb}
 use borrow.Author.Tests.{eqb-true}
-use Rattle.meaning.specs.Tree.{if_then_else_, oneOf, Head, Forest, size}
+use Rattle.meaning.specs.Tree.{if_then_else_, Head, Forest, size}
 use Rattle.meaning.specs.File.{File}
-use Rattle.meaning.specs.Grammar.{tagsOf, is, allowed, fieldOf, placeOf}
+use Rattle.meaning.specs.Grammar.{fieldOf}
 use Rattle.meaning.specs.Reading.{accepted, readFile}
 use Rattle.meaning.specs.declared.Place.{Place}
-use Rattle.meaning.specs.declared.Place.the-variants.{ForOfLeft, SwitchExpression}
-use Rattle.meaning.specs.declared.Field.{Field}
 use Rattle.meaning.specs.Charges.{finalFigures}
 use Rattle.figures.specs.declared.tally.Role.the-variants.{Plain}
 use Rattle.figures.specs.Tally.{cap, tallyOf, tallyFigures}
-use Rattle.spec_laws.specs.Tags.{clash}
+use Rattle.parsing.specs.Places.{Bars, bars-tag, below-bars-1, below-bars-5}
 use Rattle.parsing.specs.Parsed.{RecordAt, same-tag, Parsed, parsed-none, parsed-more}
 use Rattle.parsing.specs.Counts.{parsed-bytes, size-bytes}
 use Rattle.parsing.specs.Files.{file-parsed}
 use Rattle.charge_laws.specs.Totals.Total.{figuresFrom, figures-are}
 use Rattle.charge_laws.specs.Totals.Bound.{tally-records, tally-cap}
 use Rattle.charge_laws.specs.Totals.Roles.{Lacks, LacksBelow, Regular}
-
--- ---- places below a record
-
--- no tag that its place does not take
-Bars : ℕ → Place → Type 0
-Bars n p = allowed p n ≡ false
-
-bars-tag : (b : Bool) (p : Place) (t n : ℕ) → eqb t n ≡ b → allowed p t ≡ true → Bars n p → b ≡ false
-unfolding Bars
-bars-tag true p t n e y bars = absurd (clash bars (subst (λ (x : ℕ). allowed p x ≡ true) (eqb-true t n e) y))
-bars-tag false p t n e y bars = refl
-
-pub either : (P : Place → Type 0) (b : Bool) {p q : Place} → P p → P q → P (if b then p else q)
-either P true x y = x
-either P false x y = y
-
--- no Program
-below-bars-1 : (p : Place) (x : Field) (k : ℕ) → Bars 1 (placeOf p x k)
-unfolding Bars placeOf allowed tagsOf
-below-bars-1 p x k =
-    let t = x .tag in
-    let P : Place → Type 0 = Bars 1 in
-    either P (eqb t 1) refl
-    (either P (oneOf (2 ∷ 14 ∷ 16 ∷ []) t) refl
-    (either P (eqb t 3) refl
-    (either P (eqb t 4) refl
-    (either P (eqb t 5) (either P (is p ForOfLeft) refl refl)
-    (either P (eqb t 6) (either P (ltb k (x .b)) refl refl)
-    (either P (eqb t 7) (either P (eqb k 0) refl (either P (eqb k 1) refl refl))
-    (either P (eqb t 8) (either P (eqb k 0) refl (either P (eqb k 1) refl refl))
-    (either P (eqb t 9) (either P (eqb k 0) refl refl)
-    (either P (eqb t 10) (either P (ltb k (x .a)) refl refl)
-    (either P (eqb t 11) (either P (eqb k 1 && not (eqb (x .a) 2)) refl refl)
-    (either P (eqb t 12) (either P (ltb k (x .b)) refl refl)
-    (either P (eqb t 13) (either P (eqb k 0) refl refl)
-    (either P (eqb t 15) refl
-    (either P (eqb t 17) refl
-    (either P (eqb t 18) refl
-    (either P (eqb t 19) refl
-    (either P (is p SwitchExpression) refl refl)))))))))))))))))
-
--- in a Declaration no Declaration
-below-bars-5 : (p : Place) (x : Field) → x .tag ≡ 5 → (k : ℕ) → Bars 5 (placeOf p x k)
-unfolding Bars placeOf allowed tagsOf
-below-bars-5 p x e k = rw e (either (Bars 5) (is p ForOfLeft) refl refl)
 
 -- ---- what is read
 

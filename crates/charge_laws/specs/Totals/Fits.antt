@@ -46,7 +46,8 @@ use Rattle.parsing.specs.Files.{file-parsed}
 use Rattle.charge_laws.specs.Totals.Roles.{roleOf-all}
 use Rattle.charge_laws.specs.Totals.Bound.{one-most, kept-most}
 use Rattle.charge_laws.specs.Totals.Total.{figures-are}
-use Rattle.charge_laws.specs.Totals.Accepted.{either, accepted-is}
+use Rattle.parsing.specs.Places.{either}
+use Rattle.charge_laws.specs.Totals.Accepted.{accepted-is}
 use Rattle.spec_laws.specs.Bools.{or-false}
 
 -- ---- what pays

@@ -8,16 +8,7 @@ use native.Mathlib.Omega.{arith}
 use lib.Dec.{eqb}
 use borrow.Author.Tests.{lt-ltb}
 use Rattle.meaning.specs.Tree.{if_then_else_, oneOf, Head, hd, Forest, none, more, one, _&_}
-use Rattle.meaning.specs.Statements.{
-  isUsing,
-  isAwaitUsing,
-  anyUsing,
-  letterIf,
-  wrapInitializer,
-  wrapInitializers,
-  asTakenUp,
-  takeUp,
-}
+use Rattle.meaning.specs.Statements.{isUsing, isAwaitUsing, letterIf, wrapInitializer, wrapInitializers, asTakenUp, takeUp}
 use Rattle.spec_laws.specs.Tags.{Seen, other, here, there, seen, or-none}
 use Rattle.charge_laws.specs.Growth.Trees.{using-tag}
 use Rattle.hint_laws.specs.Hints.{
@@ -33,7 +24,6 @@ use Rattle.hint_laws.specs.Hints.{
 }
 use Rattle.hint_laws.specs.Balanced.Balance.{waits, doneIn, gives, balanceOf}
 use Rattle.hint_laws.specs.Balanced.Sums.{ownLetter, worth, inList, balance-more, balance-none}
-use Rattle.spec_laws.specs.Bools.{no-summand as one-if}
 
 names-wrapped : (f : Forest) (letter ctx m : ℕ) → namesOf m (wrapInitializer letter ctx m f) ≡ namesOf m f
 unfolding namesOf wrapInitializer
@@ -187,10 +177,3 @@ module _ (w : List ℕ → ℕ → ℕ) (read : ℕ) where
     unfolding takeUp doneIn usingsIn
     taken-done none = refl
     taken-done (more h k r) = using-done (isUsing h) h k r (takeUp false ctx false r) refl (taken-done r)
-
-  -- a list without usings asks for nothing
-  pub no-usings : (letter : Head → ℕ) (f : Forest) → anyUsing f ≡ false → usingsIn w letter f ≡ 0
-  unfolding usingsIn anyUsing
-  no-usings letter none e = refl
-  no-usings letter (more h k r) e =
-      one-if (isUsing h) (anyUsing r) (overDeclarators (λ names _. w names (letter h)) k) (usingsIn w letter r) e (no-usings letter r)

@@ -13,9 +13,10 @@ use Rattle.meaning.specs.HelperLoader.{loadRuntime, loadExternal, helperLoad}
 use Rattle.meaning.specs.Statements.{isUsing, takeUp, createCatchClause, createFinallyBlock, createTryStmt}
 use Rattle.charge_laws.specs.Counts.TakenUp.{none-left}
 use Rattle.hint_laws.specs.Hints.{sumOver, ofInitializer, overDeclarators, usingsIn, asksFor, called, callsIn, calls}
+use Rattle.hint_laws.specs.Outline.{no-usings}
 use Rattle.hint_laws.specs.Balanced.Balance.{letterIn, waits, doneIn, gives, balanceOf}
 use Rattle.hint_laws.specs.Balanced.Sums.{ownLetter, inList}
-use Rattle.hint_laws.specs.Balanced.Lists.{taken-kept, taken-done, no-usings}
+use Rattle.hint_laws.specs.Balanced.Lists.{taken-kept, taken-done}
 
 module _ (w : List ℕ → ℕ → ℕ) (read : ℕ) where
   -- a list with what it counts for its record
@@ -52,7 +53,7 @@ module _ (w : List ℕ → ℕ → ℕ) (read : ℕ) where
   taken-listed ctx f new =
       omega (
         arith,
-        no-usings w read ownLetter (takeUp false ctx false f) (none-left f false ctx false),
+        no-usings w ownLetter (takeUp false ctx false f) (none-left f false ctx false),
         taken-done w read ctx new f,
         taken-kept w read f false ctx false,
       )

@@ -56,7 +56,7 @@ settled-if false h d d₀ r₀ p st i =
     i ∙ ap (λ (f : Forest). plug f p) (&-assoc d₀ (one h d) r₀ ∙ ap (λ (f : Forest). d₀ & more h f r₀) (sym (&-none d)))
 
 -- going on leaves the tree as it is
-settled : (p : List Crumb) (d f : Forest) (st : Store) → treeAt (settle d f p st) ≡ plug (d & f) p
+pub settled : (p : List Crumb) (d f : Forest) (st : Store) → treeAt (settle d f p st) ≡ plug (d & f) p
 unfolding settle treeAt plug
 settled [] d none st = sym (&-none d)
 settled [] d (more h k r) st = refl

@@ -11,8 +11,8 @@ use Rattle.meaning.specs.Statements.{isUsing, anyUsing}
 use Rattle.meaning.specs.ForOf.{bindsIdentifier}
 use Rattle.spec_laws.specs.Tags.{clash}
 use Rattle.charge_laws.specs.Growth.Chosen.{heldUsing}
-use Rattle.hint_laws.specs.Hints.{sumOver, namesOf, overDeclarators, letterFor, takesUp, usingsIn, forOfUsing, asksFor}
-use Rattle.spec_laws.specs.Bools.{no-summand}
+use Rattle.hint_laws.specs.Outline.{no-usings}
+use Rattle.hint_laws.specs.Hints.{sumOver, namesOf, letterFor, takesUp, usingsIn, forOfUsing, asksFor}
 
 -- entering the record again would take up none of its usings: none stands in its list, and a ForOf's first child is none with an identifier
 unfoldable pub Quiet : Head → Forest → Type 0
@@ -49,12 +49,6 @@ by-test false true m n p q = q refl
 by-test false false m n p q = refl
 
 module _ (w : List ℕ → ℕ → ℕ) where
-  no-usings : (letter : Head → ℕ) (k : Forest) → anyUsing k ≡ false → usingsIn w letter k ≡ 0
-  unfolding usingsIn anyUsing
-  no-usings letter none e = refl
-  no-usings letter (more h k r) e =
-      no-summand (isUsing h) (anyUsing r) (overDeclarators (λ names _. w names (letter h)) k) (usingsIn w letter r) e (no-usings letter r)
-
   no-held : (k : Forest) → heldUsing k ≡ false → forOfUsing w k ≡ 0
   unfolding forOfUsing heldUsing
   no-held none e = refl
@@ -68,7 +62,7 @@ module _ (w : List ℕ → ℕ → ℕ) where
   unfolding asksFor Quiet
   asks-nothing letter h k q =
       by-test (takesUp (h .tag)) (eqb (h .tag) 8) (usingsIn w letter k) (forOfUsing w k)
-      (λ e. no-usings letter k (q .0 e))
+      (λ e. no-usings w letter k (q .0 e))
       (λ e. no-held k (q .1 e))
 
   -- Of a tree in which all records are quiet nothing is asked, whatever the letters.

@@ -7,7 +7,7 @@ use native.Mathlib.Omega.{arith}
 use lib.ListN.{length, length-append}
 use lib.Seq.{append-snoc}
 use Rattle.tables.specs.Loops.{turns}
-use Rattle.tables.specs.Table.{capped, columnF, rowF, setColumnF, setRowF, moveRowF}
+use Rattle.tables.specs.Table.{cap-one, columnF, rowF, setColumnF, setRowF, moveRowF}
 use Rattle.tables.specs.Stream.{Buf, emitF, replaceRowF, copyRowF, unreadRowF, takeBackF}
 use Rattle.tables.specs.declared.Row.{Row}
 use Rattle.representation.specs.Gap.Cells.{table, zeros, free, gapped, withUp, withLeft, length-free}
@@ -70,10 +70,6 @@ module _ (z : List ℕ) (a : List Row) (x : Row) (v : List Row) where
 
 buf-eq : {x y : Buf} → x .t ≡ y .t → x .read ≡ y .read → x .written ≡ y .written → x ≡ y
 buf-eq e₁ e₂ e₃ = λ i. record { t = e₁ i; read = e₂ i; written = e₃ i }
-
-pub cap-one : (x : ℕ) → x < 65535 → capped x 1 ≡ x + 1
-unfolding capped
-cap-one x h = omega arith
 
 pub length-snoc : (a : List Row) (r : Row) → length (a ++ r ∷ []) ≡ length a + 1
 length-snoc a r = length-append a (r ∷ [])

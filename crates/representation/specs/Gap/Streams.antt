@@ -8,11 +8,11 @@ use native.Mathlib.Omega.{arith}
 use lib.ListN.{length, length-append}
 use Rattle.meaning.specs.Tree.{Head, Forest, none, more, count, size}
 use Rattle.tables.specs.Loops.{until, go-on, stopped}
-use Rattle.tables.specs.Table.{columnF, rowF, Skipping, skipping, skipped, skipOne, endF}
+use Rattle.tables.specs.Table.{cap-one, columnF, rowF, Skipping, skipping, skipped, skipOne, endF}
 use Rattle.tables.specs.Stream.{Buf, copyRowF, replaceRowF, Copying, copying, copied, copyOne, copyF}
 use Rattle.tables.specs.declared.Row.{Row}
 use Rattle.representation.specs.Gap.Cells.{table, line, rowsOf, gapped, length-rows}
-use Rattle.representation.specs.Gap.Rows.{n-at, cap-one, length-snoc, next-gapped, pass-gapped}
+use Rattle.representation.specs.Gap.Rows.{n-at, length-snoc, next-gapped, pass-gapped}
 use Rattle.spec_laws.specs.Bools.{some as some-left}
 
 -- ---- copied

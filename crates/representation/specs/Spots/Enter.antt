@@ -9,12 +9,12 @@ use lib.ListN.{length, length-append}
 use Rattle.meaning.specs.Tree.{Head, Forest, none, count, size}
 use Rattle.meaning.specs.Scoping.{Store}
 use Rattle.meaning.specs.Walk.{Crumb, crumb, at, settle, storeAt}
-use Rattle.tables.specs.Table.{capped, rowF, setColumnF, moveRowF}
+use Rattle.tables.specs.Table.{cap-one, capped, rowF, setColumnF, moveRowF}
 use Rattle.tables.specs.declared.Row.{Row}
 use Rattle.path.specs.Path.{onRecords, OpenRows, openRows, steppedF, withInnerF, settleF, countDownF, openRowF, enterF}
 use Rattle.path.specs.declared.Walk.{Walk}
 use Rattle.representation.specs.Gap.Cells.{table, free, line, rowsOf, gapped, length-rows}
-use Rattle.representation.specs.Gap.Rows.{set-left, cap-one, move-row-gapped, next-gapped}
+use Rattle.representation.specs.Gap.Rows.{set-left, move-row-gapped, next-gapped}
 use Rattle.representation.specs.Store.Held.{ctxOf}
 use Rattle.representation.specs.Spots.Spots.{openLine, openRowsOf, afterRowsOf, opensAt, visitedAt, restAt, walkAt}
 use Rattle.representation.specs.Spots.Scopes.{same-number, depth-law, outer, under, inner-row, some-open, at-inner, inner-left}

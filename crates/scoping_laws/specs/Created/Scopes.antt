@@ -14,10 +14,10 @@ use Rattle.meaning.specs.Grammar.{scopeOf}
 use Rattle.meaning.specs.Scoping.{Store, Change, createChildScope, changeScopeParent, moveScopes, insertScopeBelow}
 use Rattle.meaning.specs.Due.{missing}
 use Rattle.tables.specs.Loops.{until, stopped}
-use Rattle.tables.specs.Table.{capped, rowF}
+use Rattle.tables.specs.Table.{cap-one, capped, rowF}
 use Rattle.tables.specs.declared.Row.{Row}
 use Rattle.representation.specs.Gap.Cells.{table, line, rowsOf, length-rows}
-use Rattle.representation.specs.Gap.Rows.{row-at, length-snoc, cap-one}
+use Rattle.representation.specs.Gap.Rows.{row-at, length-snoc}
 use Rattle.scoping.specs.Changes.{inScopes, changeScopeParentF}
 use Rattle.scoping.specs.declared.Ctx.{Ctx}
 use Rattle.representation.specs.Store.Held.{scopeCells, symbolCells, ctxOf, scopesHeld}

@@ -14,7 +14,7 @@ use Rattle.meaning.specs.Shapes.{block, tryStatement}
 use Rattle.meaning.specs.Statements.{createCatchClause, createFinallyBlock, createTryStmt}
 use Rattle.charge_laws.specs.Growth.Rows.{child-scope}
 use Rattle.charge_laws.specs.Growth.Made.{try-grows}
-use Rattle.representation.specs.Gap.Rows.{cap-one}
+use Rattle.tables.specs.Table.{cap-one}
 use Rattle.representation.specs.Store.Held.{scopeCells, symbolCells, ctxOf}
 use Rattle.representation.specs.Store.Scopes.{child-scope-made, child-scope-number}
 use Rattle.representation.specs.Store.Symbols.{symbol-made}

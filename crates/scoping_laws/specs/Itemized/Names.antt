@@ -14,11 +14,11 @@ use Rattle.meaning.specs.Scoping.{Store, symbolIn, setSymbolFlags, setFlagsOf}
 use Rattle.meaning.specs.Contexts.{namesIn}
 use Rattle.meaning.specs.Program.{boundNames, specifiers}
 use Rattle.charge_laws.specs.Growth.Rows.{flags-of}
-use Rattle.tables.specs.Table.{columnF, closedRowF}
+use Rattle.tables.specs.Table.{cap-one, columnF, closedRowF}
 use Rattle.tables.specs.Stream.{Buf, emitF}
 use Rattle.tables.specs.declared.Row.{Row}
 use Rattle.representation.specs.Gap.Cells.{table, free, line, rowsOf, gapped}
-use Rattle.representation.specs.Gap.Rows.{cap-one, length-snoc, emit-gapped}
+use Rattle.representation.specs.Gap.Rows.{length-snoc, emit-gapped}
 use Rattle.scoping.specs.Rows.{symbolNumber}
 use Rattle.scoping.specs.Changes.{SymbolRows}
 use Rattle.scoping.specs.declared.Ctx.{Ctx}

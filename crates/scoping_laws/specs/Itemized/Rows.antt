@@ -7,11 +7,11 @@ use native.Mathlib.Omega.{arith}
 use lib.ListN.{length, length-append}
 use Rattle.meaning.specs.Tree.{Head, Forest, none, one, count, size}
 use Rattle.meaning.specs.Shapes.{declaration, exportNamed, specifier}
-use Rattle.tables.specs.Table.{capped, columnF, rowF, closedRowF, setRowF}
+use Rattle.tables.specs.Table.{cap-one, capped, columnF, rowF, closedRowF, setRowF}
 use Rattle.tables.specs.Stream.{replaceRowF, copyF}
 use Rattle.tables.specs.declared.Row.{Row}
 use Rattle.representation.specs.Gap.Cells.{table, zeros, free, line, rowsOf, gapped, length-free}
-use Rattle.representation.specs.Gap.Rows.{set-row, row-at, cap-one, length-snoc, emit-gapped, pass-as-gapped, next-gapped}
+use Rattle.representation.specs.Gap.Rows.{set-row, row-at, length-snoc, emit-gapped, pass-as-gapped, next-gapped}
 use Rattle.representation.specs.Gap.Streams.{copy-all}
 use Rattle.table_laws.specs.Lists.Try.{declare-law}
 use Rattle.rewrite_items.specs.Items.{dropF, exportRowsF, valueRowsF}

@@ -12,10 +12,10 @@ use Rattle.meaning.specs.Tree.{if_then_else_, Head, Forest, none, more, count, 
 use Rattle.meaning.specs.Contexts.{namesIn}
 use Rattle.meaning.specs.Program.{boundNames}
 use Rattle.tables.specs.Loops.{until, stopped}
-use Rattle.tables.specs.Table.{capped, columnF, rowF}
+use Rattle.tables.specs.Table.{cap-one, capped, columnF, rowF}
 use Rattle.tables.specs.declared.Row.{Row}
 use Rattle.representation.specs.Gap.Cells.{table, line, rowsOf, length-rows}
-use Rattle.representation.specs.Gap.Rows.{row-at, length-snoc, cap-one}
+use Rattle.representation.specs.Gap.Rows.{row-at, length-snoc}
 use Rattle.table_laws.specs.Lists.Plan.{cap-sum}
 use Rattle.rewrite_items.specs.Names.{names, firstNames, isNameF, nextNameF, namesDoneF}
 use Rattle.rewrite_items.specs.declared.Names.{Names}

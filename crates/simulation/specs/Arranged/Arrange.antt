@@ -10,10 +10,9 @@ use lib.ListN.{length, length-append}
 use Rattle.meaning.specs.Tree.{Forest, none, more, count, size, _&_}
 use Rattle.meaning.specs.Scoping.{Store}
 use Rattle.meaning.specs.Program.{programItem, programItems}
-use Rattle.tables.specs.Table.{capped}
+use Rattle.tables.specs.Table.{cap-one, capped}
 use Rattle.tables.specs.declared.Row.{Row}
 use Rattle.representation.specs.Gap.Cells.{table, rowsOf, length-rows}
-use Rattle.representation.specs.Gap.Rows.{cap-one}
 use Rattle.statements.specs.declared.Counting.{Counting}
 use Rattle.table_laws.specs.Lists.Plan.{cap-sum}
 use Rattle.rewrite_program.specs.Placing.{numberRowsF}

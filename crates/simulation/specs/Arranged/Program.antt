@@ -13,11 +13,11 @@ use Rattle.meaning.specs.Charges.{lineCharge, total}
 use Rattle.meaning.specs.Walk.{Crumb, Spot, at, storeAt}
 use Rattle.charge_laws.specs.Growth.Rows.{scope-below}
 use Rattle.charge_laws.specs.Growth.Program.{Exports, program-pays}
-use Rattle.tables.specs.Table.{capped, closedRowF}
+use Rattle.tables.specs.Table.{cap-one, capped, closedRowF}
 use Rattle.tables.specs.Stream.{replaceRowF}
 use Rattle.tables.specs.declared.Row.{Row}
 use Rattle.representation.specs.Gap.Cells.{table, free, line, rowsOf, gapped, length-rows, count-&, rows-&}
-use Rattle.representation.specs.Gap.Rows.{cap-one, length-snoc, pass-as-gapped}
+use Rattle.representation.specs.Gap.Rows.{length-snoc, pass-as-gapped}
 use Rattle.representation.specs.Store.Held.{scopeCells, symbolCells, ctxOf, scopesHeld}
 use Rattle.representation.specs.Store.Agreed.{Agreed, below-agreed}
 use Rattle.path.specs.Path.{Tables}

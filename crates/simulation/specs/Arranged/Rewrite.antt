@@ -9,11 +9,11 @@ use Rattle.meaning.specs.Tree.{Forest, count, size}
 use Rattle.meaning.specs.Scoping.{Store}
 use Rattle.meaning.specs.Program.{Split, programItems}
 use Rattle.charge_laws.specs.Growth.Program.{Exports}
-use Rattle.tables.specs.Table.{capped, closedRowF}
+use Rattle.tables.specs.Table.{cap-one, capped, closedRowF}
 use Rattle.tables.specs.Stream.{Buf, emitF}
 use Rattle.tables.specs.declared.Row.{Row}
 use Rattle.representation.specs.Gap.Cells.{table, free, rowsOf, gapped}
-use Rattle.representation.specs.Gap.Rows.{cap-one, emit-gapped}
+use Rattle.representation.specs.Gap.Rows.{emit-gapped}
 use Rattle.representation.specs.Store.Held.{symbolCells, ctxOf}
 use Rattle.representation.specs.Store.Agreed.{Agreed}
 use Rattle.table_laws.specs.Lists.Plan.{cap-sum}

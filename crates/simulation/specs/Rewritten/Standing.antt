@@ -11,11 +11,11 @@ use Rattle.meaning.specs.Contexts.{forList}
 use Rattle.meaning.specs.Charges.{wraps, caseWraps}
 use Rattle.meaning.specs.Walk.{Crumb, Spot, at, currentScope, hoistScope, storeAt}
 use Rattle.charge_laws.specs.Counts.TakenUp.{Labelled}
-use Rattle.tables.specs.Table.{capped, columnF, rowF}
+use Rattle.tables.specs.Table.{cap-one, capped, columnF, rowF}
 use Rattle.tables.specs.declared.Row.{Row}
 use Rattle.path.specs.Path.{Tables}
 use Rattle.representation.specs.Gap.Cells.{table, free, line, rowsOf}
-use Rattle.representation.specs.Gap.Rows.{row-at, cap-one, length-snoc, length-left}
+use Rattle.representation.specs.Gap.Rows.{row-at, length-snoc, length-left}
 use Rattle.representation.specs.Spots.Spots.{openRowsOf, afterRowsOf, opensAt, visitedAt, restAt, Rest, walkAt, held}
 use Rattle.representation.specs.Spots.Scopes.{depth-law, current-law, hoist-law}
 use Rattle.representation.specs.Spots.Lengths.{visited-at, rest-at}

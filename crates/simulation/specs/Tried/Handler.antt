@@ -12,12 +12,12 @@ use Rattle.meaning.specs.Scoping.{Store, Change, return, moveBinding, moveBindi
 use Rattle.meaning.specs.Contexts.{namesIn, lastBlockScope, anyPartUsing, moveCatchNames, transformTryParts}
 use Rattle.spec_laws.specs.Trees.{transformHandler}
 use Rattle.charge_laws.specs.Totals.Roles.{Lacks}
-use Rattle.tables.specs.Table.{capped, columnF}
+use Rattle.tables.specs.Table.{cap-one, capped, columnF}
 use Rattle.tables.specs.Stream.{Buf, copyRowF}
 use Rattle.tables.specs.declared.Row.{Row}
 use Rattle.scoping.specs.declared.Ctx.{Ctx}
 use Rattle.representation.specs.Gap.Cells.{table, free, line, rowsOf, gapped, length-rows}
-use Rattle.representation.specs.Gap.Rows.{cap-one, length-snoc, pass-gapped, length-left}
+use Rattle.representation.specs.Gap.Rows.{length-snoc, pass-gapped, length-left}
 use Rattle.representation.specs.Store.Held.{ctxOf}
 use Rattle.representation.specs.Store.Symbols.{bindings-ctx}
 use Rattle.representation.specs.Store.Agreed.{Agreed, bindings-agreed}

@@ -10,8 +10,9 @@ use lib.Seq.{append-snoc}
 use Rattle.meaning.specs.Tree.{Forest, none, more}
 use Rattle.tables.specs.Loops.{turns}
 use Rattle.tables.specs.declared.Row.{Row}
+use Rattle.tables.specs.Table.{cap-one}
 use Rattle.representation.specs.Gap.Cells.{table, rowsOf, withUp}
-use Rattle.representation.specs.Gap.Rows.{set-up, cap-one, length-snoc}
+use Rattle.representation.specs.Gap.Rows.{set-up, length-snoc}
 use Rattle.rewrite_program.specs.Placing.{RowsAt, rowsAt, clearOneF, clearPlacesF, Numbering, numbering, numberOneF, numberRowsF}
 
 -- every row has a property

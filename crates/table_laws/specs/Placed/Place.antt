@@ -9,10 +9,10 @@ use borrow.Author.Tests.{eq-eqb, ne-eqb, le-leb, lt-leb}
 use lib.ListN.{length, length-append}
 use lib.Seq.{append-snoc}
 use Rattle.tables.specs.Loops.{until, stopped}
-use Rattle.tables.specs.Table.{rowF, setRowF}
+use Rattle.tables.specs.Table.{cap-one, rowF, setRowF}
 use Rattle.tables.specs.declared.Row.{Row}
 use Rattle.representation.specs.Gap.Cells.{table}
-use Rattle.representation.specs.Gap.Rows.{set-row, row-at, up-at, cap-one, length-snoc}
+use Rattle.representation.specs.Gap.Rows.{set-row, row-at, up-at, length-snoc}
 use Rattle.rewrite_program.specs.Placing.{RowsAt, rowsAt, exchangeF, placeOneF, passedTo, placeF, clearPlacesF}
 use Rattle.table_laws.specs.Placed.Numbers.{Closed, numbered, cleared-numbered, clear-law}
 use Rattle.table_laws.specs.Placed.Places.{

@@ -2,7 +2,7 @@
 use mathlib.Core.Path.{refl}
 use Prim.Native.Nat.{_≤_}
 use native.Mathlib.Omega.{arith}
-use Rattle.rules.specs.Numbers.{numbers-most}
+use Rattle.spec_laws.specs.Trees.{numbers-most}
 use Rattle.writing.proofs.Laws.{next-whole}
 use Rattle.writing.proofs.Over.{bare-over, record-over}
 use borrow.Author.Needs.{needs}

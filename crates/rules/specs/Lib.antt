@@ -1,2 +1,0 @@
--- How many numbers a field has.
-pub mod Numbers
