@@ -16,9 +16,8 @@ use Rattle.meaning.specs.declared.Place.the-variants.{Program}
 use Rattle.spec_laws.specs.Tags.{or-none}
 use Rattle.charge_laws.specs.Totals.Roles.{Lacks}
 use Rattle.charge_laws.specs.Fit.Placed.{same-tag, Placed, accepted-placed}
-use Rattle.parsing.specs.Places.{Bars}
+use Rattle.parsing.specs.Places.{Bars, body-bars-5}
 use Rattle.charge_laws.specs.Fit.Barred.{barred, lacks, no-catch}
-use Rattle.charge_laws.specs.Fit.Accepted.{body-bars-5}
 
 -- ---- what a tree must be
 
