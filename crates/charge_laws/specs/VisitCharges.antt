@@ -10,7 +10,7 @@ use Rattle.meaning.specs.Numbers.Mode as LoadMode
 use Rattle.meaning.specs.Tree.{if_then_else_, oneOf, Head, Forest, none, more, one}
 use Rattle.meaning.specs.File.{Symbol, File}
 use Rattle.meaning.specs.Statements.{isUsing, anyUsing}
-use Rattle.meaning.specs.ForOf.{ForOfAct, stay, insert, wrap}
+use Rattle.meaning.specs.ForOf.{ForOfAct, asIs, insert, wrap}
 use Rattle.meaning.specs.Program.{boundNames, keepsDefault}
 use Rattle.meaning.specs.Walk.{
   isStaticBlock,
@@ -105,7 +105,7 @@ module _ (asRead : List Symbol) where
 
   -- the body of a ForOf: a context for it, and five records for the using that went in
   unfoldable pub visitsBody : ForOfAct → Head → Forest → Visits
-  visitsBody stay h k = visitsStanding h k
+  visitsBody asIs h k = visitsStanding h k
   visitsBody insert h k = inTry ((context ofBlock ∷ wrapped (1 + wraps k) ∷ []) ∷ free 5) takenUp
   visitsBody wrap h k =
       let v = visitsTakenUp h k in
@@ -116,7 +116,7 @@ module _ (asRead : List Symbol) where
         behind = v .behind ++ free 6;
       }
 
-  -- what a Program's item leaves among the items that stay: itself, or an export with a Specifier for each name
+  -- what a Program's item leaves among the items that asIs: itself, or an export with a Specifier for each name
   unfoldable pub visitsExport : Head → Forest → Forest → Visits
   visitsExport h k none = visitsStanding h k
   visitsExport h k (more h₁ k₁ r₁) =

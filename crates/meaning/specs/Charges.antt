@@ -13,7 +13,7 @@ use Rattle.meaning.specs.File.{Symbol, File, numbersOf, fieldBytes, sett
 use Rattle.meaning.specs.Statements.{isUsing, anyUsing}
 use Rattle.meaning.specs.Contexts.{anyCaseUsing}
 use Rattle.meaning.specs.Program.{boundNames, keepsDefault}
-use Rattle.meaning.specs.ForOf.{ForOfAct, stay, insert, wrap, forOfAct}
+use Rattle.meaning.specs.ForOf.{ForOfAct, asIs, insert, wrap, forOfAct}
 use Rattle.meaning.specs.Walk.{Spot, fileAt, storeAt}
 
 -- ---- 01's lines
@@ -195,7 +195,7 @@ bodyLines (more h₁ k₁ (more h₂ k₂ none)) = []
 bodyLines (more h₁ k₁ (more h₂ k₂ (more h₃ k₃ r))) = if anyUsing k₃ then [] else context ofBlock ∷ []
 
 unfoldable pub forOfLines : ForOfAct → Forest → List Line
-forOfLines stay k = []
+forOfLines asIs k = []
 forOfLines insert k = forOf ∷ wrapped 1 ∷ bodyLines k
 forOfLines wrap k = forOfBlock ∷ wrapped 1 ∷ context ofBlock ∷ []
 

@@ -51,16 +51,16 @@ bindsName asRead scope y =
 -- What becomes of a ForOf: nothing without a using of an identifier; the using goes in at index 0 of a body Block that does not bind its name;
 -- any other body is wrapped.
 pub data ForOfAct : Type 0 where
-  stay insert wrap : ForOfAct
+  asIs insert wrap : ForOfAct
 
 unfoldable pub forOfAct : List Symbol → Forest → ForOfAct
-forOfAct asRead none = stay
-forOfAct asRead (more h₁ k₁ none) = stay
-forOfAct asRead (more h₁ k₁ (more h₂ k₂ none)) = stay
+forOfAct asRead none = asIs
+forOfAct asRead (more h₁ k₁ none) = asIs
+forOfAct asRead (more h₁ k₁ (more h₂ k₂ none)) = asIs
 forOfAct asRead (more h₁ k₁ (more h₂ k₂ (more h₃ k₃ r))) =
     if isUsing h₁ && bindsIdentifier k₁ then
     (if eqb (h₃ .tag) Tag.Block && not (bindsName asRead (h₃ .a) (boundSymbol k₁)) then insert else wrap)
-    else stay
+    else asIs
 
 -- the body with the using at index 0, which moves to the body's scope
 unfoldable pub insertUsing : ℕ → Forest → Head → Forest → Change Forest

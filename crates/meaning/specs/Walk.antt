@@ -21,7 +21,7 @@ use Rattle.meaning.specs.Contexts.{
   transformForStatement,
   transformSwitchStatement,
 }
-use Rattle.meaning.specs.ForOf.{ForOfAct, stay, insert, wrap, forOfAct, enterForOfStatement}
+use Rattle.meaning.specs.ForOf.{ForOfAct, asIs, insert, wrap, forOfAct, enterForOfStatement}
 use Rattle.meaning.specs.Program.{enterProgram}
 
 -- ---- what entering a record does
@@ -33,7 +33,7 @@ abbrev pub actIf : Bool → Act → Act
 actIf b a = if b then a else keep
 
 abbrev pub ofForOf : ForOfAct → Act
-ofForOf stay = keep
+ofForOf asIs = keep
 ofForOf insert = forOfInsert
 ofForOf wrap = forOfWrap
 

@@ -15,7 +15,7 @@ use Rattle.meaning.specs.Contexts.{anyPartUsing, transformTryParts, enterTrySta
 use Rattle.meaning.specs.Program.{programItems, enterProgram}
 use Rattle.meaning.specs.Charges.{forOf, forOfBlock, lineCharge, total}
 use Rattle.meaning.specs.Due.{isContext, missing}
-use Rattle.meaning.specs.ForOf.{bindsIdentifier, boundSymbol, bindsName, ForOfAct, stay, insert, wrap, forOfAct}
+use Rattle.meaning.specs.ForOf.{bindsIdentifier, boundSymbol, bindsName, ForOfAct, asIs, insert, wrap, forOfAct}
 use Rattle.meaning.specs.Walk.{Crumb, at, keep, program, tryParts, actIf, ofForOf, enterAs, currentScope, hoistScope}
 use Rattle.spec_laws.specs.Tags.{and-left}
 use Rattle.charge_laws.specs.Growth.Rows.{scope-below}
@@ -106,7 +106,7 @@ module _ (done : Forest) (h : Head) (k r : Forest) (path : List Crumb) (st : Sto
 
 -- what an act does to the tables
 abbrev doneAs : ForOfAct → Tables → Tables
-doneAs stay q = q
+doneAs asIs q = q
 doneAs insert q = insertUsingF q
 doneAs wrap q = wrapBodyF q
 
@@ -118,7 +118,7 @@ as-decided q =
   where
     by : (b c : Bool)
         → (if b then (if c then insertUsingF q else wrapBodyF q) else q)
-        ≡ doneAs (if b then (if c then insert else wrap) else stay) q
+        ≡ doneAs (if b then (if c then insert else wrap) else asIs) q
     by true true = refl
     by true false = refl
     by false c = refl
@@ -134,10 +134,10 @@ acts done h k r path st g z a fits ag l e =
 
 -- without three children, or without a using
 plain-by : (done : Forest) (h : Head) (k r : Forest) (path : List Crumb) (st : Store) (g : ℕ) (z : Rest) → Left k
-    → forOfAct (st .asRead) k ≡ stay → By done h k r path st g z rewriteForOfF keep
+    → forOfAct (st .asRead) k ≡ asIs → By done h k r path st g z rewriteForOfF keep
 unfolding enterAs
 plain-by done h k r path st g z l e =
-    kept-by done h k r path st g z rewriteForOfF (λ fits a. acts done h k r path st g z stay fits a l e)
+    kept-by done h k r path st g z rewriteForOfF (λ fits a. acts done h k r path st g z asIs fits a l e)
 
 module _ (done : Forest) (h h₁ : Head) (k₁ : Forest) (h₂ : Head) (k₂ : Forest) (h₃ : Head) (k₃ r₃ r : Forest) (path : List Crumb)
     (st : Store) (g : ℕ) (z : Rest) where
@@ -154,7 +154,7 @@ module _ (done : Forest) (h h₁ : Head) (k₁ : Forest) (h₂ : Head) (k₂ : F
   is-using e = and-left (isUsing h₁) (bindsIdentifier k₁) e
 
   three-by : (b c : Bool) → takes ≡ b → inserts ≡ c → Left k
-      → By done h k r path st g z rewriteForOfF (ofForOf (if b then (if c then insert else wrap) else stay))
+      → By done h k r path st g z rewriteForOfF (ofForOf (if b then (if c then insert else wrap) else asIs))
   unfolding enterAs forOfAct lineCharge isContext
   three-by true true e d l =
       done-by done h k r path st g z rewriteForOfF _ 4 0 1

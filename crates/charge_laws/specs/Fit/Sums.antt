@@ -12,7 +12,7 @@ use Rattle.meaning.specs.Tree.{if_then_else_, Head, hd, Forest, none, more, one
 use Rattle.meaning.specs.File.{Symbol}
 use Rattle.meaning.specs.Statements.{isUsing, anyUsing}
 use Rattle.meaning.specs.Contexts.{anyPartUsing, anyCaseUsing, forList}
-use Rattle.meaning.specs.ForOf.{bindsIdentifier, boundSymbol, bindsName, ForOfAct, stay, insert, wrap, forOfAct}
+use Rattle.meaning.specs.ForOf.{bindsIdentifier, boundSymbol, bindsName, ForOfAct, asIs, insert, wrap, forOfAct}
 use Rattle.meaning.specs.Walk.{
   Act,
   keep,
@@ -130,7 +130,7 @@ module _ (w : Line → ℕ) (linear : Linear w) (ys : List Symbol) where
     found-if k true x y p q = p refl
     found-if k false x y p q = q
 
-    plain-found : (k : Forest) → visited w ys k standing ≡ found 8 k → FoundAs k stay
+    plain-found : (k : Forest) → visited w ys k standing ≡ found 8 k → FoundAs k asIs
     unfolding visitsAs forOfLines costs cost
     plain-found k s = omega arith
 
@@ -143,7 +143,7 @@ module _ (w : Line → ℕ) (linear : Linear w) (ys : List Symbol) where
         let k = more h₁ k₁ (more h₂ k₂ (more h₃ k₃ r)) in
         let unbound = not (bindsName ys (h₃ .a) (boundSymbol k₁)) in
         let two : Bool = eqb (h₃ .tag) 2 && unbound in
-        found-if k (isUsing h₁ && bindsIdentifier k₁) (if two then insert else wrap) stay
+        found-if k (isUsing h₁ && bindsIdentifier k₁) (if two then insert else wrap) asIs
         (λ _. found-if k two insert wrap
         (λ e. omega (arith, insert-same w linear ys h₁ k₁ h₂ k₂ h₃ k₃ r (eqb-true (h₃ .tag) 2 (and-left (eqb (h₃ .tag) 2) unbound e))))
         (omega (arith, wrap-same w linear ys h₁ k₁ h₂ k₂ h₃ k₃ r p)))

@@ -10,7 +10,7 @@ use Rattle.meaning.specs.Tree.{if_then_else_, oneOf, Head, hd, Forest, none, mo
 use Rattle.meaning.specs.File.{Symbol}
 use Rattle.meaning.specs.Statements.{isUsing, anyUsing}
 use Rattle.meaning.specs.Contexts.{anyPartUsing, anyCaseUsing, forList}
-use Rattle.meaning.specs.ForOf.{bindsIdentifier, boundSymbol, bindsName, ForOfAct, stay, insert, wrap, forOfAct}
+use Rattle.meaning.specs.ForOf.{bindsIdentifier, boundSymbol, bindsName, ForOfAct, asIs, insert, wrap, forOfAct}
 use Rattle.meaning.specs.Walk.{Act, keep, program, block, functionBody, tryParts, forLoop, switch, forOfInsert, forOfWrap, ofForOf, actOf}
 use Rattle.spec_laws.specs.Tags.{Seen, other, here, there, seen, clash, and-left, and-right}
 
@@ -76,7 +76,7 @@ for-of-chosen ys a b c (more h₁ k₁ none) = kept (idle-loop refl)
 for-of-chosen ys a b c (more h₁ k₁ (more h₂ k₂ none)) = kept (idle-loop refl)
 for-of-chosen ys a b c (more h₁ k₁ (more h₂ k₂ (more h₃ k₃ r))) =
     let free = not (bindsName ys (h₃ .a) (boundSymbol k₁)) in
-    for-of-if (isUsing h₁ && bindsIdentifier k₁) (if eqb (h₃ .tag) 2 && free then insert else wrap) stay
+    for-of-if (isUsing h₁ && bindsIdentifier k₁) (if eqb (h₃ .tag) 2 && free then insert else wrap) asIs
     (λ e.
     let d : Binds h₁ k₁ = record { uses = and-left (isUsing h₁) _ e; identifier = and-right (isUsing h₁) _ e; both = e } in
     for-of-if (eqb (h₃ .tag) 2 && free) insert wrap

@@ -11,7 +11,7 @@ use Rattle.meaning.specs.Tree.{if_then_else_, oneOf, Head, hd, Forest, none, mo
 use Rattle.meaning.specs.File.{Symbol, fieldBytes}
 use Rattle.meaning.specs.Statements.{isUsing, anyUsing}
 use Rattle.meaning.specs.Contexts.{anyCaseUsing}
-use Rattle.meaning.specs.ForOf.{bindsIdentifier, boundSymbol, bindsName, stay, insert, wrap, forOfAct}
+use Rattle.meaning.specs.ForOf.{bindsIdentifier, boundSymbol, bindsName, asIs, insert, wrap, forOfAct}
 use Rattle.meaning.specs.Charges.{
   Kind,
   ofBlock,
@@ -106,7 +106,7 @@ module _ (asRead : List Symbol) where
 
   third-lines : (b : Bool) (y : ℕ) (h : Head) (any : Bool) (k : Forest) → bodyLines k ≡ (if any then [] else context ofBlock ∷ [])
       → bodyOwn (isBody (if b then Body y else Plain)) (insertsIn asRead (if b then Body y else Plain) h) any
-      ≡ forOfLines (if b then (if eqb (h .tag) 2 && not (bindsName asRead (h .a) y) then insert else wrap) else stay) k
+      ≡ forOfLines (if b then (if eqb (h .tag) 2 && not (bindsName asRead (h .a) y) then insert else wrap) else asIs) k
   unfolding roleIndex insertsIn bodyOwn forOfLines
   third-lines true y h any k e = body-lines (eqb (h .tag) 2 && not (bindsName asRead (h .a) y)) any k e
   third-lines false y h any k e = refl

@@ -10,7 +10,7 @@ use lib.ListN.{length, length-append}
 use Rattle.meaning.specs.Tree.{if_then_else_, Head, Forest, none, more, one, count, size}
 use Rattle.meaning.specs.Scoping.{Store, insertScopeBelow}
 use Rattle.meaning.specs.Statements.{isUsing}
-use Rattle.meaning.specs.ForOf.{bindsIdentifier, boundSymbol, bindsName, ForOfAct, stay, insert, wrap, forOfAct}
+use Rattle.meaning.specs.ForOf.{bindsIdentifier, boundSymbol, bindsName, ForOfAct, asIs, insert, wrap, forOfAct}
 use Rattle.meaning.specs.Walk.{Crumb, Spot, at, storeAt}
 use Rattle.charge_laws.specs.Counts.Enter.{Begins, Left}
 use Rattle.tables.specs.Table.{capped, columnF, rowF}
@@ -133,11 +133,11 @@ forOfActF q =
     let gap = q .walk .gap .0 in
     if takesUsingF (q .records) gap then (
     if insertsF (q .records) (inSymbols (q .symbols) (q .walk .ctx)) gap then insert else wrap)
-    else stay
+    else asIs
 
 -- with fewer than three children
 none-is : (done : Forest) (h : Head) (k r : Forest) (path : List Crumb) (st : Store) (g : ℕ) (z : Rest) → count k < 3
-    → forOfActF (held (at done h k r path st) g z) ≡ stay
+    → forOfActF (held (at done h k r path st) g z) ≡ asIs
 none-is done h k r path st g z i =
     rw (
       gap-here done h k r path st g z,
