@@ -1,15 +1,15 @@
 -- The tree of an accepted file is regular, and not too large for the tally's counters.
 -- Assumes nothing.
-use mathlib.Core.Path.{_≡_, refl, subst}
-use mathlib.Core.Bool.{Bool, true, false, not, _&&_}
+use mathlib.Core.Path.{_≡_, refl, subst, _∙_}
+use mathlib.Core.Bool.{Bool, true, false, not, _&&_, or-true}
 use mathlib.Core.List.{List, [], _∷_}
 use Prim.Native.Nat.{ℕ, _≤_, min}
 use native.Mathlib.Omega.{arith}
 use lib.Dec.{eqb, ltb}
 use borrow.Author.Tests.{eqb-true}
 use Rattle.meaning.specs.Tree.{if_then_else_, oneOf, Head, Forest, size}
-use Rattle.meaning.specs.File.{File}
-use Rattle.meaning.specs.Grammar.{tagsOf, is, allowed, fieldOf, placeOf}
+use Rattle.meaning.specs.File.{File, numbersOf, hasChildren, ownNumbers}
+use Rattle.meaning.specs.Grammar.{tagsOf, is, allowed, fieldOf, right, childrenOf, placeOf}
 use Rattle.meaning.specs.Reading.{accepted, readFile}
 use Rattle.meaning.specs.declared.Place.{Place}
 use Rattle.meaning.specs.declared.Place.the-variants.{ForOfLeft, SwitchExpression}
@@ -17,10 +17,11 @@ use Rattle.meaning.specs.declared.Field.{Field}
 use Rattle.meaning.specs.Charges.{finalFigures}
 use Rattle.figures.specs.declared.tally.Role.the-variants.{Plain}
 use Rattle.figures.specs.Tally.{cap, tallyOf, tallyFigures}
-use Rattle.spec_laws.specs.Tags.{clash}
+use Rattle.spec_laws.specs.Tags.{Seen, other, here, there, seen, clash}
 use Rattle.parsing.specs.Parsed.{RecordAt, same-tag, Parsed, parsed-none, parsed-more}
 use Rattle.parsing.specs.Counts.{parsed-bytes, size-bytes}
 use Rattle.parsing.specs.Files.{file-parsed}
+use Rattle.charge_laws.specs.Growth.Items.{Exports}
 use Rattle.charge_laws.specs.Totals.Total.{figuresFrom, figures-are}
 use Rattle.charge_laws.specs.Totals.Bound.{tally-records, tally-cap}
 use Rattle.charge_laws.specs.Totals.Roles.{Lacks, LacksBelow, Regular}
@@ -70,6 +71,21 @@ below-bars-5 : (p : Place) (x : Field) → x .tag ≡ 5 → (k : ℕ) → Bars 5
 unfolding Bars placeOf allowed tagsOf
 below-bars-5 p x e k = rw e (either (Bars 5) (is p ForOfLeft) refl refl)
 
+-- ---- children
+
+-- Labels and exports have one child
+one-child-of : {t : ℕ} (p : Place) (syms a b c d next : ℕ) → Seen (4 ∷ 18 ∷ 19 ∷ []) t → oneOf (4 ∷ 18 ∷ 19 ∷ []) t ≡ true
+    → let x : Field = record { tag = t; a = a; b = b; c = c; d = d; next = next } in
+    right p syms x ≡ true → childrenOf x ≡ 1
+unfolding right childrenOf ownNumbers hasChildren numbersOf
+one-child-of p syms a b c d next here s e = eqb-true b 1 e
+one-child-of p syms a b c d next (there e₄ here) s e = eqb-true a 1 e
+one-child-of p syms a b c d next (there e₄ (there e₁₈ here)) s e = eqb-true a 1 e
+one-child-of p syms a b c d next (there e₄ (there e₁₈ (there e₁₉ other))) s e = absurd (clash (rw (e₄, e₁₈, e₁₉)) s)
+
+pub one-child : (p : Place) (syms : ℕ) (x : Field) → oneOf (4 ∷ 18 ∷ 19 ∷ []) (x .tag) ≡ true → right p syms x ≡ true → childrenOf x ≡ 1
+one-child p syms x = one-child-of p syms (x .a) (x .b) (x .c) (x .d) (x .next) (seen (4 ∷ 18 ∷ 19 ∷ []) (x .tag))
+
 -- ---- what is read
 
 module _ {f : List ℕ} {syms : ℕ} where
@@ -88,11 +104,18 @@ module _ {f : List ℕ} {syms : ℕ} where
   lacks-program {i = i} bars (parsed-more y k r) =
       (barred 1 (bars i) y, lacks-program (below-bars-1 _ _) k, lacks-program bars r)
 
+  exports : {place : ℕ → Place} {i cur at next : ℕ} {m o : List ℕ} {t : Forest} → Parsed f syms place i cur at m t next o → Exports t
+  exports parsed-none = tt
+  exports {place} {i} {at = at} (parsed-more {h = h} y k r) = (
+    λ e. y .children ∙ one-child (place i) syms (fieldOf f at) (rw (← same-tag y, e) (or-true (eqb (h .tag) 4))) (y .numbers),
+    exports r,
+  )
+
   regular : {place : ℕ → Place} {i cur at next : ℕ} {m o : List ℕ} {t : Forest} → Parsed f syms place i cur at m t next o → Regular t
   regular parsed-none = tt
   regular (parsed-more {h = h} y k r) = (
     λ e. lacks 5 (below-bars-5 _ _ (eqb-true _ 5 (rw (same-tag y) at e))) k,
-    λ e. lacks-program (below-bars-1 _ _) k,
+    λ e. (lacks-program (below-bars-1 _ _) k, exports k),
     regular k,
     regular r,
   )
