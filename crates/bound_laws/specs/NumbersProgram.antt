@@ -1,11 +1,11 @@
 -- The numbers of a rewritten ForOf or Program keep to the bound.
 -- Assumes nothing.
-use mathlib.Core.Bool.{Bool, not, _&&_}
+use mathlib.Core.Bool.{Bool}
 use mathlib.Core.List.{List, [], _∷_}
 use Prim.Native.Nat.{ℕ, _≤_}
 use native.Mathlib.Omega.{arith}
 use lib.Dec.{eqb}
-use Rattle.meaning.specs.Tree.{if_then_else_, oneOf, Head, Forest, none, more, one}
+use Rattle.meaning.specs.Tree.{if_then_else_, Head, Forest, none, more, one}
 use Rattle.meaning.specs.Scoping.{Store}
 use Rattle.meaning.specs.Statements.{isUsing}
 use Rattle.meaning.specs.Contexts.{namesIn}
@@ -17,19 +17,20 @@ use Rattle.meaning.specs.Program.{
   Split,
   boundNames,
   specifiers,
+  topLevelClass,
   topLevelDeclaration,
   exportedDeclaration,
   exportedClass,
-  exportedItem,
   defaultClass,
   asExpression,
   defaultValue,
-  keepsDefault,
-  defaultItem,
+  ItemAct,
+  itemAs,
   programItem,
   programItems,
   enterProgram,
 }
+use Rattle.charge_laws.specs.Growth.Items.{Anything, anything, ChosenItem, as-kept, as-moved, as-class, as-declaration, as-exported-declaration, as-exported-class, as-default-class, as-default-value, chosen-item}
 use Rattle.bound_laws.specs.Numbers.{
   All,
   UpTo,
@@ -137,83 +138,46 @@ module _ {B : ℕ} (big : 32 ≤ B) where
       let x = symbol-at big st y m in
       (omega arith, tt, specifiers-within st ys m (l .1))
 
-  declaration-kept : (h : Head) (k : Forest) (st : Store) → HeadWithin B h → TreeWithin B k
-      → Keeps B (Unit {0}) SplitWithin st (topLevelDeclaration h k st)
-  unfolding topLevelDeclaration
-  declaration-kept h k st p w =
-      step (flags-of-kept big (boundNames k) 1 st) (λ _. omega arith)
-      (gives (λ _. (tt, ((omega arith, omega arith, either (UpTo B) (isUsing h) (p .1) (omega arith), omega arith), w, tt))))
-
-  exported-declaration-kept : (k : Forest) (st : Store) → TreeWithin B k → Keeps B (Unit {0}) SplitWithin st (exportedDeclaration k st)
-  unfolding exportedDeclaration
-  exported-declaration-kept k st w =
-      step (flags-of-kept big (boundNames k) 1 st) (λ _. omega arith)
-      (got
-      (gives (λ (_, m). (
-        (omega arith, specifiers-within _ (boundNames k) m (bound-names-most k w), tt),
-        (omega arith, w, tt),
-      ))))
-
-  exported-class-kept : (h : Head) (k : Forest) (st : Store) → HeadWithin B h → TreeWithin B k
-      → Keeps B (Unit {0}) SplitWithin st (exportedClass h k st)
-  unfolding exportedClass
-  exported-class-kept h k st p w =
-      got
-      (step (class-kept h k st p w) (λ _. tt)
-      (gives (λ ((_, m), class). let y = symbol-at big st (h .c) m in ((omega arith, (omega arith, tt, tt), tt), class))))
-
-  export-kept : (h : Head) (k : Forest) (st : Store) → HeadWithin B h → TreeWithin B k
-      → Keeps B (Unit {0}) SplitWithin st (exportedItem h k st)
-  unfolding exportedItem
-  export-kept h none st p w = gives (λ _. ((p, tt, tt), tt))
-  export-kept h (more h₁ k₁ r₁) st p w =
-      branch (eqb (h₁ .tag) 15) _ _ st (exported-class-kept h₁ k₁ st (w .0) (w .1))
-      (branch (eqb (h₁ .tag) 5) _ _ st (exported-declaration-kept k₁ st (w .1)) (gives (λ _. ((p, w, tt), tt))))
-
-  default-class-kept : (h : Head) (k : Forest) (st : Store) → HeadWithin B h → TreeWithin B k
-      → Keeps B (Unit {0}) SplitWithin st (defaultClass h k st)
-  unfolding defaultClass
-  default-class-kept h k st p w =
-      step (class-kept h k st p w) (λ _. tt) (gives (λ (_, class). ((omega arith, (omega arith, tt, tt), tt), class)))
-
   expression-within : (h : Head) → HeadWithin B h → HeadWithin B (asExpression h)
   unfolding asExpression
   expression-within h p = either (HeadWithin B) (eqb (h .tag) 15) (omega arith) p
 
-  default-value-kept : (h : Head) (k : Forest) (st : Store) → HeadWithin B h → TreeWithin B k
-      → Keeps B (Unit {0}) SplitWithin st (defaultValue h k st)
-  unfolding defaultValue
-  default-value-kept h k st p w =
+  item-kept : {x : ItemAct} {h : Head} {k : Forest} (st : Store) → HeadWithin B h → TreeWithin B k → ChosenItem Anything x h k
+      → Keeps B (Unit {0}) SplitWithin st (itemAs x h k st)
+  unfolding itemAs topLevelClass topLevelDeclaration exportedDeclaration exportedClass defaultClass defaultValue
+  item-kept st p w (as-kept s) = gives (λ _. ((p, w, tt), tt))
+  item-kept st p w (as-moved e₁₃ e₁₇ e₁₈ e₁₉ e₁₅ e₅) = gives (λ _. (tt, (p, w, tt)))
+  item-kept {h = h} {k = k} st p w as-class = step (class-kept h k st p w) (λ _. tt) (gives (λ (_, class). (tt, class)))
+  item-kept {h = h} {k = k} st p w as-declaration =
+      step (flags-of-kept big (boundNames k) 1 st) (λ _. omega arith)
+      (gives (λ _. (tt, ((omega arith, omega arith, either (UpTo B) (isUsing h) (p .1) (omega arith), omega arith), w, tt))))
+  item-kept st p w (as-exported-declaration {k = k} anything) =
+      step (flags-of-kept big (boundNames k) 1 st) (λ _. omega arith)
+      (got
+      (gives (λ (_, m). (
+        (omega arith, specifiers-within _ (boundNames k) m (bound-names-most k (w .1)), tt),
+        (omega arith, w .1, tt),
+      ))))
+  item-kept st p w (as-exported-class {z = z} {k = k} anything) =
+      let q = w .0 in
+      got
+      (step (class-kept _ k st q (w .1)) (λ _. tt)
+      (gives (λ ((_, m), class). let y = symbol-at big st z m in ((omega arith, (omega arith, tt, tt), tt), class))))
+  item-kept st p w (as-default-class {k = k} named anything) =
+      let q = w .0 in
+      step (class-kept _ k st q (w .1)) (λ _. tt) (gives (λ (_, class). ((omega arith, (omega arith, tt, tt), tt), class)))
+  item-kept st p w (as-default-value {h = h} e d anything) =
       step (symbol-kept big 4 1 1 0 st) (λ _. omega arith)
       (gives (λ (_, y). (
         (omega arith, (omega arith, tt, tt), tt),
-        (omega arith, (omega arith, (omega arith, tt, (expression-within h p, w, tt)), tt), tt),
+        (omega arith, (omega arith, (omega arith, tt, (expression-within h (w .0), w .1, tt)), tt), tt),
       )))
 
-  default-kept : (h : Head) (k : Forest) (st : Store) → HeadWithin B h → TreeWithin B k
-      → Keeps B (Unit {0}) SplitWithin st (defaultItem h k st)
-  unfolding defaultItem
-  default-kept h none st p w = gives (λ _. ((p, tt, tt), tt))
-  default-kept h (more h₁ k₁ r₁) st p w =
-      branch (keepsDefault h₁) _ _ st (gives (λ _. ((p, w, tt), tt)))
-      (branch (eqb (h₁ .tag) 15 && eqb (h₁ .a) 0 && not (eqb (h₁ .c) 0)) _ _ st (default-class-kept h₁ k₁ st (w .0) (w .1))
-      (default-value-kept h₁ k₁ st (w .0) (w .1)))
-
-  item-kept : (h : Head) (k : Forest) (st : Store) → HeadWithin B h → TreeWithin B k
-      → Keeps B (Unit {0}) SplitWithin st (programItem h k st)
-  unfolding programItem
-  item-kept h k st p w =
-      branch (oneOf (13 ∷ 17 ∷ []) (h .tag)) _ _ st (gives (λ _. ((p, w, tt), tt)))
-      (branch (eqb (h .tag) 18) _ _ st (default-kept h k st p w)
-      (branch (eqb (h .tag) 19) _ _ st (export-kept h k st p w)
-      (branch (eqb (h .tag) 15) _ _ st (step (class-kept h k st p w) (λ _. tt) (gives (λ (_, class). (tt, class))))
-      (branch (eqb (h .tag) 5) _ _ st (declaration-kept h k st p w) (gives (λ _. (tt, (p, w, tt))))))))
-
   items-kept : (f : Forest) (st : Store) → TreeWithin B f → Keeps B (Unit {0}) SplitWithin st (programItems f st)
-  unfolding programItems
+  unfolding programItems programItem
   items-kept none st w = gives (λ _. (tt, tt))
   items-kept (more h k r) st w =
-      step (item-kept h k st (w .0) (w .1)) (λ _. tt)
+      step (item-kept st (w .0) (w .1) (chosen-item h k)) (λ _. tt)
       (step (items-kept r _ (w .2)) (λ _. tt)
       (gives (λ ((_, item), rest). (within-& big _ _ (item .0) (rest .0), within-& big _ _ (item .1) (rest .1)))))
 

@@ -1,7 +1,7 @@
 -- The rewrites of ForOf and of Program weigh no more than what they rewrite.
 -- Assumes nothing.
 use mathlib.Core.Path.{_≡_, refl}
-use mathlib.Core.Bool.{Bool, true, false, not, _&&_}
+use mathlib.Core.Bool.{Bool, true, false, _&&_}
 use mathlib.Core.List.{List, [], _∷_, _++_}
 use Prim.Native.Nat.{ℕ, _+_, _*_, _≤_}
 use native.Mathlib.Omega.{arith}
@@ -9,7 +9,7 @@ use lib.Dec.{eqb}
 use borrow.Author.Tests.{eqb-true}
 use Rattle.meaning.specs.Tree.{if_then_else_, Head, hd, Forest, none, more, one, _&_}
 use Rattle.meaning.specs.Shapes.{declaration, read}
-use Rattle.meaning.specs.Scoping.{Store, Change, return, symbolIn, generateUid, setFlagsOf, insertScopeBelow}
+use Rattle.meaning.specs.Scoping.{Store, Change, symbolIn, generateUid, setFlagsOf, insertScopeBelow}
 use Rattle.meaning.specs.Statements.{isUsing, anyUsing}
 use Rattle.meaning.specs.Contexts.{namesIn}
 use Rattle.meaning.specs.ForOf.{bindsIdentifier, boundSymbol, rebind, insertUsing, wrapBody, enterForOfStatement}
@@ -17,24 +17,24 @@ use Rattle.meaning.specs.Program.{
   preserveClassExpressionName,
   transformClassDecl,
   Split,
-  split,
   boundNames,
   specifiers,
+  topLevelClass,
   topLevelDeclaration,
   exportedDeclaration,
   exportedClass,
-  exportedItem,
   defaultClass,
   asExpression,
   defaultValue,
-  keepsDefault,
-  defaultItem,
+  ItemAct,
+  itemAs,
   programItem,
   programItems,
   enterProgram,
 }
-use Rattle.spec_laws.specs.Tags.{Seen, other, here, there, seen, clash, and-left}
+use Rattle.spec_laws.specs.Tags.{clash, and-left}
 use Rattle.charge_laws.specs.Growth.Rows.{Grown, both, scope-below, symbol-made, symbol-flags, binding-moved, flags-of}
+use Rattle.charge_laws.specs.Growth.Items.{Anything, anything, ChosenItem, as-kept, as-moved, as-class, as-declaration, as-exported-declaration, as-exported-class, as-default-class, as-default-value, staying-tag, chosen-item}
 use Rattle.charge_laws.specs.Growth.Trees.{using-tag}
 use Rattle.bound_laws.specs.Rows.{given, Kind, perRecord, perScope, perSymbol, rows, rows-most}
 use Rattle.bound_laws.specs.Weights.{
@@ -223,29 +223,6 @@ exported-weighs : (K : Kind) (t : ℕ) (u : Bool) (k : Forest) → eqb t 15 ≡ 
 unfolding own extra below
 exported-weighs K t u k e = rw (eqb-true t 15 e) (omega arith)
 
-export-if : (K : Kind) (b c : Bool) (h h₁ : Head) (k r : Forest) (st : Store) → h .tag ≡ 19 → eqb (h₁ .tag) 15 ≡ b → eqb (h₁ .tag) 5 ≡ c
-    → SplitWithin K false (weight K item h (more h₁ k r)) st
-    ((if b then exportedClass h₁ k else if c then exportedDeclaration k else return (split (one h (more h₁ k r)) none)) st)
-unfolding exportedClass exportedDeclaration weigh next own extra below inDeclaration isUsing
-export-if K true c h h₁ k r st e e₁₅ e₅ =
-    rw e
-    (omega (
-      arith,
-      exported-weighs K (h₁ .tag) (isUsing h₁) k e₁₅,
-      class-weighs K h₁ k st,
-      rows-most K (class-added h₁ k st),
-    ))
-export-if K false true h h₁ k r st e e₁₅ e₅ =
-    let s = setFlagsOf (boundNames k) 1 st in
-    rw (e, eqb-true (h₁ .tag) 5 e₅) (omega (arith, declaration-specified K (s .1) k, rows-most K (flags-of (boundNames k) 1 st)))
-export-if K false false h h₁ k r st e e₁₅ e₅ = omega arith
-
-export-within : (K : Kind) (h : Head) (k : Forest) (st : Store) → h .tag ≡ 19
-    → SplitWithin K false (weight K item h k) st (exportedItem h k st)
-unfolding exportedItem weigh next
-export-within K h none st e = omega arith
-export-within K h (more h₁ k₁ r₁) st e = export-if K (eqb (h₁ .tag) 15) (eqb (h₁ .tag) 5) h h₁ k₁ r₁ st e refl refl
-
 -- ---- 18
 
 expression-lighter : (K : Kind) (b : Bool) (h : Head) (k : Forest)
@@ -254,59 +231,36 @@ unfolding weigh next own extra below isUsing
 expression-lighter K true h k = omega (arith, lighter K k {r = below plain (h .tag) (isUsing h)} least)
 expression-lighter K false h k = omega arith
 
-default-if : (K : Kind) (b c : Bool) (h h₁ : Head) (k r : Forest) (st : Store) → h .tag ≡ 18
-    → SplitWithin K false (weight K item h (more h₁ k r)) st
-    ((if b then return (split (one h (more h₁ k r)) none) else if c then defaultClass h₁ k else defaultValue h₁ k) st)
-unfolding defaultClass defaultValue asExpression weigh next own extra below inDeclaration inDeclarator isUsing
-default-if K true c h h₁ k r st e = omega arith
-default-if K false true h h₁ k r st e =
-    rw e
-    (omega (
-      arith,
-      class-weighs K h₁ k st,
-      rows-most K (class-added h₁ k st),
-      lighter K k {r = below plain (h₁ .tag) (isUsing h₁)} least,
-    ))
-default-if K false false h h₁ k r st e =
-    rw e (omega (arith, expression-lighter K (eqb (h₁ .tag) 15) h₁ k, rows-most K (symbol-made 4 1 1 0 st)))
-
-default-within : (K : Kind) (h : Head) (k : Forest) (st : Store) → h .tag ≡ 18
-    → SplitWithin K false (weight K item h k) st (defaultItem h k st)
-unfolding defaultItem weigh next
-default-within K h none st e = omega arith
-default-within K h (more h₁ k₁ r₁) st e =
-    default-if K (keepsDefault h₁) (eqb (h₁ .tag) 15 && eqb (h₁ .a) 0 && not (eqb (h₁ .c) 0)) h h₁ k₁ r₁ st e
-
 -- ---- all items
 
-moved-within : (K : Kind) (h : Head) (k : Forest) (st : Store) (m : Change Split) → m ≡ return (split none (one h k))
-    → SplitWithin K (isUsing h) (weight K item h k) st (m st)
-unfolding weigh next own extra below inDeclaration inDeclarator
-moved-within K h k st m e = rw e (omega arith)
-
-item-within : (K : Kind) {t : ℕ} (a b c : ℕ) (k : Forest) (st : Store) → Seen (13 ∷ 17 ∷ 18 ∷ 19 ∷ 15 ∷ 5 ∷ []) t
-    → SplitWithin K (isUsing (hd t a b c)) (weight K item (hd t a b c) k) st (programItem (hd t a b c) k st)
-unfolding programItem weigh next own extra below inDeclaration inDeclarator isUsing
-item-within K a b c k st here = omega arith
-item-within K a b c k st (there e₁₃ here) = omega arith
-item-within K a b c k st (there e₁₃ (there e₁₇ here)) = default-within K (hd 18 a b c) k st refl
-item-within K a b c k st (there e₁₃ (there e₁₇ (there e₁₈ here))) = export-within K (hd 19 a b c) k st refl
-item-within K a b c k st (there e₁₃ (there e₁₇ (there e₁₈ (there e₁₉ here)))) =
-    omega (arith, class-weighs K (hd 15 a b c) k st, rows-most K (class-added (hd 15 a b c) k st))
-item-within K a b c k st (there e₁₃ (there e₁₇ (there e₁₈ (there e₁₉ (there e₁₅ here))))) =
-    declaration-within K (isUsing (hd 5 a b c)) (hd 5 a b c) k st refl
-item-within K {t} a b c k st (there e₁₃ (there e₁₇ (there e₁₈ (there e₁₉ (there e₁₅ (there e₅ other)))))) =
-    moved-within K (hd t a b c) k st (programItem (hd t a b c) k) (rw (e₁₃, e₁₇, e₁₈, e₁₉, e₁₅, e₅))
+item-within : (K : Kind) {x : ItemAct} {h : Head} {k : Forest} (st : Store) → ChosenItem Anything x h k
+    → SplitWithin K (isUsing h) (weight K item h k) st (itemAs x h k st)
+unfolding itemAs topLevelClass exportedDeclaration exportedClass defaultClass defaultValue asExpression weigh next own extra below inDeclaration inDeclarator isUsing
+item-within K st (as-kept s) = rw (staying-tag s .1) (omega arith)
+item-within K st (as-moved e₁₃ e₁₇ e₁₈ e₁₉ e₁₅ e₅) = omega arith
+item-within K {h = h} {k = k} st as-class = omega (arith, class-weighs K h k st, rows-most K (class-added h k st))
+item-within K {h = h} {k = k} st as-declaration = declaration-within K (isUsing h) h k st refl
+item-within K st (as-exported-declaration {k = k} anything) =
+    let s = setFlagsOf (boundNames k) 1 st in
+    omega (arith, declaration-specified K (s .1) k, rows-most K (flags-of (boundNames k) 1 st))
+item-within K st (as-exported-class {x = x} {y = y} {z = z} {k = k} anything) =
+    let h = hd 15 x y z in
+    omega (arith, exported-weighs K 15 (isUsing h) k refl, class-weighs K h k st, rows-most K (class-added h k st))
+item-within K st (as-default-class {y = y} {z = z} {k = k} named anything) =
+    let h = hd 15 0 y z in
+    omega (arith, class-weighs K h k st, rows-most K (class-added h k st), lighter K k {r = below plain 15 false} least)
+item-within K st (as-default-value {h = h} {k = k} e d anything) =
+    omega (arith, expression-lighter K (eqb (h .tag) 15) h k, rows-most K (symbol-made 4 1 1 0 st))
 
 items-within : (K : Kind) (f : Forest) (st : Store) → SplitWithin K (anyUsing f) (weigh K item f) st (programItems f st)
-unfolding programItems anyUsing weigh next
+unfolding programItems programItem anyUsing weigh next
 items-within K none st = omega arith
 items-within K (more h k r) st =
     let i = programItem h k st in
     let j = programItems r (i .1) in
     omega (
       arith,
-      item-within K (h .a) (h .b) (h .c) k st (seen (13 ∷ 17 ∷ 18 ∷ 19 ∷ 15 ∷ 5 ∷ []) (h .tag)),
+      item-within K st (chosen-item h k),
       items-within K r (i .1),
       item-& K (i .0 .kept) (j .0 .kept),
       plain-& K (i .0 .moved) (j .0 .moved),

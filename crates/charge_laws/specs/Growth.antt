@@ -7,6 +7,7 @@ pub mod Made
 pub mod Contexts
 pub mod Parts
 pub mod ForOf
+pub mod Items
 pub mod Program
 pub mod Chosen
 pub mod Enter

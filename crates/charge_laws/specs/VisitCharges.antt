@@ -116,7 +116,7 @@ module _ (asRead : List Symbol) where
         behind = v .behind ++ free 6;
       }
 
-  -- what a Program's item leaves among the items that asIs: itself, or an export with a Specifier for each name
+  -- what a Program's item leaves among the items that stay: itself, or an export with a Specifier for each name
   unfoldable pub visitsExport : Head → Forest → Forest → Visits
   visitsExport h k none = visitsStanding h k
   visitsExport h k (more h₁ k₁ r₁) =

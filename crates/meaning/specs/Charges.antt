@@ -12,7 +12,7 @@ use Rattle.meaning.specs.Tree.{if_then_else_, oneOf, Head, Forest, none,
 use Rattle.meaning.specs.File.{Symbol, File, numbersOf, fieldBytes, settingsBytes, scopeBytes, symbolBytes}
 use Rattle.meaning.specs.Statements.{isUsing, anyUsing}
 use Rattle.meaning.specs.Contexts.{anyCaseUsing}
-use Rattle.meaning.specs.Program.{boundNames, keepsDefault}
+use Rattle.meaning.specs.Program.{boundNames, ItemAct, stay, move, lowerClass, lowerDeclaration, exportDeclaration, exportClass, exportDefaultClass, exportDefaultValue, itemAct}
 use Rattle.meaning.specs.ForOf.{ForOfAct, asIs, insert, wrap, forOfAct}
 use Rattle.meaning.specs.Walk.{Spot, fileAt, storeAt}
 
@@ -163,27 +163,20 @@ contextLines kind list = if anyUsing list then context kind ∷ wrapped (wraps l
 
 -- ---- Program's items
 
--- below 19, and below 18; each has one child
-unfoldable pub exportLines : Forest → List Line
-exportLines none = []
-exportLines (more h k r) =
-    (if eqb (h .tag) Tag.Class then exportedClass ∷ []
-    else if eqb (h .tag) Tag.Declaration then exportedNames (length (boundNames k)) ∷ []
-    else [])
-    ++ exportLines r
-
-unfoldable pub defaultLines : Forest → List Line
-defaultLines none = []
-defaultLines (more h k r) = (if keepsDefault h then [] else defaultExport ∷ []) ++ defaultLines r
+-- by what becomes of each
+unfoldable pub actLines : ItemAct → List Line
+actLines stay = []
+actLines move = []
+actLines lowerClass = topLevelClass ∷ []
+actLines lowerDeclaration = []
+actLines (exportDeclaration k) = exportedNames (length (boundNames k)) ∷ []
+actLines (exportClass h k) = exportedClass ∷ []
+actLines (exportDefaultClass h k) = defaultExport ∷ []
+actLines (exportDefaultValue h k) = defaultExport ∷ []
 
 unfoldable pub itemLines : Forest → List Line
 itemLines none = []
-itemLines (more h k r) =
-    (if eqb (h .tag) Tag.Class then topLevelClass ∷ []
-    else if eqb (h .tag) Tag.DefaultExport then defaultLines k
-    else if eqb (h .tag) Tag.ExportedDeclaration then exportLines k
-    else [])
-    ++ itemLines r
+itemLines (more h k r) = actLines (itemAct h k) ++ itemLines r
 
 -- ---- each record's own lines
 

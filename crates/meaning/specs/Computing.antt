@@ -9,13 +9,13 @@ use Rattle.meaning.specs.HelperLoader.{makeHelper, loadRuntime, loadExte
 use Rattle.meaning.specs.Statements.{isUsing, isAwaitUsing, anyUsing, anyAwaitUsing, wrapInitializer, wrapInitializers, asTakenUp, takeUp, makeContext, transformStatements, createCatchClause, createFinallyBlock, createTryStmt}
 use Rattle.meaning.specs.Contexts.{transformBlockStatement, enterFunctionBody, exitStaticBlock, transformTryBlock, namesIn, lastBlockScope, anyPartUsing, moveCatchNames, transformTryParts, enterTryStatement, forList, takeUpFor, transformForStatement, anyCaseUsing, anyCaseAwaitUsing, takeUpCases, transformSwitchStatement}
 use Rattle.meaning.specs.ForOf.{bindsIdentifier, boundSymbol, rebind, bindsName, forOfAct, insertUsing, wrapBody, enterForOfStatement}
-use Rattle.meaning.specs.Program.{preserveClassExpressionName, transformClassDecl, boundNames, specifiers, topLevelDeclaration, exportedDeclaration, exportedClass, exportedItem, defaultClass, asExpression, defaultValue, keepsDefault, defaultItem, programItem, programItems, enterProgram}
+use Rattle.meaning.specs.Program.{preserveClassExpressionName, transformClassDecl, boundNames, specifiers, topLevelClass, topLevelDeclaration, exportedDeclaration, exportedClass, defaultClass, asExpression, defaultValue, exportAct, keepsDefault, defaultAct, itemAct, itemAs, programItem, programItems, enterProgram}
 use Rattle.meaning.specs.Walk.{actOf, enterAs, enter, leave, isOver, currentScope, hoistScope, settle, visit, visits, storeOf, start, plug, treeAt, storeAt, fileAt}
-use Rattle.meaning.specs.Charges.{contextCharge, lineCharge, total, initializers, wraps, caseWraps, contextLines, exportLines, defaultLines, itemLines, bodyLines, forOfLines, ownLines, treeLines, recordBytes, figuresIn, figuresAt, helperLines, finalFigures}
+use Rattle.meaning.specs.Charges.{contextCharge, lineCharge, total, initializers, wraps, caseWraps, contextLines, actLines, itemLines, bodyLines, forOfLines, ownLines, treeLines, recordBytes, figuresIn, figuresAt, helperLines, finalFigures}
 use Rattle.meaning.specs.Due.{partLines, enterLines, rewriteLines, isContext, anyContext, due, dues}
 use Rattle.meaning.specs.Lowering.{checkMode, checkRows, checkOutput, checkFile, admit, admitOutput, lastSpot, lower}
 use Rattle.meaning.specs.Notation.{fieldFrom, fieldsFrom, bytes}
 
 unfoldable pub computing : Unit {0}
-unfolding _&_ count size flatten numbersOf hasChildren ownNumbers fieldBytes twoBytes field recordNumbers scopeFields symbolFields recordFields written tagsOf formsOf index allowed formFits two number fieldOf fieldAt scopeRight symbolRight declarationRight declaratorRight tryRight functionRight classRight right childrenOf placeOf headOf scopeOf parentIn mayName naming unnamed readList readForest scopeAt symbolAt readRows readScopes readSymbols scopesIn symbolsIn readFile createChildScope changeScopeParent setScopeFlags insertScopeBetween moveScopes insertScopeBelow createSymbol moveBinding setSymbolFlags moveBindings setFlagsOf binds lastBinding findBinding isBlockScopedOrClass isAmongBindings blockScopedIn makeHelper loadRuntime loadExternal helperLoad isUsing isAwaitUsing anyUsing anyAwaitUsing wrapInitializer wrapInitializers asTakenUp takeUp makeContext transformStatements createCatchClause createFinallyBlock createTryStmt transformBlockStatement enterFunctionBody exitStaticBlock transformTryBlock namesIn lastBlockScope anyPartUsing moveCatchNames transformTryParts enterTryStatement forList takeUpFor transformForStatement anyCaseUsing anyCaseAwaitUsing takeUpCases transformSwitchStatement bindsIdentifier boundSymbol rebind bindsName insertUsing wrapBody enterForOfStatement preserveClassExpressionName transformClassDecl boundNames specifiers topLevelDeclaration exportedDeclaration exportedClass exportedItem defaultClass asExpression defaultValue keepsDefault defaultItem programItem programItems enterProgram forOfAct actOf enterAs enter leave isOver currentScope hoistScope settle visit visits storeOf start plug treeAt storeAt fileAt contextCharge lineCharge total initializers wraps caseWraps contextLines exportLines defaultLines itemLines bodyLines forOfLines ownLines treeLines recordBytes figuresIn figuresAt helperLines finalFigures partLines enterLines rewriteLines isContext anyContext due dues checkMode checkRows checkOutput checkFile admit admitOutput lastSpot lower fieldFrom fieldsFrom bytes
+unfolding _&_ count size flatten numbersOf hasChildren ownNumbers fieldBytes twoBytes field recordNumbers scopeFields symbolFields recordFields written tagsOf formsOf index allowed formFits two number fieldOf fieldAt scopeRight symbolRight declarationRight declaratorRight tryRight functionRight classRight right childrenOf placeOf headOf scopeOf parentIn mayName naming unnamed readList readForest scopeAt symbolAt readRows readScopes readSymbols scopesIn symbolsIn readFile createChildScope changeScopeParent setScopeFlags insertScopeBetween moveScopes insertScopeBelow createSymbol moveBinding setSymbolFlags moveBindings setFlagsOf binds lastBinding findBinding isBlockScopedOrClass isAmongBindings blockScopedIn makeHelper loadRuntime loadExternal helperLoad isUsing isAwaitUsing anyUsing anyAwaitUsing wrapInitializer wrapInitializers asTakenUp takeUp makeContext transformStatements createCatchClause createFinallyBlock createTryStmt transformBlockStatement enterFunctionBody exitStaticBlock transformTryBlock namesIn lastBlockScope anyPartUsing moveCatchNames transformTryParts enterTryStatement forList takeUpFor transformForStatement anyCaseUsing anyCaseAwaitUsing takeUpCases transformSwitchStatement bindsIdentifier boundSymbol rebind bindsName insertUsing wrapBody enterForOfStatement preserveClassExpressionName transformClassDecl boundNames specifiers topLevelClass topLevelDeclaration exportedDeclaration exportedClass defaultClass asExpression defaultValue exportAct keepsDefault defaultAct itemAct itemAs programItem programItems enterProgram forOfAct actOf enterAs enter leave isOver currentScope hoistScope settle visit visits storeOf start plug treeAt storeAt fileAt contextCharge lineCharge total initializers wraps caseWraps contextLines actLines itemLines bodyLines forOfLines ownLines treeLines recordBytes figuresIn figuresAt helperLines finalFigures partLines enterLines rewriteLines isContext anyContext due dues checkMode checkRows checkOutput checkFile admit admitOutput lastSpot lower fieldFrom fieldsFrom bytes
 computing = tt

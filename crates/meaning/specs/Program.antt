@@ -64,6 +64,12 @@ unfoldable pub specifiers : Store → List ℕ → Forest
 specifiers st [] = none
 specifiers st (y ∷ ys) = specifier y (symbolIn st y .name) (specifiers st ys)
 
+-- a direct Class
+unfoldable pub topLevelClass : Head → Forest → Change Split
+topLevelClass h items = do
+  class ← transformClassDecl h items
+  return (split none class)
+
 -- a direct Declaration becomes var; a using is recorded
 unfoldable pub topLevelDeclaration : Head → Forest → Change Split
 topLevelDeclaration h k = do
@@ -84,14 +90,6 @@ exportedClass h items = do
   class ← transformClassDecl h items
   return (split (exportNamed (specifier (h .c) (symbolIn st (h .c) .name) none)) class)
 
--- 19: a Function stays
-unfoldable pub exportedItem : Head → Forest → Change Split
-exportedItem h none = return (split (one h none) none)
-exportedItem h (more h₁ k₁ r₁) =
-    if eqb (h₁ .tag) Tag.Class then exportedClass h₁ k₁
-    else if eqb (h₁ .tag) Tag.Declaration then exportedDeclaration k₁
-    else return (split (one h (more h₁ k₁ r₁)) none)
-
 -- `export default class C {}` keeps its name
 unfoldable pub defaultClass : Head → Forest → Change Split
 defaultClass h items = do
@@ -107,28 +105,57 @@ defaultValue h k = do
   y ← generateBinding KnownName.DefaultValue 1 SymbolFlag.FunctionScoped
   return (split (exportNamed (specifier y KnownName.Default none)) (declaration Kind.Var y (one (asExpression h) k)))
 
+-- ---- what becomes of an item
+
+-- It stays or moves as it is, or it is lowered. What is exported comes with its children.
+pub data ItemAct : Type 0 where
+  stay move lowerClass lowerDeclaration : ItemAct
+  exportDeclaration : Forest → ItemAct
+  exportClass exportDefaultClass exportDefaultValue : Head → Forest → ItemAct
+
+-- 19: a Function stays
+unfoldable pub exportAct : Forest → ItemAct
+exportAct none = stay
+exportAct (more h k r) =
+    if eqb (h .tag) Tag.Class then exportClass h k
+    else if eqb (h .tag) Tag.Declaration then exportDeclaration k
+    else stay
+
 -- 18: a form 0 Function stays
 unfoldable pub keepsDefault : Head → Bool
 keepsDefault h = eqb (h .tag) Tag.Function && eqb (h .a) Form.Declaration
 
-unfoldable pub defaultItem : Head → Forest → Change Split
-defaultItem h none = return (split (one h none) none)
-defaultItem h (more h₁ k₁ r₁) =
-    if keepsDefault h₁ then return (split (one h (more h₁ k₁ r₁)) none)
-    else if eqb (h₁ .tag) Tag.Class && eqb (h₁ .a) Form.Declaration && not (eqb (h₁ .c) 0) then defaultClass h₁ k₁
-    else defaultValue h₁ k₁
+-- a form 0 Class with a symbol keeps its name
+unfoldable pub defaultAct : Forest → ItemAct
+defaultAct none = stay
+defaultAct (more h k r) =
+    if keepsDefault h then stay
+    else if eqb (h .tag) Tag.Class && eqb (h .a) Form.Declaration && not (eqb (h .c) 0) then exportDefaultClass h k
+    else exportDefaultValue h k
 
 -- functions, imports and exports stay; all else moves
+unfoldable pub itemAct : Head → Forest → ItemAct
+itemAct h k =
+    let t = h .tag in
+    if oneOf (Tag.Function ∷ Tag.ModuleLine ∷ []) t then stay
+    else if eqb t Tag.DefaultExport then defaultAct k
+    else if eqb t Tag.ExportedDeclaration then exportAct k
+    else if eqb t Tag.Class then lowerClass
+    else if eqb t Tag.Declaration then lowerDeclaration
+    else move
+
+unfoldable pub itemAs : ItemAct → Head → Forest → Change Split
+itemAs stay h k = return (split (one h k) none)
+itemAs move h k = return (split none (one h k))
+itemAs lowerClass h k = topLevelClass h k
+itemAs lowerDeclaration h k = topLevelDeclaration h k
+itemAs (exportDeclaration k₁) h k = exportedDeclaration k₁
+itemAs (exportClass h₁ k₁) h k = exportedClass h₁ k₁
+itemAs (exportDefaultClass h₁ k₁) h k = defaultClass h₁ k₁
+itemAs (exportDefaultValue h₁ k₁) h k = defaultValue h₁ k₁
+
 unfoldable pub programItem : Head → Forest → Change Split
-programItem h k =
-    if oneOf (Tag.Function ∷ Tag.ModuleLine ∷ []) (h .tag) then return (split (one h k) none)
-    else if eqb (h .tag) Tag.DefaultExport then defaultItem h k
-    else if eqb (h .tag) Tag.ExportedDeclaration then exportedItem h k
-    else if eqb (h .tag) Tag.Class then (do
-      class ← transformClassDecl h k
-      return (split none class))
-    else if eqb (h .tag) Tag.Declaration then topLevelDeclaration h k
-    else return (split none (one h k))
+programItem h k = itemAs (itemAct h k) h k
 
 unfoldable pub programItems : Forest → Change Split
 programItems none = return (split none none)

@@ -1,43 +1,39 @@
 -- A Program that is lowered: records without n get no children.
 -- Assumes nothing.
 use mathlib.Core.Path.{_≡_, refl}
-use mathlib.Core.Bool.{Bool, true, false, not, _&&_}
+use mathlib.Core.Bool.{Bool, true, false}
 use mathlib.Core.List.{List, [], _∷_}
 use Prim.Native.Nat.{ℕ}
 use lib.Dec.{eqb}
-use Rattle.meaning.specs.Tree.{if_then_else_, oneOf, Head, hd, Forest, none, more, one, single}
+use Rattle.meaning.specs.Tree.{if_then_else_, Head, hd, Forest, none, more, one, single}
 use Rattle.meaning.specs.File.{hasChildren}
-use Rattle.meaning.specs.Scoping.{Store, Change, return}
+use Rattle.meaning.specs.Scoping.{Store}
 use Rattle.meaning.specs.Program.{
   transformClassDecl,
   Split,
-  split,
   boundNames,
   specifiers,
+  topLevelClass,
   topLevelDeclaration,
   exportedDeclaration,
   exportedClass,
-  exportedItem,
   defaultClass,
   asExpression,
   defaultValue,
-  keepsDefault,
-  defaultItem,
+  ItemAct,
+  itemAs,
   programItem,
   programItems,
   enterProgram,
 }
 use Rattle.spec_laws.specs.Tags.{clash}
+use Rattle.charge_laws.specs.Growth.Items.{Anything, anything, ChosenItem, as-kept, as-moved, as-class, as-declaration, as-exported-declaration, as-exported-class, as-default-class, as-default-value, chosen-item}
 use Rattle.readback_laws.specs.Back.{Childless}
 use Rattle.readback_laws.specs.Taken.{Bare, never, childless-&}
 
 -- what stays and what moves
 abbrev Both : Split × Store → Type 0
 Both e = Childless (e .0 .kept) × Childless (e .0 .moved)
-
-either : (b : Bool) (x y : Change Split) (st : Store) → Both (x st) → Both (y st) → Both ((if b then x else y) st)
-either true x y st p q = p
-either false x y st p q = q
 
 class-childless : (h : Head) (k : Forest) (st : Store) → Childless k → Childless ((transformClassDecl h k st) .0)
 unfolding transformClassDecl hasChildren
@@ -53,50 +49,28 @@ unfolding hasChildren
 expression-bare true h k o = never
 expression-bare false h k o = o
 
-value-childless : (h : Head) (k : Forest) (st : Store) → Bare h k → Childless k → Both (defaultValue h k st)
-unfolding defaultValue asExpression hasChildren
-value-childless h k st o p = (
+item-childless : {x : ItemAct} {h : Head} {k : Forest} (st : Store) → Bare h k → Childless k → ChosenItem Anything x h k
+    → Both (itemAs x h k st)
+unfolding itemAs topLevelClass topLevelDeclaration exportedDeclaration exportedClass defaultClass defaultValue asExpression hasChildren
+item-childless st o p (as-kept s) = ((o, p, tt), tt)
+item-childless st o p (as-moved e₁₃ e₁₇ e₁₈ e₁₉ e₁₅ e₅) = (tt, (o, p, tt))
+item-childless {h = h} {k = k} st o p as-class = (tt, class-childless h k st p)
+item-childless st o p as-declaration = (tt, (never, p, tt))
+item-childless st o p (as-exported-declaration {k = k} anything) = ((never, specifiers-childless _ (boundNames k), tt), (never, p .1, tt))
+item-childless st o p (as-exported-class {k = k} anything) = ((never, ((λ _. refl), tt, tt), tt), class-childless _ k st (p .1))
+item-childless st o p (as-default-class {k = k} named anything) = ((never, ((λ _. refl), tt, tt), tt), class-childless _ k st (p .1))
+item-childless st o p (as-default-value {h = h} {k = k} e d anything) = (
   (never, ((λ _. refl), tt, tt), tt),
-  (never, (never, ((λ _. refl), tt, (expression-bare (eqb (h .tag) 15) h k o, p, tt)), tt), tt),
+  (never, (never, ((λ _. refl), tt, (expression-bare (eqb (h .tag) 15) h k (p .0), p .1, tt)), tt), tt),
 )
 
-default-childless : (h : Head) (k : Forest) (st : Store) → Bare h k → Childless k → Both (defaultItem h k st)
-unfolding defaultItem defaultClass hasChildren
-default-childless h none st o p = ((o, p, tt), tt)
-default-childless h (more h₁ k₁ r₁) st o p =
-    either (keepsDefault h₁) (return (split (one h (more h₁ k₁ r₁)) none)) _ st ((o, p, tt), tt)
-    (either (eqb (h₁ .tag) 15 && eqb (h₁ .a) 0 && not (eqb (h₁ .c) 0)) (defaultClass h₁ k₁) (defaultValue h₁ k₁) st
-    ((never, ((λ _. refl), tt, tt), tt), class-childless h₁ k₁ st (p .1))
-    (value-childless h₁ k₁ st (p .0) (p .1)))
-
-exported-childless : (h : Head) (k : Forest) (st : Store) → Bare h k → Childless k → Both (exportedItem h k st)
-unfolding exportedItem exportedClass exportedDeclaration hasChildren
-exported-childless h none st o p = ((o, p, tt), tt)
-exported-childless h (more h₁ k₁ r₁) st o p =
-    either (eqb (h₁ .tag) 15) (exportedClass h₁ k₁) _ st
-    ((never, ((λ _. refl), tt, tt), tt), class-childless h₁ k₁ st (p .1))
-    (either (eqb (h₁ .tag) 5) (exportedDeclaration k₁) (return (split (one h (more h₁ k₁ r₁)) none)) st
-    ((never, specifiers-childless _ (boundNames k₁), tt), (never, p .1, tt))
-    ((o, p, tt), tt))
-
-item-childless : (h : Head) (k : Forest) (st : Store) → Bare h k → Childless k → Both (programItem h k st)
-unfolding programItem topLevelDeclaration hasChildren
-item-childless h k st o p =
-    either (oneOf (13 ∷ 17 ∷ []) (h .tag)) (return (split (one h k) none)) _ st ((o, p, tt), tt)
-    (either (eqb (h .tag) 18) (defaultItem h k) _ st (default-childless h k st o p)
-    (either (eqb (h .tag) 19) (exportedItem h k) _ st (exported-childless h k st o p)
-    (either (eqb (h .tag) 15) _ _ st (tt, class-childless h k st p)
-    (either (eqb (h .tag) 5) (topLevelDeclaration h k) (return (split none (one h k))) st
-    (tt, (never, p, tt))
-    (tt, (o, p, tt))))))
-
 items-childless : (f : Forest) (st : Store) → Childless f → Both (programItems f st)
-unfolding programItems
+unfolding programItems programItem
 items-childless none st p = (tt, tt)
 items-childless (more h k r) st p =
     let i = programItem h k st in
     let j = programItems r (i .1) in
-    let q = item-childless h k st (p .0) (p .1) in
+    let q = item-childless st (p .0) (p .1) (chosen-item h k) in
     let s = items-childless r (i .1) (p .2) in
     (childless-& (i .0 .kept) (j .0 .kept) (q .0) (s .0), childless-& (i .0 .moved) (j .0 .moved) (q .1) (s .1))
 

@@ -5,6 +5,7 @@ pub mod Names
 pub mod Held
 pub mod Classes
 pub mod Declarations
+pub mod Kinds
 pub mod Items
 pub mod Program
 pub mod Split

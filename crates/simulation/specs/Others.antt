@@ -19,7 +19,8 @@ use Rattle.meaning.specs.ForOf.{bindsIdentifier, boundSymbol, bindsName, ForOfA
 use Rattle.meaning.specs.Walk.{Crumb, at, keep, program, tryParts, actIf, ofForOf, enterAs, currentScope, hoistScope}
 use Rattle.spec_laws.specs.Tags.{and-left}
 use Rattle.charge_laws.specs.Growth.Rows.{scope-below}
-use Rattle.charge_laws.specs.Growth.Program.{Exports, program-pays}
+use Rattle.charge_laws.specs.Growth.Items.{Exports}
+use Rattle.charge_laws.specs.Growth.Program.{program-pays}
 use Rattle.charge_laws.specs.Growth.ForOf.{insert-pays, wrap-pays}
 use Rattle.charge_laws.specs.Counts.Enter.{Left}
 use Rattle.representation.specs.Gap.Cells.{length-rows}

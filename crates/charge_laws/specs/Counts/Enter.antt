@@ -26,7 +26,7 @@ use Rattle.meaning.specs.Due.{enterLines}
 use Rattle.charge_laws.specs.VisitCharges.{standing, visitsAs, visitsIn}
 use Rattle.charge_laws.specs.Totals.Roles.{Lacks}
 use Rattle.charge_laws.specs.Growth.ForOf.{Named}
-use Rattle.charge_laws.specs.Growth.Program.{Exports}
+use Rattle.charge_laws.specs.Growth.Items.{Exports}
 use Rattle.charge_laws.specs.Growth.Chosen.{Chosen, kept, as-program, as-block, as-body, as-try, as-for, as-switch, as-insert, as-wrap, chosen, at-tag, at-loop}
 use Rattle.charge_laws.specs.Growth.Enter.{NamedLeft, Proper}
 use Rattle.charge_laws.specs.Counts.Visits.{spread}

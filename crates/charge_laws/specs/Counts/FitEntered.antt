@@ -1,12 +1,12 @@
 -- The children of a record that is entered are fit, as it was.
 -- Assumes nothing.
 use mathlib.Core.Path.{_≡_, refl, sym, subst}
-use mathlib.Core.Bool.{Bool, true, false, not, _&&_}
+use mathlib.Core.Bool.{Bool, true, false, _&&_}
 use mathlib.Core.List.{List, [], _∷_}
 use Prim.Native.Nat.{ℕ}
 use lib.Dec.{eqb}
 use borrow.Author.Tests.{eqb-true}
-use Rattle.meaning.specs.Tree.{if_then_else_, oneOf, Head, hd, Forest, none, more, one, Node, node, single, _&_}
+use Rattle.meaning.specs.Tree.{if_then_else_, Head, hd, Forest, none, more, one, Node, node, single, _&_}
 use Rattle.meaning.specs.Scoping.{
   Store,
   Change,
@@ -41,18 +41,17 @@ use Rattle.meaning.specs.ForOf.{bindsIdentifier, boundSymbol, rebind, insertUsi
 use Rattle.meaning.specs.Program.{
   transformClassDecl,
   Split,
-  split,
   boundNames,
   specifiers,
+  topLevelClass,
   topLevelDeclaration,
   exportedDeclaration,
   exportedClass,
-  exportedItem,
   defaultClass,
   asExpression,
   defaultValue,
-  keepsDefault,
-  defaultItem,
+  ItemAct,
+  itemAs,
   programItem,
   programItems,
   enterProgram,
@@ -62,6 +61,7 @@ use Rattle.spec_laws.specs.Trees.{transformHandler}
 use Rattle.spec_laws.specs.Tags.{Seen, other, here, there, seen, clash, and-left}
 use Rattle.charge_laws.specs.Totals.Roles.{Lacks}
 use Rattle.charge_laws.specs.Growth.Chosen.{Chosen, kept, as-program, as-block, as-body, as-try, as-for, as-switch, as-insert, as-wrap, chosen}
+use Rattle.charge_laws.specs.Growth.Items.{Anything, anything, ChosenItem, as-kept, as-moved, as-class, as-declaration, as-exported-declaration, as-exported-class, as-default-class, as-default-value, chosen-item}
 use Rattle.charge_laws.specs.Counts.Enter.{Fit}
 use Rattle.charge_laws.specs.Counts.Fits.{Fits, easy, catch-fit, fits-&, list-fits, cases-fit, loop-fits, declared-fits, try-fits}
 
@@ -229,10 +229,6 @@ module _ (h h₁ : Head) (k₁ : Forest) (h₂ : Head) (k₂ : Forest) (h₃ : H
 abbrev FitSplit : Split × Store → Type 0
 FitSplit e = Fits (e .0 .kept) × Fits (e .0 .moved)
 
-either : (b : Bool) (x y : Change Split) (st : Store) → FitSplit (x st) → FitSplit (y st) → FitSplit ((if b then x else y) st)
-either true x y st p q = p
-either false x y st p q = q
-
 class-fits : (h : Head) (k : Forest) (st : Store) → Fits k → Fits ((transformClassDecl h k st) .0)
 unfolding transformClassDecl
 class-fits h k st p = (easy refl, (easy refl, (easy refl, tt, (easy refl, p, tt)), tt), tt)
@@ -246,50 +242,27 @@ expression-fits : (b : Bool) (h : Head) (k : Forest) → Fit h k → Fit (if b t
 expression-fits true h k o = easy refl
 expression-fits false h k o = o
 
-value-fits : (h : Head) (k : Forest) (st : Store) → Fit h k → Fits k → FitSplit (defaultValue h k st)
-unfolding defaultValue asExpression
-value-fits h k st o p = (
+item-fits : {x : ItemAct} {h : Head} {k : Forest} (st : Store) → Fit h k → Fits k → ChosenItem Anything x h k → FitSplit (itemAs x h k st)
+unfolding itemAs topLevelClass topLevelDeclaration exportedDeclaration exportedClass defaultClass defaultValue asExpression
+item-fits st o p (as-kept s) = ((o, p, tt), tt)
+item-fits st o p (as-moved e₁₃ e₁₇ e₁₈ e₁₉ e₁₅ e₅) = (tt, (o, p, tt))
+item-fits {h = h} {k = k} st o p as-class = (tt, class-fits h k st p)
+item-fits st o p as-declaration = (tt, (easy refl, p, tt))
+item-fits st o p (as-exported-declaration {k = k} anything) = ((easy refl, specifiers-fit _ (boundNames k), tt), (easy refl, p .1, tt))
+item-fits st o p (as-exported-class {k = k} anything) = ((easy refl, (easy refl, tt, tt), tt), class-fits _ k st (p .1))
+item-fits st o p (as-default-class {k = k} named anything) = ((easy refl, (easy refl, tt, tt), tt), class-fits _ k st (p .1))
+item-fits st o p (as-default-value {h = h} {k = k} e d anything) = (
   (easy refl, (easy refl, tt, tt), tt),
-  (easy refl, (easy refl, (easy refl, tt, (expression-fits (eqb (h .tag) 15) h k o, p, tt)), tt), tt),
+  (easy refl, (easy refl, (easy refl, tt, (expression-fits (eqb (h .tag) 15) h k (p .0), p .1, tt)), tt), tt),
 )
 
-default-fits : (h : Head) (k : Forest) (st : Store) → Fit h k → Fits k → FitSplit (defaultItem h k st)
-unfolding defaultItem defaultClass
-default-fits h none st o p = ((o, p, tt), tt)
-default-fits h (more h₁ k₁ r₁) st o p =
-    either (keepsDefault h₁) (return (split (one h (more h₁ k₁ r₁)) none)) _ st ((o, p, tt), tt)
-    (either (eqb (h₁ .tag) 15 && eqb (h₁ .a) 0 && not (eqb (h₁ .c) 0)) (defaultClass h₁ k₁) (defaultValue h₁ k₁) st
-    ((easy refl, (easy refl, tt, tt), tt), class-fits h₁ k₁ st (p .1))
-    (value-fits h₁ k₁ st (p .0) (p .1)))
-
-exported-fits : (h : Head) (k : Forest) (st : Store) → Fit h k → Fits k → FitSplit (exportedItem h k st)
-unfolding exportedItem exportedClass exportedDeclaration
-exported-fits h none st o p = ((o, p, tt), tt)
-exported-fits h (more h₁ k₁ r₁) st o p =
-    either (eqb (h₁ .tag) 15) (exportedClass h₁ k₁) _ st
-    ((easy refl, (easy refl, tt, tt), tt), class-fits h₁ k₁ st (p .1))
-    (either (eqb (h₁ .tag) 5) (exportedDeclaration k₁) (return (split (one h (more h₁ k₁ r₁)) none)) st
-    ((easy refl, specifiers-fit _ (boundNames k₁), tt), (easy refl, p .1, tt))
-    ((o, p, tt), tt))
-
-item-fits : (h : Head) (k : Forest) (st : Store) → Fit h k → Fits k → FitSplit (programItem h k st)
-unfolding programItem topLevelDeclaration
-item-fits h k st o p =
-    either (oneOf (13 ∷ 17 ∷ []) (h .tag)) (return (split (one h k) none)) _ st ((o, p, tt), tt)
-    (either (eqb (h .tag) 18) (defaultItem h k) _ st (default-fits h k st o p)
-    (either (eqb (h .tag) 19) (exportedItem h k) _ st (exported-fits h k st o p)
-    (either (eqb (h .tag) 15) _ _ st (tt, class-fits h k st p)
-    (either (eqb (h .tag) 5) (topLevelDeclaration h k) (return (split none (one h k))) st
-    (tt, (easy refl, p, tt))
-    (tt, (o, p, tt))))))
-
 items-fit : (f : Forest) (st : Store) → Fits f → FitSplit (programItems f st)
-unfolding programItems
+unfolding programItems programItem
 items-fit none st p = (tt, tt)
 items-fit (more h k r) st p =
     let i = programItem h k st in
     let j = programItems r (i .1) in
-    let q = item-fits h k st (p .0) (p .1) in
+    let q = item-fits st (p .0) (p .1) (chosen-item h k) in
     let s = items-fit r (i .1) (p .2) in
     (fits-& (i .0 .kept) (j .0 .kept) (q .0) (s .0), fits-& (i .0 .moved) (j .0 .moved) (q .1) (s .1))
 

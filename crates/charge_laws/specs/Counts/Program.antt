@@ -1,16 +1,16 @@
 -- A Program with a using: what stays of its items, and its Block.
 -- Assumes nothing.
 use mathlib.Core.Path.{_≡_, refl, sym, ap, ap₂, _∙_}
-use mathlib.Core.Bool.{Bool, true, false, not, _||_, _&&_}
+use mathlib.Core.Bool.{Bool, true, false, _||_}
 use mathlib.Core.List.{List, [], _∷_, _++_, append-assoc}
 use Prim.Native.Nat.{ℕ, suc, _+_}
 use native.Mathlib.Omega.{arith}
 use lib.ListN.{length}
 use lib.Dec.{eqb}
 use borrow.Author.Tests.{eqb-true}
-use Rattle.meaning.specs.Tree.{if_then_else_, oneOf, Head, hd, Forest, none, more, one, count, _&_}
+use Rattle.meaning.specs.Tree.{if_then_else_, oneOf, Head, hd, Forest, none, more, one, _&_}
 use Rattle.meaning.specs.File.{Symbol}
-use Rattle.meaning.specs.Scoping.{Store, return, createSymbol, setFlagsOf, insertScopeBelow}
+use Rattle.meaning.specs.Scoping.{Store, createSymbol, setFlagsOf, insertScopeBelow}
 use Rattle.meaning.specs.Shapes.{declaration}
 use Rattle.meaning.specs.Statements.{isUsing, anyUsing}
 use Rattle.meaning.specs.Program.{
@@ -20,15 +20,16 @@ use Rattle.meaning.specs.Program.{
   split,
   boundNames,
   specifiers,
+  topLevelClass,
   topLevelDeclaration,
   exportedDeclaration,
   exportedClass,
-  exportedItem,
   defaultClass,
   asExpression,
   defaultValue,
+  ItemAct,
   keepsDefault,
-  defaultItem,
+  itemAs,
   programItem,
   programItems,
   enterProgram,
@@ -37,8 +38,8 @@ use Rattle.meaning.specs.Walk.{program, block, actIf, actOf}
 use Rattle.meaning.specs.Charges.{Line, ofBlock, initializers, wraps, contextLines, context, wrapped}
 use Rattle.meaning.specs.Due.{enterLines}
 use Rattle.charge_laws.specs.VisitCharges.{standing, takenUp, declarators, kept, moved, skipped, next, Visits, around, free, visitsAs, visitsStanding, visitsTakenUp, visitsExport, visitsDefault, visitsKept, visitsMovedExport, visitsMovedDefault, visitsMoved, visitsOf, visitsIn}
-use Rattle.spec_laws.specs.Tags.{Seen, other, here, there, seen, clash, and-left}
-use Rattle.charge_laws.specs.Growth.Program.{Exports}
+use Rattle.spec_laws.specs.Tags.{clash}
+use Rattle.charge_laws.specs.Growth.Items.{Exports, Alone, alone, Staying, function, module-line, no-default, default-function, no-export, export-other, ChosenItem, as-kept, as-moved, as-class, as-declaration, as-exported-declaration, as-exported-class, as-default-class, as-default-value, only-item}
 use Rattle.charge_laws.specs.Counts.Visits.{++-nil, spread, visits-&, none-skipped}
 use Rattle.charge_laws.specs.Counts.Tries.{Opens}
 use Rattle.charge_laws.specs.Counts.ForOf.{standing-at}
@@ -86,42 +87,7 @@ module _ (ys : List Symbol) where
   expression-same true h k e = class-same h k 1 (h .b) (h .c) (eqb-true (h .tag) 15 e)
   expression-same false h k e = refl
 
-  -- ---- below 18
-
-  default-one : (keeps class : Bool) (a b c : ℕ) (h₁ : Head) (k₁ : Forest) (st : Store) → keepsDefault h₁ ≡ keeps → (class ≡ true → h₁ .tag ≡ 15)
-      → let h = hd 18 a b c in
-      Item h (one h₁ k₁)
-      (((if keeps then return (split (one h (one h₁ k₁)) none) else if class then defaultClass h₁ k₁ else defaultValue h₁ k₁) st) .0)
-  unfolding visitsIn visitsOf visitsKept visitsMoved visitsDefault visitsMovedDefault visitsStanding visitsAs actOf next anyUsing isUsing wraps defaultClass transformClassDecl defaultValue asExpression _&_
-  default-one true class a b c h₁ k₁ st e d =
-      rw e ((λ g. refl), (λ g. only 0 (one h₁ k₁) (visitsIn ys g takenUp)), (λ g. refl), (λ g. omega arith))
-  default-one false true a b c h₁ k₁ st e d =
-      rw e (
-        (λ g. only 2 (one h₁ k₁) (visitsIn ys g standing)),
-        (λ g. class-moved h₁ k₁ st g (d refl)),
-        (λ g. refl),
-        (λ g. omega arith),
-      )
-  default-one false false a b c h₁ k₁ st e d =
-      rw e (
-        (λ g. only 2 (one h₁ k₁) (visitsIn ys g standing)),
-        (λ g.
-            declared-moved ((createSymbol 4 1 1 0 st) .0) (asExpression h₁) k₁ g
-            ∙ ap (λ (v : List (List Line)). free 3 ++ (v ++ visitsIn ys g takenUp)) (expression-same (eqb (h₁ .tag) 15) h₁ k₁ refl)),
-        (λ g. refl),
-        (λ g. omega arith),
-      )
-
-  default-item : (a b c : ℕ) (k : Forest) (st : Store) → count k ≡ 1 → Item (hd 18 a b c) k ((defaultItem (hd 18 a b c) k st) .0)
-  unfolding defaultItem count
-  default-item a b c none st e = absurd (omega arith)
-  default-item a b c (more h₁ k₁ none) st e =
-      let named = not (eqb (h₁ .c) 0) in
-      default-one (keepsDefault h₁) (eqb (h₁ .tag) 15 && eqb (h₁ .a) 0 && named) a b c h₁ k₁ st refl
-      (λ d. eqb-true (h₁ .tag) 15 (and-left (eqb (h₁ .tag) 15) (eqb (h₁ .a) 0) (and-left (eqb (h₁ .tag) 15 && eqb (h₁ .a) 0) named d)))
-  default-item a b c (more h₁ k₁ (more h₂ k₂ r)) st e = absurd (omega arith)
-
-  -- ---- below 19
+  -- ---- an item
 
   specifiers-visits : (st : Store) (names : List ℕ) → visitsIn ys (specifiers st names) standing ≡ free (length names)
   unfolding specifiers visitsIn visitsOf visitsStanding visitsAs actOf next
@@ -131,95 +97,77 @@ module _ (ys : List Symbol) where
   one-more : (n : ℕ) (xs : List (List Line)) → [] ∷ (free n ++ xs) ≡ free (1 + n) ++ xs
   one-more n xs = let e : suc n ≡ 1 + n = omega arith in ap (λ (m : ℕ). free m ++ xs) e
 
-  exported-one : {t : ℕ} (a b c : ℕ) (x y z : ℕ) (k₁ : Forest) (st : Store) → Seen (15 ∷ 5 ∷ []) t
-      → let h = hd 19 a b c in
-      let h₁ = hd t x y z in
-      Item h (one h₁ k₁)
-      (((if eqb t 15 then exportedClass h₁ k₁ else if eqb t 5 then exportedDeclaration k₁ else return (split (one h (one h₁ k₁)) none)) st) .0)
-  unfolding visitsIn visitsOf visitsKept visitsMoved visitsExport visitsMovedExport visitsTakenUp visitsStanding visitsAs actOf next anyUsing isUsing wraps exportedClass transformClassDecl exportedDeclaration _&_
-  exported-one a b c x y z k₁ st here = (
-    (λ g. only 2 (one (hd 15 x y z) k₁) (visitsIn ys g standing)),
-    (λ g. class-moved (hd 15 x y z) k₁ st g refl),
-    (λ g. refl),
-    (λ g. omega arith),
-  )
-  exported-one a b c x y z k₁ st (there e₁₅ here) = (
-    (λ g.
-        ap (λ (v : List (List Line)). [] ∷ (v ++ visitsIn ys g standing)) (specifiers-visits ((setFlagsOf (boundNames k₁) 1 st) .1) (boundNames k₁))
-        ∙ one-more (length (boundNames k₁)) (visitsIn ys g standing)
-        ∙ only (1 + length (boundNames k₁)) (one (hd 5 x y z) k₁) (visitsIn ys g standing)),
-    (λ g. ap (λ (v : List (List Line)). [] ∷ (v ++ visitsIn ys g takenUp)) (sym (++-nil (visitsIn ys k₁ standing)))),
-    (λ g. refl),
-    (λ g. omega arith),
-  )
-  exported-one {t} a b c x y z k₁ st (there e₁₅ (there e₅ other)) =
-      rw (e₁₅, e₅) (
-        (λ g. refl),
-        (λ g. only 0 (one (hd t x y z) k₁) (visitsIn ys g takenUp)),
-        (λ g. refl),
-        (λ g. omega arith),
-      )
-
-  exported-item : (a b c : ℕ) (k : Forest) (st : Store) → count k ≡ 1 → Item (hd 19 a b c) k ((exportedItem (hd 19 a b c) k st) .0)
-  unfolding exportedItem count
-  exported-item a b c none st e = absurd (omega arith)
-  exported-item a b c (more h₁ k₁ none) st e =
-      exported-one a b c (h₁ .a) (h₁ .b) (h₁ .c) k₁ st (seen (15 ∷ 5 ∷ []) (h₁ .tag))
-  exported-item a b c (more h₁ k₁ (more h₂ k₂ r)) st e = absurd (omega arith)
-
-  -- ---- an item
-
   recorded : (u : Bool) (a : ℕ) → (u ≡ true → oneOf (3 ∷ 4 ∷ []) a ≡ true) → isUsing (hd 5 0 (if u then a else 0) 0) ≡ u
   unfolding isUsing
   recorded true a e = e refl
   recorded false a e = refl
 
-  top-declaration : (a b c : ℕ) (k : Forest) (st : Store) → (isUsing (hd 5 a b c) ≡ true → oneOf (3 ∷ 4 ∷ []) a ≡ true)
-      → Item (hd 5 a b c) k ((topLevelDeclaration (hd 5 a b c) k st) .0)
-  unfolding topLevelDeclaration visitsIn visitsOf visitsKept visitsMoved visitsTakenUp visitsStanding visitsAs actOf next anyUsing wraps _&_
-  top-declaration a b c k st e =
-      let r = recorded (isUsing (hd 5 a b c)) a e in (
+  as-it-is : (h : Head) (k : Forest) → visitsKept ys h k ≡ visitsStanding ys h k → visitsMoved ys h k ≡ around [] skipped [] → eqb (h .tag) 5 ≡ false
+      → Item h k (split (one h k) none)
+  unfolding visitsIn visitsOf next isUsing _&_
+  as-it-is h k e d t = rw (e, d, t) ((λ g. refl), (λ g. only 0 k (visitsIn ys g takenUp)), (λ g. refl), (λ g. omega arith))
+
+  stays : {h : Head} {k : Forest} → Staying Alone h k → Item h k (split (one h k) none)
+  unfolding visitsKept visitsMoved visitsDefault visitsMovedDefault visitsExport visitsMovedExport keepsDefault
+  stays {h} {k} function = as-it-is h k refl refl refl
+  stays {h} {k} module-line = as-it-is h k refl refl refl
+  stays {h} {k} no-default = as-it-is h k refl refl refl
+  stays {h} {k} (default-function alone) = as-it-is h k refl refl refl
+  stays {h} {k} no-export = as-it-is h k refl refl refl
+  stays {h} {k} (export-other e₁₅ e₅ alone) = as-it-is h k (rw (e₁₅, e₅)) (rw (e₁₅, e₅)) refl
+
+  program-item : {x : ItemAct} {h : Head} {k : Forest} (st : Store) → (isUsing h ≡ true → oneOf (3 ∷ 4 ∷ []) (h .a) ≡ true)
+      → ChosenItem Alone x h k → Item h k ((itemAs x h k st) .0)
+  unfolding itemAs topLevelClass topLevelDeclaration exportedDeclaration exportedClass defaultClass defaultValue transformClassDecl asExpression visitsIn visitsOf visitsKept visitsMoved visitsDefault visitsMovedDefault visitsExport visitsMovedExport visitsTakenUp visitsStanding visitsAs actOf next anyUsing isUsing wraps keepsDefault _&_
+  program-item st u (as-kept s) = stays s
+  program-item {k = k} st u (as-moved e₁₃ e₁₇ e₁₈ e₁₉ e₁₅ e₅) =
+      rw (e₁₃, e₁₇, e₁₈, e₁₉, e₁₅) ((λ g. only 0 k (visitsIn ys g standing)), (λ g. refl), (λ g. refl), (λ g. refl))
+  program-item {h = h} {k = k} st u as-class = (
+    (λ g. only 0 k (visitsIn ys g standing)),
+    (λ g.
+        class-moved h k st g refl
+        ∙ ap (λ (v : List (List Line)). free 4 ++ (v ++ visitsIn ys g takenUp)) (++-nil (visitsIn ys k standing))),
+    (λ g. refl),
+    (λ g. omega arith),
+  )
+  program-item {h = h} {k = k} st u as-declaration =
+      let r = recorded (isUsing h) (h .a) u in (
         (λ g. only 0 k (visitsIn ys g standing)),
         (λ g. ap (λ (u : Bool). spread ys (if u then around (free 1) declarators [] else around (free 1) standing []) k (visitsIn ys g takenUp)) r),
         (λ g. ap (λ (u : Bool). u || anyUsing g) r),
         (λ g. ap (λ (u : Bool). (if u then initializers k else 0) + wraps g) r),
       )
-
-  top-class : (a b c : ℕ) (k : Forest) (st : Store) → Item (hd 15 a b c) k (split none ((transformClassDecl (hd 15 a b c) k st) .0))
-  unfolding transformClassDecl visitsIn visitsOf visitsKept visitsMoved visitsStanding visitsAs actOf anyUsing isUsing wraps _&_
-  top-class a b c k st = (
-    (λ g. only 0 k (visitsIn ys g standing)),
-    (λ g.
-        class-moved (hd 15 a b c) k st g refl
-        ∙ ap (λ (v : List (List Line)). free 4 ++ (v ++ visitsIn ys g takenUp)) (++-nil (visitsIn ys k standing))),
+  program-item {k = k} st u (as-exported-declaration {k = k₁} alone) =
+      let names = boundNames k₁ in (
+        (λ g.
+            ap (λ (v : List (List Line)). [] ∷ (v ++ visitsIn ys g standing)) (specifiers-visits ((setFlagsOf names 1 st) .1) names)
+            ∙ one-more (length names) (visitsIn ys g standing)
+            ∙ only (1 + length names) k (visitsIn ys g standing)),
+        (λ g. ap (λ (v : List (List Line)). [] ∷ (v ++ visitsIn ys g takenUp)) (sym (++-nil (visitsIn ys k₁ standing)))),
+        (λ g. refl),
+        (λ g. omega arith),
+      )
+  program-item {k = k} st u (as-exported-class {x = x} {y = y} {z = z} {k = k₁} alone) = (
+    (λ g. only 2 k (visitsIn ys g standing)),
+    (λ g. class-moved (hd 15 x y z) k₁ st g refl),
     (λ g. refl),
     (λ g. omega arith),
   )
-
-  stays : (t a b c : ℕ) (k : Forest) → oneOf (13 ∷ 17 ∷ []) t ≡ true → eqb t 5 ≡ false → Item (hd t a b c) k (split (one (hd t a b c) k) none)
-  unfolding visitsIn visitsOf visitsKept visitsMoved next isUsing _&_
-  stays t a b c k e e₅ =
-      rw (e, e₅) ((λ g. refl), (λ g. only 0 k (visitsIn ys g takenUp)), (λ g. refl), (λ g. omega arith))
-
-  moves : (t a b c : ℕ) (k : Forest) → eqb t 13 ≡ false → eqb t 17 ≡ false → eqb t 18 ≡ false → eqb t 19 ≡ false → eqb t 15 ≡ false
-      → Item (hd t a b c) k (split none (one (hd t a b c) k))
-  unfolding visitsIn visitsOf visitsKept visitsMoved next anyUsing wraps _&_
-  moves t a b c k e₁₃ e₁₇ e₁₈ e₁₉ e₁₅ =
-      rw (e₁₃, e₁₇, e₁₈, e₁₉, e₁₅) ((λ g. only 0 k (visitsIn ys g standing)), (λ g. refl), (λ g. refl), (λ g. refl))
-
-  program-item : {t : ℕ} (a b c : ℕ) (k : Forest) (st : Store) → (oneOf (18 ∷ 19 ∷ []) t ≡ true → count k ≡ 1)
-      → (isUsing (hd t a b c) ≡ true → oneOf (3 ∷ 4 ∷ []) a ≡ true)
-      → Seen (13 ∷ 17 ∷ 18 ∷ 19 ∷ 15 ∷ 5 ∷ []) t
-      → Item (hd t a b c) k ((programItem (hd t a b c) k st) .0)
-  unfolding programItem
-  program-item a b c k st s u here = stays 13 a b c k refl refl
-  program-item a b c k st s u (there e₁₃ here) = stays 17 a b c k refl refl
-  program-item a b c k st s u (there e₁₃ (there e₁₇ here)) = default-item a b c k st (s refl)
-  program-item a b c k st s u (there e₁₃ (there e₁₇ (there e₁₈ here))) = exported-item a b c k st (s refl)
-  program-item a b c k st s u (there e₁₃ (there e₁₇ (there e₁₈ (there e₁₉ here)))) = top-class a b c k st
-  program-item a b c k st s u (there e₁₃ (there e₁₇ (there e₁₈ (there e₁₉ (there e₁₅ here))))) = top-declaration a b c k st u
-  program-item {t} a b c k st s u (there e₁₃ (there e₁₇ (there e₁₈ (there e₁₉ (there e₁₅ (there e₅ other)))))) =
-      rw (e₁₃, e₁₇, e₁₈, e₁₉, e₁₅, e₅) (moves t a b c k e₁₃ e₁₇ e₁₈ e₁₉ e₁₅)
+  program-item {k = k} st u (as-default-class {y = y} {z = z} {k = k₁} named alone) = (
+    (λ g. only 2 k (visitsIn ys g standing)),
+    (λ g. class-moved (hd 15 0 y z) k₁ st g refl),
+    (λ g. refl),
+    (λ g. omega arith),
+  )
+  program-item {k = k} st u (as-default-value {h = h₁} {k = k₁} e d alone) =
+      rw e (
+        (λ g. only 2 k (visitsIn ys g standing)),
+        (λ g.
+            declared-moved ((createSymbol 4 1 1 0 st) .0) (asExpression h₁) k₁ g
+            ∙ ap (λ (v : List (List Line)). free 3 ++ (v ++ visitsIn ys g takenUp)) (expression-same (eqb (h₁ .tag) 15) h₁ k₁ refl)),
+        (λ g. refl),
+        (λ g. omega arith),
+      )
 
   -- ---- all items
 
@@ -231,10 +179,10 @@ module _ (ys : List Symbol) where
       × (wraps (s .moved) ≡ wraps f)
 
   items : (f : Forest) (st : Store) → Exports f → Kinds f → Items f ((programItems f st) .0)
-  unfolding programItems visitsIn visitsOf next anyUsing wraps
+  unfolding programItems programItem visitsIn visitsOf next anyUsing wraps
   items none st x u = (refl, refl, refl, refl)
   items (more h k r) st x u =
-      let i = program-item (h .a) (h .b) (h .c) k st (x .0) (u .0) (seen (13 ∷ 17 ∷ 18 ∷ 19 ∷ 15 ∷ 5 ∷ []) (h .tag)) in
+      let i = program-item st (u .0) (only-item h k (x .0)) in
       let rest = (programItems r ((programItem h k st) .1)) .0 in
       let j = items r ((programItem h k st) .1) (x .1) (u .1) in (
         i .0 (rest .kept) ∙ ap (λ (v : List (List Line)). spread ys (visitsKept ys h k) k v) (j .0),

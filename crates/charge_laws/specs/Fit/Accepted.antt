@@ -1,7 +1,7 @@
 -- An accepted file is fit, so the counts after any number of visits are those of its charges.
 -- Assumes nothing.
 use mathlib.Core.Path.{_≡_, refl, sym, ap, subst, _∙_}
-use mathlib.Core.Bool.{Bool, true, false, not, _||_, _&&_}
+use mathlib.Core.Bool.{true, false, not, _&&_, or-true}
 use mathlib.Core.List.{List, [], _∷_}
 use Prim.Native.Nat.{ℕ, suc}
 use native.Mathlib.Omega.{arith}
@@ -23,7 +23,8 @@ use Rattle.meaning.specs.Due.{dues}
 use Rattle.charge_laws.specs.VisitCharges.{visitCharges}
 use Rattle.spec_laws.specs.Tags.{Seen, other, here, there, seen, clash, and-left, and-right}
 use Rattle.charge_laws.specs.Growth.ForOf.{Named}
-use Rattle.charge_laws.specs.Growth.Program.{Exports}
+use Rattle.charge_laws.specs.Growth.Items.{Exports}
+use Rattle.charge_laws.specs.Totals.Accepted.{one-child}
 use Rattle.charge_laws.specs.Counts.TakenUp.{Labelled}
 use Rattle.charge_laws.specs.Counts.Program.{Kinds}
 use Rattle.charge_laws.specs.Counts.Enter.{Begins, Body, Left}
@@ -37,16 +38,6 @@ use Rattle.spec_laws.specs.Bools.{or-false}
 -- ---- a field
 
 module _ (p : Place) (syms : ℕ) where
-  -- Labels and exports have one child
-  one-child : {t : ℕ} (a b c d next : ℕ) → Seen (4 ∷ 18 ∷ 19 ∷ []) t → oneOf (4 ∷ 18 ∷ 19 ∷ []) t ≡ true
-      → let x : Field = record { tag = t; a = a; b = b; c = c; d = d; next = next } in
-      right p syms x ≡ true → childrenOf x ≡ 1
-  unfolding right childrenOf ownNumbers hasChildren numbersOf
-  one-child a b c d next here s e = eqb-true b 1 e
-  one-child a b c d next (there e₄ here) s e = eqb-true a 1 e
-  one-child a b c d next (there e₄ (there e₁₈ here)) s e = eqb-true a 1 e
-  one-child a b c d next (there e₄ (there e₁₈ (there e₁₉ other))) s e = absurd (clash (rw (e₄, e₁₈, e₁₉)) s)
-
   -- a Declarator with pattern 0 has a Name
   module _ (x : Field) (t : x .tag ≡ 6) (z : x .a ≡ 0) (e : right p syms x ≡ true) where
     one-name : x .b ≡ 1
@@ -63,10 +54,6 @@ module _ (p : Place) (syms : ℕ) where
         let c : 0 ≡ x .c = n ∙ rw t in
         clash refl (and-right (not (is p ForOfDeclarator)) false (rw (t, z, one-name, ← c) at e))
 
-or-true : (b : Bool) → (b || true) ≡ true
-or-true true = refl
-or-true false = refl
-
 -- a Declaration's only number is its kind
 own-kind : {t : ℕ} (a b c d next : ℕ) → Seen (5 ∷ []) t
     → let h = headOf (record { tag = t; a = a; b = b; c = c; d = d; next = next }) in
@@ -79,9 +66,7 @@ own-kind a b c d next (there e other) u = absurd (clash (rw e) u)
 
 module _ {syms : ℕ} {p : Place} {x : Field} {h : Head} {k : Forest} (q : ReadAs syms p x h k) where
   has-one : oneOf (4 ∷ 18 ∷ 19 ∷ []) (h .tag) ≡ true → count k ≡ 1
-  has-one e =
-      q .children
-      ∙ one-child p syms (x .a) (x .b) (x .c) (x .d) (x .next) (seen (4 ∷ 18 ∷ 19 ∷ []) (x .tag)) (rw (same-tag q) at e) (q .numbers)
+  has-one e = q .children ∙ one-child p syms x (rw (same-tag q) at e) (q .numbers)
 
   using-kind : isUsing h ≡ true → oneOf (3 ∷ 4 ∷ []) (h .a) ≡ true
   using-kind u =

@@ -6,15 +6,15 @@ use mathlib.Core.List.{List, [], _∷_, _++_}
 use Prim.Native.Nat.{ℕ, zero, suc, _+_}
 use native.Mathlib.Omega.{arith}
 use lib.ListN.{length}
-use lib.Dec.{eqb}
 use Rattle.meaning.specs.Tree.{if_then_else_, Head, hd, Forest, none, more}
 use Rattle.meaning.specs.File.{Symbol}
 use Rattle.meaning.specs.Statements.{isUsing, anyUsing}
 use Rattle.meaning.specs.Contexts.{forList}
-use Rattle.meaning.specs.Program.{boundNames, keepsDefault}
+use Rattle.meaning.specs.Program.{boundNames, ItemAct, keepsDefault}
 use Rattle.meaning.specs.Walk.{actOf}
 use Rattle.meaning.specs.Charges.{Line, wrapped, ofFor, contextLines}
 use Rattle.meaning.specs.Due.{enterLines}
+use Rattle.charge_laws.specs.Growth.Items.{Anything, anything, function, module-line, no-default, default-function, no-export, export-other, ChosenItem, as-kept, as-moved, as-class, as-declaration, as-exported-declaration, as-exported-class, as-default-class, as-default-value, chosen-item}
 use Rattle.charge_laws.specs.VisitCharges.{Mode, standing, takenUp, declarators, initializer, loop, cases, kept, moved, skipped, next, Visits, around, free, visitsAs, visitsStanding, visitsTakenUp, visitsExport, visitsDefault, visitsKept, visitsMovedExport, visitsMovedDefault, visitsMoved, visitsOf, programVisits, visitsIn}
 use Rattle.spec_laws.specs.Tags.{Seen, other, here, there, seen, clash}
 use Rattle.charge_laws.specs.Growth.Trees.{using-tag}
@@ -162,49 +162,26 @@ module _ (w : Line → ℕ) (ys : List Symbol) where
   free-free zero = refl
   free-free (suc n) = omega (arith, free-free n)
 
-  default-one : (keeps : Bool) (a b c : ℕ) (k : Forest)
-      → let h = hd 18 a b c in
-      costOf (if keeps then visitsStanding ys h k else around (free 2) skipped []) k
-      + costOf (if keeps then around [] skipped [] else around (free 3) standing []) k
-      ≡ costOf (visitsStanding ys h k) k
-  unfolding visitsStanding visitsAs actOf costs cost
-  default-one true a b c k = omega (arith, skipped-free k)
-  default-one false a b c k = omega (arith, skipped-free k)
-
-  export-one : (class declares : Bool) (a b c n : ℕ) (k : Forest)
-      → let h = hd 19 a b c in
-      costOf (if class then around (free 2) skipped [] else if declares then around (free n) skipped [] else visitsStanding ys h k) k
-      + costOf (if class then around (free 3) standing [] else if declares then around [] standing [] else around [] skipped []) k
-      ≡ costOf (visitsStanding ys h k) k
-  unfolding visitsStanding visitsAs actOf costs cost
-  export-one true declares a b c n k = omega (arith, skipped-free k)
-  export-one false true a b c n k = omega (arith, skipped-free k, free-free n)
-  export-one false false a b c n k = omega (arith, skipped-free k)
-
   -- one item
   abbrev Item : Head → Forest → Type 0
   Item h k = costOf (visitsKept ys h k) k + costOf (visitsMoved ys h k) k ≡ costOf (visitsStanding ys h k) k
 
-  default-item : (a b c : ℕ) (k : Forest) → Item (hd 18 a b c) k
-  unfolding visitsKept visitsMoved visitsDefault visitsMovedDefault costs cost
-  default-item a b c none = omega (arith, skipped-free none)
-  default-item a b c (more h k r) = default-one (keepsDefault h) a b c (more h k r)
-
-  export-item : (a b c : ℕ) (k : Forest) → Item (hd 19 a b c) k
-  unfolding visitsKept visitsMoved visitsExport visitsMovedExport costs cost
-  export-item a b c none = omega (arith, skipped-free none)
-  export-item a b c (more h k r) =
-      export-one (eqb (h .tag) 15) (eqb (h .tag) 5) a b c (1 + length (boundNames k)) (more h k r)
-
-  item-one : {t : ℕ} (a b c : ℕ) (k : Forest) → Seen (13 ∷ 17 ∷ 18 ∷ 19 ∷ 15 ∷ []) t → Item (hd t a b c) k
-  unfolding visitsKept visitsMoved visitsTakenUp costs cost
-  item-one a b c k here = omega (arith, skipped-free k)
-  item-one a b c k (there e₁₃ here) = omega (arith, skipped-free k)
-  item-one a b c k (there e₁₃ (there e₁₇ here)) = default-item a b c k
-  item-one a b c k (there e₁₃ (there e₁₇ (there e₁₈ here))) = export-item a b c k
-  item-one a b c k (there e₁₃ (there e₁₇ (there e₁₈ (there e₁₉ here)))) = omega (arith, skipped-free k)
-  item-one {t} a b c k (there e₁₃ (there e₁₇ (there e₁₈ (there e₁₉ (there e₁₅ other))))) =
-      rw (e₁₃, e₁₇, e₁₈, e₁₉, e₁₅) (omega (arith, skipped-free k, using-same (isUsing (hd t a b c)) (hd t a b c) k refl))
+  item-one : {x : ItemAct} {h : Head} {k : Forest} → ChosenItem Anything x h k → Item h k
+  unfolding visitsKept visitsMoved visitsDefault visitsMovedDefault visitsExport visitsMovedExport visitsTakenUp visitsStanding visitsAs actOf keepsDefault costs cost
+  item-one {k = k} (as-kept function) = omega (arith, skipped-free k)
+  item-one {k = k} (as-kept module-line) = omega (arith, skipped-free k)
+  item-one (as-kept no-default) = omega (arith, skipped-free none)
+  item-one {k = k} (as-kept (default-function anything)) = omega (arith, skipped-free k)
+  item-one (as-kept no-export) = omega (arith, skipped-free none)
+  item-one {k = k} (as-kept (export-other e₁₅ e₅ anything)) = rw (e₁₅, e₅) (omega (arith, skipped-free k))
+  item-one {h = h} {k = k} (as-moved e₁₃ e₁₇ e₁₈ e₁₉ e₁₅ e₅) =
+      rw (e₁₃, e₁₇, e₁₈, e₁₉, e₁₅) (omega (arith, skipped-free k, using-same (isUsing h) h k refl))
+  item-one {k = k} as-class = omega (arith, skipped-free k)
+  item-one {h = h} {k = k} as-declaration = omega (arith, skipped-free k, using-same (isUsing h) h k refl)
+  item-one {k = k} (as-exported-declaration {k = k₁} anything) = omega (arith, skipped-free k, free-free (1 + length (boundNames k₁)))
+  item-one {k = k} (as-exported-class anything) = omega (arith, skipped-free k)
+  item-one {k = k} (as-default-class named anything) = omega (arith, skipped-free k)
+  item-one {k = k} (as-default-value e d anything) = rw e (omega (arith, skipped-free k))
 
   pub items-same : (f : Forest) → visited f kept + visited f moved ≡ visited f standing
   unfolding visitsIn visitsOf next costs
@@ -215,6 +192,6 @@ module _ (w : Line → ℕ) (ys : List Symbol) where
         one-visited kept h k r,
         one-visited moved h k r,
         one-visited standing h k r,
-        item-one (h .a) (h .b) (h .c) k (seen (13 ∷ 17 ∷ 18 ∷ 19 ∷ 15 ∷ []) (h .tag)),
+        item-one (chosen-item h k),
         items-same r,
       )

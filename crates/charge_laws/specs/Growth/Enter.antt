@@ -18,7 +18,8 @@ use Rattle.charge_laws.specs.Growth.Charged.{PaysFor, pays-nothing, coun
 use Rattle.charge_laws.specs.Growth.Contexts.{block-pays, body-pays, static-pays, for-pays, switch-pays}
 use Rattle.charge_laws.specs.Growth.Parts.{try-pays}
 use Rattle.charge_laws.specs.Growth.ForOf.{Named, insert-pays, wrap-pays}
-use Rattle.charge_laws.specs.Growth.Program.{Exports, program-pays}
+use Rattle.charge_laws.specs.Growth.Items.{Exports}
+use Rattle.charge_laws.specs.Growth.Program.{program-pays}
 use Rattle.charge_laws.specs.Growth.Chosen.{Chosen, kept, as-program, as-block, as-body, as-try, as-for, as-switch, as-insert, as-wrap, chosen}
 
 -- ---- what a record must be

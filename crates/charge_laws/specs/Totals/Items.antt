@@ -1,7 +1,7 @@
 -- What Program's items are charged.
 -- Assumes nothing.
 use mathlib.Core.Path.{_≡_, refl}
-use mathlib.Core.Bool.{Bool, true, false, not, _||_, _&&_}
+use mathlib.Core.Bool.{Bool, true, false, not, _&&_}
 use mathlib.Core.List.{List, [], _∷_}
 use Prim.Native.Nat.{ℕ, suc, _+_}
 use native.Mathlib.Omega.{arith}
@@ -11,19 +11,14 @@ use Rattle.meaning.specs.Tree.{if_then_else_, Head, hd, Forest, none, more, cou
 use Rattle.meaning.specs.File.{Symbol}
 use Rattle.meaning.specs.Statements.{isUsing, anyUsing}
 use Rattle.meaning.specs.Contexts.{namesIn}
-use Rattle.meaning.specs.Program.{boundNames, keepsDefault}
+use Rattle.meaning.specs.Program.{boundNames, ItemAct, keepsDefault, itemAct}
 use Rattle.meaning.specs.Charges.{
   Line,
-  topLevelClass,
-  exportedClass,
-  defaultExport,
-  exportedNames,
   Figures,
   _⊕_,
   lineCharge,
   total,
-  exportLines,
-  defaultLines,
+  actLines,
   itemLines,
 }
 use Rattle.figures.specs.declared.tally.Tally.{Tally}
@@ -31,6 +26,7 @@ use Rattle.figures.specs.declared.tally.Role.{Role}
 use Rattle.figures.specs.declared.tally.Role.the-variants.{Plain, Part, Item, Default, Exported, ExportedDeclarator, ExportedName, Held, Body}
 use Rattle.figures.specs.Tally.{roleIndex, isRole, roleOf, bodyOf, insertsIn, oneIf, isExport, itemsKept, own, tallyOf}
 use Rattle.spec_laws.specs.Tags.{Seen, other, here, there, seen, clash}
+use Rattle.charge_laws.specs.Growth.Items.{Exports, Alone, alone, function, module-line, no-default, default-function, no-export, export-other, ChosenItem, as-kept, as-moved, as-class, as-declaration, as-exported-declaration, as-exported-class, as-default-class, as-default-value, only-item}
 use Rattle.charge_laws.specs.Totals.Roles.{LacksBelow, Regular, roleOf-all, bodyOf-all}
 use Rattle.charge_laws.specs.Totals.Lists.{usings-are}
 use Rattle.spec_laws.specs.Figures.{Same, total-++}
@@ -82,11 +78,6 @@ apart-items body h = omega arith
 length-if : (b : Bool) (y : ℕ) (ys : List ℕ) → length (if b then y ∷ ys else ys) ≡ oneIf b + length ys
 length-if true y ys = omega arith
 length-if false y ys = omega arith
-
-default-charge : (keeps : Bool) → Same (itemFigures 0 (oneIf (not keeps || false)) 0 0) (total (if keeps then [] else defaultExport ∷ []))
-unfolding total lineCharge
-default-charge true = omega arith
-default-charge false = omega arith
 
 -- a Program's items are dropped, if its list has no using
 kept-items : (any : Bool) (kids : Tally) (items : List Line) → Same (itemsOf kids) (total items)
@@ -176,70 +167,43 @@ module _ (asRead : List Symbol) where
         bound-are r (suc i) (l .2),
       )
 
-  -- what 19 and 18 export
-  exported-item : {t : ℕ} (a b c : ℕ) (k : Forest) → LacksBelow 1 k → eqb t 1 ≡ false → Seen (15 ∷ 5 ∷ []) t
-      → Same (itemsOf (recordTally Exported (hd t a b c) k))
-      (total
-      (if eqb t 15 then exportedClass ∷ [] else if eqb t 5 then exportedNames (length (boundNames k)) ∷ [] else []))
-  unfolding roleIndex isExport roleOf total lineCharge
-  exported-item a b c k l e here = omega (arith, ends-items Exported (hd 15 a b c) k l (refl, refl, refl, refl, refl))
-  exported-item a b c k l e (there e₁₅ here) = omega (arith, own-items Exported (hd 5 a b c) k e, bound-are k 0 l)
-  exported-item {t} a b c k l e (there e₁₅ (there e₅ other)) =
-      rw (e₁₅, e₅) (omega (arith, rw (e₁₅, e₅) at (ends-items Exported (hd t a b c) k l (e, e₅, refl, refl, refl))))
-
-  exports-are : (f : Forest) (i : ℕ) → LacksBelow 1 f → Same (itemsOf (tallyOf asRead (λ _. Exported) i f)) (total (exportLines f))
-  unfolding tallyOf exportLines total
-  exports-are none i l = omega arith
-  exports-are (more h k r) i l =
-      omega (
-        arith,
-        exported-item (h .a) (h .b) (h .c) k (l .1) (l .0) (seen (15 ∷ 5 ∷ []) (h .tag)),
-        total-++ (if eqb (h .tag) 15 then exportedClass ∷ [] else if eqb (h .tag) 5 then exportedNames (length (boundNames k)) ∷ [] else [])
-            (exportLines r),
-        exports-are r (suc i) (l .2),
-      )
-
-  defaults-are : (f : Forest) (i : ℕ) → LacksBelow 1 f → Same (itemsOf (tallyOf asRead (λ _. Default) i f)) (total (defaultLines f))
-  unfolding tallyOf defaultLines total roleIndex isExport
-  defaults-are none i l = omega arith
-  defaults-are (more h k r) i l =
-      omega (
-        arith,
-        ends-items Default h k (l .1) (l .0, refl, refl, refl, refl),
-        default-charge (keepsDefault h),
-        total-++ (if keepsDefault h then [] else defaultExport ∷ []) (defaultLines r),
-        defaults-are r (suc i) (l .2),
-      )
-
   -- Program's items
-  program-item : {t : ℕ} (a b c : ℕ) (k : Forest) → LacksBelow 1 k → eqb t 1 ≡ false → Seen (15 ∷ 18 ∷ 19 ∷ []) t
-      → Same (itemsOf (recordTally Item (hd t a b c) k))
-      (total (if eqb t 15 then topLevelClass ∷ [] else if eqb t 18 then defaultLines k else if eqb t 19 then exportLines k else []))
-  unfolding roleIndex isExport roleOf total lineCharge
-  program-item a b c k l e here = omega (arith, ends-items Item (hd 15 a b c) k l (refl, refl, refl, refl, refl))
-  program-item a b c k l e (there e₁₅ here) = omega (arith, own-items Item (hd 18 a b c) k e, defaults-are k 0 l)
-  program-item a b c k l e (there e₁₅ (there e₁₈ here)) = omega (arith, own-items Item (hd 19 a b c) k e, exports-are k 0 l)
-  program-item {t} a b c k l e (there e₁₅ (there e₁₈ (there e₁₉ other))) =
-      rw (e₁₅, e₁₈, e₁₉) (omega (arith, rw e₁₅ at (ends-items Item (hd t a b c) k l (e, refl, refl, e₁₈, e₁₉))))
+  program-item : {x : ItemAct} {h : Head} {k : Forest} → LacksBelow 1 k → eqb (h .tag) 1 ≡ false → ChosenItem Alone x h k
+      → Same (itemsOf (recordTally Item h k)) (total (actLines x))
+  unfolding roleIndex isExport roleOf tallyOf keepsDefault actLines total lineCharge
+  program-item {h = h} {k = k} l e (as-kept function) = omega (arith, ends-items Item h k l (refl, refl, refl, refl, refl))
+  program-item {h = h} {k = k} l e (as-kept module-line) = omega (arith, ends-items Item h k l (refl, refl, refl, refl, refl))
+  program-item {h = h} {k = k} l e (as-kept no-default) = omega (arith, own-items Item h k e)
+  program-item {h = h} {k = k} l e (as-kept (default-function {y = y} {z = z} {k = k₁} alone)) =
+      omega (arith, own-items Item h k e, ends-items Default (hd 13 0 y z) k₁ (l .1) (refl, refl, refl, refl, refl))
+  program-item {h = h} {k = k} l e (as-kept no-export) = omega (arith, own-items Item h k e)
+  program-item {h = h} {k = k} l e (as-kept (export-other {h = h₁} {k = k₁} e₁₅ e₅ alone)) =
+      omega (arith, own-items Item h k e, rw (e₁₅, e₅) at (ends-items Exported h₁ k₁ (l .1) (l .0, e₅, refl, refl, refl)))
+  program-item {h = h} {k = k} l e (as-moved e₁₃ e₁₇ e₁₈ e₁₉ e₁₅ e₅) = omega (arith, rw e₁₅ at (ends-items Item h k l (e, refl, refl, e₁₈, e₁₉)))
+  program-item {h = h} {k = k} l e as-class = omega (arith, ends-items Item h k l (refl, refl, refl, refl, refl))
+  program-item {h = h} {k = k} l e as-declaration = omega (arith, ends-items Item h k l (refl, refl, refl, refl, refl))
+  program-item {h = h} {k = k} l e (as-exported-declaration {x = x} {y = y} {z = z} {k = k₁} alone) =
+      omega (arith, own-items Item h k e, own-items Exported (hd 5 x y z) k₁ refl, bound-are k₁ 0 (l .1))
+  program-item {h = h} {k = k} l e (as-exported-class {x = x} {y = y} {z = z} {k = k₁} alone) =
+      omega (arith, own-items Item h k e, ends-items Exported (hd 15 x y z) k₁ (l .1) (refl, refl, refl, refl, refl))
+  program-item {h = h} {k = k} l e (as-default-class {y = y} {z = z} {k = k₁} named alone) =
+      omega (arith, own-items Item h k e, ends-items Default (hd 15 0 y z) k₁ (l .1) (refl, refl, refl, refl, refl))
+  program-item {h = h} {k = k} l e (as-default-value {h = h₁} {k = k₁} d c alone) =
+      omega (arith, own-items Item h k e, rw d at (ends-items Default h₁ k₁ (l .1) (l .0, refl, refl, refl, refl)))
 
-  item-lines-are : (f : Forest) (i : ℕ) → LacksBelow 1 f → Same (itemsOf (tallyOf asRead (λ _. Item) i f)) (total (itemLines f))
+  item-lines-are : (f : Forest) (i : ℕ) → LacksBelow 1 f → Exports f → Same (itemsOf (tallyOf asRead (λ _. Item) i f)) (total (itemLines f))
   unfolding tallyOf itemLines total
-  item-lines-are none i l = omega arith
-  item-lines-are (more h k r) i l =
+  item-lines-are none i l x = omega arith
+  item-lines-are (more h k r) i l x =
       omega (
         arith,
-        program-item (h .a) (h .b) (h .c) k (l .1) (l .0) (seen (15 ∷ 18 ∷ 19 ∷ []) (h .tag)),
-        total-++
-            (if eqb (h .tag) 15 then topLevelClass ∷ []
-            else if eqb (h .tag) 18 then defaultLines k
-            else if eqb (h .tag) 19 then exportLines k
-            else [])
-            (itemLines r),
-        item-lines-are r (suc i) (l .2),
+        program-item (l .1) (l .0) (only-item h k (x .0)),
+        total-++ (actLines (itemAct h k)) (itemLines r),
+        item-lines-are r (suc i) (l .2) (x .1),
       )
 
   -- a Program, and any record
-  program-items : {u : Role} → Apart u → (a b c : ℕ) (k : Forest) → LacksBelow 1 k
+  program-items : {u : Role} → Apart u → (a b c : ℕ) (k : Forest) → LacksBelow 1 k × Exports k
       → Same (itemsOf (recordTally u (hd 1 a b c) k)) (total (programOwn 1 k))
   unfolding own itemsKept programOwn roleOf
   program-items {u} x a b c k l =
@@ -247,14 +211,14 @@ module _ (asRead : List Symbol) where
       (omega (
         arith,
         apart-items x (hd 1 a b c),
-        kept-items (anyUsing k) (tallyOf asRead (λ _. Item) 0 k) (itemLines k) (item-lines-are k 0 l),
+        kept-items (anyUsing k) (tallyOf asRead (λ _. Item) 0 k) (itemLines k) (item-lines-are k 0 (l .0) (l .1)),
       ))
 
-  record-items : {u : Role} → Apart u → {t : ℕ} (a b c : ℕ) (k : Forest) → (eqb t 1 ≡ true → LacksBelow 1 k) → Seen (1 ∷ []) t
+  record-items : {u : Role} → Apart u → {t : ℕ} (a b c : ℕ) (k : Forest) → (eqb t 1 ≡ true → LacksBelow 1 k × Exports k) → Seen (1 ∷ []) t
       → (((j : ℕ) → Apart (roleOf u t (isUsing (hd t a b c)) (bodyOf k) j)) → Same (itemsOf (below u (hd t a b c) k)) (total (programLines k)))
       → Same (itemsOf (recordTally u (hd t a b c) k)) (total (programOwn t k) ⊕ total (programLines k))
   unfolding total
-  record-items x a b c k l here i = rw (no-programs k (l refl)) (omega (arith, program-items x a b c k (l refl)))
+  record-items x a b c k l here i = rw (no-programs k (l refl .0)) (omega (arith, program-items x a b c k (l refl)))
   record-items {u} x {t} a b c k l (there e other) i =
       omega (
         arith,

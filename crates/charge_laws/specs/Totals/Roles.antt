@@ -9,6 +9,7 @@ use Rattle.spec_laws.specs.Tags.{Seen, other, here, there, clash}
 use Rattle.meaning.specs.Tree.{if_then_else_, oneOf, Forest, none, more}
 use Rattle.meaning.specs.Statements.{isUsing}
 use Rattle.meaning.specs.ForOf.{bindsIdentifier, boundSymbol}
+use Rattle.charge_laws.specs.Growth.Items.{Exports}
 use Rattle.figures.specs.declared.tally.Role.{Role}
 use Rattle.figures.specs.declared.tally.Role.the-variants.{Plain, Part, Item, Default, Exported, ExportedDeclarator, ExportedName, Held, Body}
 use Rattle.figures.specs.Tally.{roleIndex, isRole, roleOf, bodyOf, isBody}
@@ -23,11 +24,11 @@ LacksBelow t none = Unit {0}
 LacksBelow t (more h k r) = (eqb (h .tag) t ≡ false) × LacksBelow t k × LacksBelow t r
 
 -- No Declaration stands directly in a Declaration (the tally would count its initializers), and no Program below a Program (without a
--- using, it would drop the inner one's items).
+-- using, it would drop the inner one's items), whose exports have one child.
 abbrev pub Regular : Forest → Type 0
 Regular none = Unit {0}
 Regular (more h k r) =
-    (eqb (h .tag) 5 ≡ true → Lacks 5 k) × (eqb (h .tag) 1 ≡ true → LacksBelow 1 k) × Regular k × Regular r
+    (eqb (h .tag) 5 ≡ true → Lacks 5 k) × (eqb (h .tag) 1 ≡ true → LacksBelow 1 k × Exports k) × Regular k × Regular r
 
 -- ---- what holds of every role that a record's children can have
 

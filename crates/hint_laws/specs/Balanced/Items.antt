@@ -22,7 +22,7 @@ use Rattle.meaning.specs.Program.{
   defaultValue,
 }
 use Rattle.spec_laws.specs.Tags.{Seen, other, here, there, seen, clash}
-use Rattle.hint_laws.specs.Hints.{namesOf, ofInitializer, overDeclarators, letterFor, usingsIn, called, callsIn}
+use Rattle.hint_laws.specs.Hints.{namesOf, ofInitializer, overDeclarators, letterFor, takesUp, usingsIn, called, callsIn}
 use Rattle.hint_laws.specs.Balanced.Balance.{doneIn, balanceOf}
 use Rattle.hint_laws.specs.Balanced.Sums.{ownLetter, worth, balance-more, balance-none, plain-one}
 use Rattle.hint_laws.specs.Balanced.Lists.{worth-plain}
@@ -142,15 +142,10 @@ module _ (w : List ℕ → ℕ → ℕ) (read : ℕ) where
   -- ---- below 18 and 19
 
   -- an export of one record, before
-  pub export-counts : {t : ℕ} (a b c : ℕ) (k : Forest) → Seen (18 ∷ 19 ∷ []) t → oneOf (18 ∷ 19 ∷ []) t ≡ true
-      → itemed (one (hd t a b c) k) ≡ callsIn w read k + balanceOf w read k
-  export-counts a b c k here e =
-      let h = hd 18 a b c in
-      omega (arith, plain-item h k refl, balance-more w read h k none, balance-none w read, worth-plain w read 18 k refl refl)
-  export-counts a b c k (there e₁₈ here) e =
-      let h = hd 19 a b c in
-      omega (arith, plain-item h k refl, balance-more w read h k none, balance-none w read, worth-plain w read 19 k refl refl)
-  export-counts a b c k (there e₁₈ (there e₁₉ other)) e = absurd (clash (rw (e₁₈, e₁₉)) e)
+  pub export-counts : (h : Head) (k : Forest) → eqb (h .tag) 5 ≡ false → takesUp (h .tag) ≡ false → oneOf (8 ∷ 10 ∷ []) (h .tag) ≡ false
+      → itemed (one h k) ≡ callsIn w read k + balanceOf w read k
+  export-counts h k e p q =
+      omega (arith, plain-item h k e, balance-more w read h k none, balance-none w read, worth-plain w read (h .tag) k p q)
 
   module _ (old : (y letter : ℕ) → read < y → w (y ∷ []) letter ≡ 0) where
     -- a new name counts nothing

@@ -1,28 +1,26 @@
 -- What stays an item of a Program that is lowered is no using.
 -- Assumes nothing.
 use mathlib.Core.Path.{_≡_, refl}
-use mathlib.Core.Bool.{Bool, true, false, not, _&&_}
-use mathlib.Core.List.{[], _∷_}
-use lib.Dec.{eqb}
-use Prim.Native.Nat.{ℕ}
-use Rattle.meaning.specs.Tree.{if_then_else_, oneOf, Head, hd, Forest, none, more, _&_}
+use mathlib.Core.Bool.{false}
+use Rattle.meaning.specs.Tree.{Head, Forest, none, more, _&_}
 use Rattle.meaning.specs.Scoping.{Store, Change}
 use Rattle.meaning.specs.Statements.{isUsing, anyUsing}
 use Rattle.meaning.specs.Program.{
   Split,
+  topLevelClass,
   topLevelDeclaration,
   exportedDeclaration,
   exportedClass,
-  exportedItem,
   defaultClass,
   defaultValue,
-  keepsDefault,
-  defaultItem,
+  ItemAct,
+  itemAs,
   programItem,
   programItems,
   enterProgram,
 }
-use Rattle.spec_laws.specs.Tags.{Seen, other, here, there, seen, clash, or-none}
+use Rattle.spec_laws.specs.Tags.{or-none}
+use Rattle.charge_laws.specs.Growth.Items.{Anything, anything, staying-tag, ChosenItem, as-kept, as-moved, as-class, as-declaration, as-exported-declaration, as-exported-class, as-default-class, as-default-value, chosen-item}
 
 no-using-& : (f g : Forest) → anyUsing f ≡ false → anyUsing g ≡ false → anyUsing (f & g) ≡ false
 unfolding anyUsing _&_
@@ -35,47 +33,21 @@ no-using-& (more h k r) g p q =
 abbrev Keeps : Change Split → Store → Type 0
 Keeps c st = anyUsing ((c st) .0 .kept) ≡ false
 
-keeps-if : (b : Bool) (x y : Change Split) (st : Store) → (b ≡ true → Keeps x st) → (b ≡ false → Keeps y st)
-    → Keeps (if b then x else y) st
-keeps-if true x y st p q = p refl
-keeps-if false x y st p q = q refl
-
-default-kept : (a b c : ℕ) (k : Forest) (st : Store) → Keeps (defaultItem (hd 18 a b c) k) st
-unfolding defaultItem defaultClass defaultValue anyUsing isUsing
-default-kept a b c none st = refl
-default-kept a b c (more h₁ k₁ r₁) st =
-    keeps-if (keepsDefault h₁) _ _ st (λ _. refl)
-    (λ _. keeps-if (eqb (h₁ .tag) 15 && eqb (h₁ .a) 0 && not (eqb (h₁ .c) 0)) (defaultClass h₁ k₁) (defaultValue h₁ k₁) st
-    (λ _. refl)
-    (λ _. refl))
-
-exported-kept : (a b c : ℕ) (k : Forest) (st : Store) → Keeps (exportedItem (hd 19 a b c) k) st
-unfolding exportedItem exportedClass exportedDeclaration anyUsing isUsing
-exported-kept a b c none st = refl
-exported-kept a b c (more h₁ k₁ r₁) st =
-    keeps-if (eqb (h₁ .tag) 15) (exportedClass h₁ k₁) _ st (λ _. refl)
-    (λ _. keeps-if (eqb (h₁ .tag) 5) (exportedDeclaration k₁) _ st (λ _. refl) (λ _. refl))
-
--- by the tag: only functions, imports and exports stay
-item-kept : {t : ℕ} (a b c : ℕ) (k : Forest) (st : Store) → Seen (13 ∷ 17 ∷ 18 ∷ 19 ∷ []) t → Keeps (programItem (hd t a b c) k) st
-unfolding programItem topLevelDeclaration anyUsing isUsing
-item-kept a b c k st here = refl
-item-kept a b c k st (there e₁₃ here) = refl
-item-kept a b c k st (there e₁₃ (there e₁₇ here)) = default-kept a b c k st
-item-kept a b c k st (there e₁₃ (there e₁₇ (there e₁₈ here))) = exported-kept a b c k st
-item-kept {t} a b c k st (there e₁₃ (there e₁₇ (there e₁₈ (there e₁₉ other)))) =
-    let h = hd t a b c in
-    let stays : oneOf (13 ∷ 17 ∷ []) t ≡ false = rw (e₁₃, e₁₇) in
-    keeps-if (oneOf (13 ∷ 17 ∷ []) t) _ _ st (λ e. absurd (clash stays e))
-    (λ _. keeps-if (eqb t 18) (defaultItem h k) _ st (λ e. absurd (clash e₁₈ e))
-    (λ _. keeps-if (eqb t 19) (exportedItem h k) _ st (λ e. absurd (clash e₁₉ e))
-    (λ _. keeps-if (eqb t 15) _ _ st (λ _. refl) (λ _. keeps-if (eqb t 5) (topLevelDeclaration h k) _ st (λ _. refl) (λ _. refl)))))
+item-kept : {x : ItemAct} {h : Head} {k : Forest} (st : Store) → ChosenItem Anything x h k → Keeps (itemAs x h k) st
+unfolding itemAs topLevelClass topLevelDeclaration exportedDeclaration exportedClass defaultClass defaultValue anyUsing isUsing
+item-kept st (as-kept s) = rw (staying-tag s .1)
+item-kept st (as-moved e₁₃ e₁₇ e₁₈ e₁₉ e₁₅ e₅) = refl
+item-kept st as-class = refl
+item-kept st as-declaration = refl
+item-kept st (as-exported-declaration anything) = refl
+item-kept st (as-exported-class anything) = refl
+item-kept st (as-default-class named anything) = refl
+item-kept st (as-default-value e d anything) = refl
 
 items-kept : (f : Forest) (st : Store) → Keeps (programItems f) st
-unfolding programItems anyUsing
+unfolding programItems programItem anyUsing
 items-kept none st = refl
-items-kept (more h k r) st =
-    no-using-& _ _ (item-kept (h .a) (h .b) (h .c) k st (seen (13 ∷ 17 ∷ 18 ∷ 19 ∷ []) (h .tag))) (items-kept r _)
+items-kept (more h k r) st = no-using-& _ _ (item-kept st (chosen-item h k)) (items-kept r _)
 
 -- So no using stands directly in a lowered Program.
 pub program-list : (h : Head) (k : Forest) (st : Store) → anyUsing ((enterProgram h k st) .0 .children) ≡ false

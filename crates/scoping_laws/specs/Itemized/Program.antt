@@ -7,12 +7,13 @@ use Prim.Native.Nat.{ℕ, zero, suc, _+_, _≤_}
 use native.Mathlib.Nat.{zero-add, suc-add}
 use native.Mathlib.Omega.{arith}
 use lib.ListN.{length, length-append}
-use Rattle.meaning.specs.Tree.{oneOf, Head, hd, Forest, none, more, one, count, size, _&_}
-use Rattle.meaning.specs.Scoping.{Store, insertScopeBelow}
-use Rattle.meaning.specs.Shapes.{block}
-use Rattle.meaning.specs.Program.{programItem, programItems, enterProgram}
-use Rattle.meaning.specs.Charges.{Line, lineCharge, total, itemLines}
-use Rattle.charge_laws.specs.Growth.Program.{Exports, program-pays}
+use Rattle.meaning.specs.Tree.{oneOf, Head, Forest, none, more, one, count, size, _&_}
+use Rattle.meaning.specs.Scoping.{Store}
+use Rattle.meaning.specs.Program.{itemAct, programItem, programItems}
+use Rattle.meaning.specs.Charges.{total, actLines, itemLines}
+use Rattle.spec_laws.specs.Figures.{total-++}
+use Rattle.charge_laws.specs.Growth.Items.{Exports, only-item}
+use Rattle.charge_laws.specs.Growth.Program.{item-pays}
 use Rattle.tables.specs.Loops.{turns}
 use Rattle.tables.specs.Stream.{Buf}
 use Rattle.tables.specs.declared.Row.{Row}
@@ -21,7 +22,7 @@ use Rattle.representation.specs.Store.Agreed.{Agreed}
 use Rattle.scoping_laws.specs.Created.Held.{freeSymbols}
 use Rattle.rewrite_items.specs.Items.{PassingF, transformItemF}
 use Rattle.scoping_laws.specs.Itemized.Held.{held}
-use Rattle.scoping_laws.specs.Itemized.Items.{itemsRows, itemsSymbols, itemRows, itemSymbols, linesOf, item-law}
+use Rattle.scoping_laws.specs.Itemized.Items.{itemsRows, itemsSymbols, itemRows, itemSymbols, item-law}
 
 -- what they come to: of each item what stays, and then what moves
 unfoldable pub mixed : Forest → Store → List Row
@@ -32,17 +33,10 @@ mixed (more h k r) st =
 
 -- ---- sums
 
-total-more : (xs ys : List Line)
-    → (total (xs ++ ys) .records ≡ total (xs ++ []) .records + total ys .records)
-    × (total (xs ++ ys) .symbols ≡ total (xs ++ []) .symbols + total ys .symbols)
-unfolding total
-total-more [] ys = omega arith
-total-more (x ∷ xs) ys = omega (arith, total-more xs ys)
-
-items-more : (h : Head) (k r : Forest)
+pub items-more : (h : Head) (k r : Forest)
     → (itemsRows (more h k r) ≡ itemRows h k + itemsRows r) × (itemsSymbols (more h k r) ≡ itemSymbols h k + itemsSymbols r)
 unfolding itemLines
-items-more h k r = total-more (linesOf (h .tag) k) (itemLines r)
+items-more h k r = let e = total-++ (actLines (itemAct h k)) (itemLines r) in (e .0, e .2)
 
 pub free-more : (m n : ℕ) (z : List ℕ) → freeSymbols (m + n) z ≡ freeSymbols m (freeSymbols n z)
 unfolding freeSymbols
@@ -50,18 +44,10 @@ free-more zero n z = rw (zero-add n)
 free-more (suc m) n z = rw (suc-add m n, free-more m n z)
 
 -- an item becomes so many records
-block-size : (kept moved : Forest) (scope : ℕ) → size ((kept & none) & block scope (moved & none)) ≡ suc (size kept + size moved)
-unfolding size
-block-size kept moved scope =
-    omega (arith, size-& (kept & none) (block scope (moved & none)), size-& kept none, size-& moved none)
-
 item-size : (h : Head) (k : Forest) (st : Store) → (oneOf (18 ∷ 19 ∷ []) (h .tag) ≡ true → count k ≡ 1)
     → (let s = programItem h k st .0 in size (s .kept) + size (s .moved) ≡ size (one h k) + itemRows h k)
-unfolding enterProgram programItems size total lineCharge
-item-size h k st x =
-    let (s, st′) = programItem h k st in
-    let scope = insertScopeBelow 0 (s .moved & none) st′ .0 in
-    omega (arith, program-pays (hd 1 0 0 0) (one h k) st (x, tt) .records, block-size (s .kept) (s .moved) scope)
+unfolding programItem
+item-size h k st x = let s = programItem h k st .0 in omega (arith, item-pays st (only-item h k x) .records, size-& (s .kept) (s .moved))
 
 -- ---- the store after all items
 

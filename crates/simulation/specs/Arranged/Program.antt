@@ -12,7 +12,8 @@ use Rattle.meaning.specs.Program.{Split, programItems, enterProgram}
 use Rattle.meaning.specs.Charges.{lineCharge, total}
 use Rattle.meaning.specs.Walk.{Crumb, Spot, at, storeAt}
 use Rattle.charge_laws.specs.Growth.Rows.{scope-below}
-use Rattle.charge_laws.specs.Growth.Program.{Exports, program-pays}
+use Rattle.charge_laws.specs.Growth.Items.{Exports}
+use Rattle.charge_laws.specs.Growth.Program.{program-pays}
 use Rattle.tables.specs.Table.{cap-one, capped, closedRowF}
 use Rattle.tables.specs.Stream.{replaceRowF}
 use Rattle.tables.specs.declared.Row.{Row}

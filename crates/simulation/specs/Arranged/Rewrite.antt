@@ -8,7 +8,7 @@ use lib.ListN.{length, length-append}
 use Rattle.meaning.specs.Tree.{Forest, count, size}
 use Rattle.meaning.specs.Scoping.{Store}
 use Rattle.meaning.specs.Program.{Split, programItems}
-use Rattle.charge_laws.specs.Growth.Program.{Exports}
+use Rattle.charge_laws.specs.Growth.Items.{Exports}
 use Rattle.tables.specs.Table.{cap-one, capped, closedRowF}
 use Rattle.tables.specs.Stream.{Buf, emitF}
 use Rattle.tables.specs.declared.Row.{Row}
