@@ -8,3 +8,5 @@ pub mod Contexts
 pub mod Items
 pub mod Entered
 pub mod Childless
+-- An accepted file is written as it was read.
+pub mod Written
