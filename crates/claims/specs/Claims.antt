@@ -1,18 +1,20 @@
 -- WHAT IS CLAIMED, demand by demand.
 --
--- The public functions are `checking::check`, `checking::figures`, `start::start`, `walk::visit` (with `walk::is_over`) and `lowering::lower`.
+-- The public functions are `checking::check`, `checking::figures`, `start::start`, `walk::visit` (with `walk::is_over` and `walk::visit_some`)
+-- and `lowering::lower`; crate desk has the calls for C.
 -- None has a `requires`, and each ensures an equation for all inputs, the lent memory included:
 --   check    answers `checkedOf (readFile file)`,
 --   figures  answers `figuredOf (figuresOf file)`,
 --   start    answers and leaves `startF file records scopes symbols`,
 --   visit    leaves `visitF` of the tables and the walk that it is handed,
+--   is_over  answers `isOverF` of them (`isOverIn`), and visit_some answers and leaves `visitSomeF`,
 --   lower    answers and leaves `lowerF file records scopes symbols out`.
 -- The claims below are about these same definitions. `readFile`, `figuresOf`, `admit`, `visits`, `dues`, `finalFigures`, `lastSpot`, `written`
 -- and `lower` are document 01 (crate meaning); `visitCharges` tells the charges without the walk. A list of numbers stands for a lent slice;
 -- `lentIn r s y` are the rows of tables.
 -- Assumes nothing.
 use mathlib.Core.Path.{_≡_, sym, ap, _∙_}
-use mathlib.Core.Bool.{true}
+use mathlib.Core.Bool.{true, false}
 use mathlib.Core.List.{List, map}
 use mathlib.Core.Logic.{_⊎_}
 use Prim.Native.Nat.{ℕ, _+_, _*_, _≤_, _<_}
@@ -33,15 +35,21 @@ use Rattle.charge_laws.specs.Fit.Ends.{walk-ends}
 use Rattle.charge_laws.specs.Fit.Final.{charges-final}
 use Rattle.bound_laws.specs.NumbersFit.{Bytes}
 use Rattle.figures.specs.Figures.{shownFigures}
+use Rattle.tables.specs.Loops.{turns}
+use Rattle.path.specs.Path.{Tables}
 use Rattle.start.specs.declared.Started.the-variants.{Refused as NotStarted}
 use Rattle.start.specs.Start.{begun, lentIn, ready, startOf, startF}
 use Rattle.start.specs.Filled.{admitted}
+use Rattle.walk.specs.Visit.{visitF}
+use Rattle.walk.specs.Over.{isOverIn, over-stays}
+use Rattle.walk.specs.Plain.{visitSomeF, some-visits}
 use Rattle.hint_laws.specs.Hints.{ofRead, asked, given}
 use Rattle.bound_laws.specs.Last.{last-spot, last-is}
 use Rattle.readback_laws.specs.ReadBack.{fieldsOf, fieldCount, isRecord}
 use Rattle.readback_laws.specs.Decoded.{treeIn}
 use Rattle.readback_laws.specs.Back.{Childless, hints-back}
 use Rattle.readback_laws.specs.Childless.{accepted-childless}
+use Rattle.readback_laws.specs.Written.{file-written}
 use Rattle.representation.specs.Shown.Shown.{recordsIn, scopesIn, symbolsIn}
 use Rattle.claims.specs.Refusals.Numbers.{read-numbers, figures-numbers, admit-numbers, lower-numbers}
 use Rattle.claims.specs.Refusals.Small.{Short, firstShort, small-refused, refused-small, lower-total, short-output, enough-output}
@@ -56,6 +64,7 @@ use Rattle.claims.specs.Calls.{
   calls-tree,
   calls-scopes,
   calls-symbols,
+  calls-over,
   calls-count,
   calls-most,
   file-shows,
@@ -100,6 +109,11 @@ pub always-answered : (bytes : List ℕ) (lent : Lent) (out : ℕ)
 always-answered = lower-total
 
 -- ---- DEMAND 2: the lowered file is 01's
+
+-- Reading and writing are inverse: an accepted file is, byte for byte, what writing makes of what was read. Each byte is at most 255, as in
+-- every `&[u8]`.
+pub read-written : (bytes : List ℕ) (f : File) → Bytes bytes → readFile bytes ≡ accepted f → written f ≡ bytes
+read-written = file-written
 
 -- 01's proved cases, and more, as a table: each file gets the answer written beside it.
 pub cases-hold : map (λ c. lower (c .input) (c .rows) (c .output)) table ≡ map (λ c. c .answer) table
@@ -156,6 +170,9 @@ pub record Demand3 (bytes r s y : List ℕ) (f : File) (k : ℕ) : Type 0 where
   -- the walk has as many visits as charges, and where it is over is its last spot
   pub ends : isOver (visits k (start f)) ≡ leb (length (visitCharges f)) k
   pub last : isOver (visits k (start f)) ≡ true → visits k (start f) ≡ lastSpot f
+  -- over is told exactly when 01's walk is over, and then a call leaves every number of the tables and the walk as it is
+  pub overTold : isOverIn (afterCalls k f r s y) ≡ isOver (visits k (start f))
+  pub overStays : isOverIn (afterCalls k f r s y) ≡ true → visitF (afterCalls k f r s y) ≡ afterCalls k f r s y
   -- an accepted lowering writes what the last visit leaves, and answers the final figures
   pub writes : (out : ℕ) → finalFigures f .bytes ≤ out
       → lower bytes (lentIn r s y) out ≡ accepted (record { file = written (fileAt (lastSpot f)); figures = finalFigures f })
@@ -190,6 +207,8 @@ demand-3 bytes r s y f b e k =
       final = sym (charges-final bytes f read);
       ends = walk-ends bytes f k read;
       last = last-is bytes f k read;
+      overTold = calls-over bytes r s y f e k;
+      overStays = over-stays (afterCalls k f r s y);
       writes = λ out h. enough-output bytes (lentIn r s y) out f e h;
       recordsShown = shown .0;
       scopesShown = shown .1;
@@ -197,6 +216,14 @@ demand-3 bytes r s y f b e k =
       lengthShown = last-length bytes r s y f b e;
       contextsShown = shown .3;
     }
+
+-- Some visits in one call are the visits that it reports, one after the other, on any tables: none once the walk is over, and otherwise one at
+-- least and n at most.
+pub visits-reported : (n : ℕ) (q : Tables)
+    → let v = visitSomeF n q in
+    (v .tables ≡ turns (v .visits) visitF q) × (v .visits ≤ n) × (isOverIn q ≡ true → v .visits ≡ 0)
+    × (isOverIn q ≡ false → 1 ≤ n → 1 ≤ v .visits)
+visits-reported = some-visits
 
 -- REFUSAL 9 EXACTLY. Whatever file and tables are handed in: if the checks before it are passed and a final figure is above the rows lent,
 -- lowering is refused with 9, the place being the first that is short;
