@@ -16,8 +16,8 @@
 use mathlib.Core.Path.{_≡_, sym, ap, _∙_}
 use mathlib.Core.Bool.{true, false}
 use mathlib.Core.List.{List, map}
-use mathlib.Core.Logic.{_⊎_}
-use Prim.Native.Nat.{ℕ, _+_, _*_, _≤_, _<_}
+use mathlib.Core.Logic.{_⊎_, ⊎-map}
+use Prim.Native.Nat.{ℕ, suc, _+_, _*_, _≤_, _<_}
 use lib.Dec.{eqb, leb}
 use lib.ListN.{length, take}
 use Rattle.meaning.specs.Tree.{size, flatten}
@@ -34,7 +34,8 @@ use Rattle.charge_laws.specs.Fit.Accepted.{accepted-dues}
 use Rattle.charge_laws.specs.Fit.Ends.{walk-ends}
 use Rattle.charge_laws.specs.Fit.Final.{charges-final}
 use Rattle.bound_laws.specs.NumbersFit.{Bytes}
-use Rattle.figures.specs.Figures.{shownFigures}
+use Rattle.figures.specs.Figures.{shownFigures, figuredOf}
+use Rattle.checking.specs.Flat.{checkedOf}
 use Rattle.tables.specs.Loops.{turns}
 use Rattle.path.specs.Path.{Tables}
 use Rattle.start.specs.declared.Started.the-variants.{Refused as NotStarted}
@@ -53,9 +54,25 @@ use Rattle.readback_laws.specs.Written.{file-written}
 use Rattle.representation.specs.Shown.Shown.{recordsIn, scopesIn, symbolsIn}
 use Rattle.claims.specs.Refusals.Numbers.{read-numbers, figures-numbers, admit-numbers, lower-numbers}
 use Rattle.claims.specs.Refusals.Small.{Short, firstShort, small-refused, refused-small, lower-total, short-output, enough-output}
+use Rattle.lowering.specs.declared.Lowered.{Lowered}
 use Rattle.lowering.specs.declared.Lowered.the-variants.{Written as WrittenIn, Refused}
 use Rattle.lowering.specs.Lower.{finished, zerosFor, writtenOver, lowerOf, lowerF}
 use Rattle.lowering.specs.Law.{last-tagged, last-length}
+use Rattle.lowering.specs.Answers.{
+  checkedNumbers,
+  figuredNumbers,
+  startedNumbers,
+  loweredNumbers,
+  outcomeNumbers,
+  plainNumbers,
+  checked-numbers,
+  figured-numbers,
+  started-numbers,
+  lowered-numbers,
+}
+use Rattle.desk.specs.Numbers.{walkNumbers, walkIn, numbers-kept, begunNumbers}
+use Rattle.path.specs.declared.Walk.{Walk}
+use Rattle.claims.specs.Desk.{deskCalls, inNumbers, desk-calls}
 use Rattle.claims.specs.Hinting.{last-hints}
 use Rattle.claims.specs.Calls.{
   firstTables,
@@ -103,10 +120,35 @@ pub refused-start-keeps : (bytes r s y : List ℕ) (c p : ℕ) → admit bytes (
 unfolding startF
 refused-start-keeps bytes r s y c p e = ap (λ (a : Outcome File). startOf a r s y) e
 
--- Every input is refused or lowered. That the code ends and does not misbehave is part of each function's proof.
-pub always-answered : (bytes : List ℕ) (lent : Lent) (out : ℕ)
-    → ((w : Written) × (lower bytes lent out ≡ accepted w)) ⊎ ((c : ℕ) × (p : ℕ) × (lower bytes lent out ≡ refused c p))
-always-answered = lower-total
+-- Every call of lower answers the final figures of the file that it admits, or a refusal with a number from 1 to 10. That the code ends and
+-- does not misbehave is part of each function's proof.
+pub always-answered : (bytes r s y o : List ℕ)
+    → let answer = lowerF bytes r s y o .answer in
+    ((f : File) × (admit bytes (lentIn r s y) ≡ accepted f) × (answer ≡ WrittenIn (shownFigures (finalFigures f))))
+    ⊎ ((c : ℕ) × (p : ℕ) × (1 ≤ c) × (c ≤ 10) × (answer ≡ Refused c p))
+unfolding lowerF
+always-answered bytes r s y o =
+    let answered : Outcome Written → Lowered = λ a. lowerOf a r s y o .answer in
+    ⊎-map
+    (λ (f, e, w). (f, e, ap answered w))
+    (λ (c, p, e). let n = lower-numbers bytes (lentIn r s y) (length o) c p e in (c, p, n .0, n .1, ap answered e))
+    (lower-total bytes (lentIn r s y) (length o))
+
+-- What the calls answer is an enum. In 01's numbers (the refusal's number or 0, its place, then the figures) it is 01's answer.
+pub check-answers : (bytes : List ℕ) → checkedNumbers (checkedOf (readFile bytes)) ≡ plainNumbers (readFile bytes)
+check-answers bytes = checked-numbers (readFile bytes)
+
+pub figures-answers : (bytes : List ℕ) → figuredNumbers (figuredOf (figuresOf bytes)) ≡ outcomeNumbers (λ g. g) (figuresOf bytes)
+figures-answers bytes = figured-numbers (figuresOf bytes)
+
+pub start-answers : (bytes r s y : List ℕ) → startedNumbers (startF bytes r s y .answer) ≡ plainNumbers (admit bytes (lentIn r s y))
+unfolding startF
+start-answers bytes r s y = started-numbers (admit bytes (lentIn r s y)) r s y
+
+pub lower-answers : (bytes r s y o : List ℕ)
+    → loweredNumbers (lowerF bytes r s y o .answer) ≡ outcomeNumbers (λ w. w .figures) (lower bytes (lentIn r s y) (length o))
+unfolding lowerF
+lower-answers bytes r s y o = lowered-numbers (lower bytes (lentIn r s y) (length o)) r s y o
 
 -- ---- DEMAND 2: the lowered file is 01's
 
@@ -224,6 +266,16 @@ pub visits-reported : (n : ℕ) (q : Tables)
     (v .tables ≡ turns (v .visits) visitF q) × (v .visits ≤ n) × (isOverIn q ≡ true → v .visits ≡ 0)
     × (isOverIn q ≡ false → 1 ≤ n → 1 ≤ v .visits)
 visits-reported = some-visits
+
+-- THROUGH C. The eleven numbers in which a walk is kept lose nothing of it,
+pub walk-kept : (w : Walk) → walkIn (walkNumbers w) ≡ w
+walk-kept = numbers-kept
+
+-- so demand 3 holds of calls of `desk_visit` too: after `desk_start` and k + 1 of them, each handed what the one before left, the tables and the
+-- walk's numbers are those of as many visits, and the last call has answered 1 if 01's walk is over, and else 0.
+pub desk-visits : (bytes r s y : List ℕ) (f : File) → admit bytes (lentIn r s y) ≡ accepted f → (old : List ℕ) (k : ℕ)
+    → deskCalls (suc k) (begunNumbers old (startF bytes r s y)) ≡ inNumbers (isOver (visits (suc k) (start f))) (afterCalls (suc k) f r s y)
+desk-visits = desk-calls
 
 -- REFUSAL 9 EXACTLY. Whatever file and tables are handed in: if the checks before it are passed and a final figure is above the rows lent,
 -- lowering is refused with 9, the place being the first that is short;

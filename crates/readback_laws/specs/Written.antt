@@ -10,10 +10,8 @@ use lib.Seq.{drop-cons}
 use lib.Dec.{eqb, leb, ltb}
 use borrow.Author.Tests.{eqb-true, leb-true, le-leb}
 use Rattle.meaning.specs.Numbers.Tag
-use Rattle.meaning.specs.Tree.{if_then_else_, Head, Forest, none, more, count, Row, row, flatten}
+use Rattle.meaning.specs.Tree.{if_then_else_, Head, Forest, count, Row, row, flatten}
 use Rattle.meaning.specs.File.{
-  Scope,
-  Symbol,
   File,
   numbersOf,
   hasChildren,
@@ -34,7 +32,7 @@ use Rattle.meaning.specs.declared.Place.the-variants.{Settings, ScopeRow, Symbo
 use Rattle.meaning.specs.declared.Field.{Field}
 use Rattle.spec_laws.specs.Tags.{and-left, and-right}
 use Rattle.spec_laws.specs.Trees.{numbers-most}
-use Rattle.parsing.specs.Parsed.{FieldAt, RecordAt, Parsed, parsed-none, parsed-more, ParsedFile}
+use Rattle.parsing.specs.Parsed.{FieldAt, Parsed, parsed-none, parsed-more, ParsedFile}
 use Rattle.parsing.specs.Fields.{only-tag}
 use Rattle.parsing.specs.Files.{file-parsed}
 use Rattle.bound_laws.specs.NumbersFit.{Bytes, tag-most}
