@@ -51,6 +51,7 @@ use Rattle.readback_laws.specs.Decoded.{treeIn}
 use Rattle.readback_laws.specs.Back.{Childless, hints-back}
 use Rattle.readback_laws.specs.Childless.{accepted-childless}
 use Rattle.readback_laws.specs.Written.{file-written}
+use Rattle.readback_laws.specs.Loads.Written.{isLoad, loads-written}
 use Rattle.representation.specs.Shown.Shown.{recordsIn, scopesIn, symbolsIn}
 use Rattle.claims.specs.Refusals.Numbers.{read-numbers, figures-numbers, admit-numbers, lower-numbers}
 use Rattle.claims.specs.Refusals.Small.{Short, firstShort, small-refused, refused-small, lower-total, short-output, enough-output}
@@ -223,8 +224,9 @@ pub record Demand3 (bytes r s y : List ℕ) (f : File) (k : ℕ) : Type 0 where
   pub scopesShown : fieldCount (λ t. eqb t 41) (fieldsOf (written (fileAt (lastSpot f)))) ≡ finalFigures f .scopes
   pub symbolsShown : fieldCount (λ t. eqb t 42) (fieldsOf (written (fileAt (lastSpot f)))) ≡ finalFigures f .symbols
   pub lengthShown : length (written (fileAt (lastSpot f))) ≡ finalFigures f .bytes
-  -- and the number of contexts is how many the walk made
+  -- and the number of contexts is how many the walk made, and how many Loads it added: those written are those read, and one for each
   pub contextsShown : storeAt (lastSpot f) .contexts ≡ finalFigures f .contexts
+  pub loadsShown : fieldCount isLoad (fieldsOf (written (fileAt (lastSpot f)))) ≡ fieldCount isLoad (fieldsOf bytes) + finalFigures f .contexts
 
 -- DEMAND 3. Each byte is at most 255, as in every `&[u8]`.
 pub demand-3 : (bytes r s y : List ℕ) (f : File) → Bytes bytes → admit bytes (lentIn r s y) ≡ accepted f → (k : ℕ) → Demand3 bytes r s y f k
@@ -257,6 +259,7 @@ demand-3 bytes r s y f b e k =
       symbolsShown = shown .2;
       lengthShown = last-length bytes r s y f b e;
       contextsShown = shown .3;
+      loadsShown = loads-written bytes f b read;
     }
 
 -- Some visits in one call are the visits that it reports, one after the other, on any tables: none once the walk is over, and otherwise one at

@@ -219,6 +219,28 @@ invented-records = refl
 pub no-inventing : inventing ≡ lower → ⊥
 no-inventing e = omega (arith, invented-records, whole-records, ap (λ (l : Lowering). recordsSaid (on l whole)) e)
 
+-- and one context more
+abbrev contextMore : Figures → Figures
+contextMore g = figures (g .records) (g .scopes) (g .symbols) (suc (g .contexts)) (g .bytes)
+
+unfoldable pub inventingContexts : Lowering
+inventingContexts file lent out = withFigures contextMore (lower file lent out)
+
+abbrev contextsSaid : Outcome Written → ℕ
+contextsSaid (accepted w) = w .figures .contexts
+contextsSaid (refused c p) = 0
+
+whole-contexts : contextsSaid (on lower whole) ≡ 1
+unfolding computing
+whole-contexts = refl
+
+invented-contexts : contextsSaid (on inventingContexts whole) ≡ 2
+unfolding inventingContexts computing
+invented-contexts = refl
+
+pub no-inventing-contexts : inventingContexts ≡ lower → ⊥
+no-inventing-contexts e = omega (arith, invented-contexts, whole-contexts, ap (λ (l : Lowering). contextsSaid (on l whole)) e)
+
 -- ---- one letter for all (excluded by `hints`)
 
 -- a block with an `await using`

@@ -72,7 +72,7 @@ settled-if true h d d₀ r₀ p st e = refl
 settled-if false h d d₀ r₀ p st e = e ∙ ap (λ (f : Forest). plug f p) (&-assoc d₀ (one h d) r₀)
 
 -- going on changes no tree
-settled : (p : List Crumb) (d f : Forest) (st : Store) → treeAt (settle d f p st) ≡ plug (d & f) p
+pub settled : (p : List Crumb) (d f : Forest) (st : Store) → treeAt (settle d f p st) ≡ plug (d & f) p
 unfolding settle treeAt plug
 settled [] d none st = sym (&-none d)
 settled [] d (more h k r) st = refl

@@ -10,3 +10,5 @@ pub mod Entered
 pub mod Childless
 -- An accepted file is written as it was read.
 pub mod Written
+-- The Loads written are those read and one for each context.
+pub mod Loads
