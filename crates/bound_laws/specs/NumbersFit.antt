@@ -35,7 +35,7 @@ FieldWithin x = (x .a ≤ 65535) × (x .b ≤ 65535) × (x .c ≤ 65535)
 past : (t n : ℕ) → 29 < t → leb n 29 ≡ true → eqb t n ≡ false
 past t n l e = ne-eqb t n (λ q. omega (arith, leb-true n 29 e))
 
-tag-most : (b : Bool) (p : Place) (syms : ℕ) (x : Field) → leb (x .tag) 29 ≡ b → right p syms x ≡ true → x .tag ≤ 29
+pub tag-most : (b : Bool) (p : Place) (syms : ℕ) (x : Field) → leb (x .tag) 29 ≡ b → right p syms x ≡ true → x .tag ≤ 29
 unfolding right
 tag-most true p syms x e r = leb-true (x .tag) 29 e
 tag-most false p syms x e r =

@@ -9,7 +9,7 @@ use lib.ListN.{length}
 use Rattle.meaning.specs.Tree.{size, flatten}
 use Rattle.meaning.specs.File.{File, written}
 use Rattle.meaning.specs.Reading.{accepted}
-use Rattle.meaning.specs.Walk.{Spot, visits, start, treeAt, storeAt, fileAt}
+use Rattle.meaning.specs.Walk.{Spot, isOver, visits, start, treeAt, storeAt, fileAt}
 use Rattle.meaning.specs.Charges.{Figures, _⊕_, total, figuresIn, figuresAt, finalFigures}
 use Rattle.meaning.specs.Due.{dues}
 use Rattle.meaning.specs.Lowering.{admit, lastSpot}
@@ -23,6 +23,8 @@ use Rattle.representation.specs.Spots.Spots.{held}
 use Rattle.start.specs.Start.{lentIn, freeRows, zerosBehind}
 use Rattle.start.specs.Filled.{admitted}
 use Rattle.walk.specs.Visit.{visitF}
+use Rattle.walk.specs.Over.{isOverIn}
+use Rattle.simulation.specs.Visit.{over-told}
 use Rattle.simulation.specs.Visits.{at-spot}
 use Rattle.simulation.specs.Started.{visits-after-start}
 use Rattle.bound_laws.specs.Last.{last-figures}
@@ -60,6 +62,11 @@ module _ (bytes r s y : List ℕ) (f : File) (e : admit bytes (lentIn r s y) ≡
 
     pub calls-symbols : symbolsIn after ≡ storeAt spot .symbols
     calls-symbols = ap symbolsIn (visits-after-start bytes r s y f e k) ∙ held-symbols spot _ _
+
+    -- ---- the end
+
+    pub calls-over : isOverIn after ≡ isOver spot
+    calls-over = ap isOverIn (visits-after-start bytes r s y f e k) ∙ over-told spot _ _
 
     -- ---- how many there are
 

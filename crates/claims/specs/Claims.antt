@@ -1,21 +1,23 @@
 -- WHAT IS CLAIMED, demand by demand.
 --
--- The public functions are `checking::check`, `checking::figures`, `start::start`, `walk::visit` (with `walk::is_over`) and `lowering::lower`.
+-- The public functions are `checking::check`, `checking::figures`, `start::start`, `walk::visit` (with `walk::is_over` and `walk::visit_some`)
+-- and `lowering::lower`; crate desk has the calls for C.
 -- None has a `requires`, and each ensures an equation for all inputs, the lent memory included:
 --   check    answers `checkedOf (readFile file)`,
 --   figures  answers `figuredOf (figuresOf file)`,
 --   start    answers and leaves `startF file records scopes symbols`,
 --   visit    leaves `visitF` of the tables and the walk that it is handed,
+--   is_over  answers `isOverF` of them (`isOverIn`), and visit_some answers and leaves `visitSomeF`,
 --   lower    answers and leaves `lowerF file records scopes symbols out`.
 -- The claims below are about these same definitions. `readFile`, `figuresOf`, `admit`, `visits`, `dues`, `finalFigures`, `lastSpot`, `written`
 -- and `lower` are document 01 (crate meaning); `visitCharges` tells the charges without the walk. A list of numbers stands for a lent slice;
 -- `lentIn r s y` are the rows of tables.
 -- Assumes nothing.
 use mathlib.Core.Path.{_≡_, sym, ap, _∙_}
-use mathlib.Core.Bool.{true}
+use mathlib.Core.Bool.{true, false}
 use mathlib.Core.List.{List, map}
-use mathlib.Core.Logic.{_⊎_}
-use Prim.Native.Nat.{ℕ, _+_, _*_, _≤_, _<_}
+use mathlib.Core.Logic.{_⊎_, ⊎-map}
+use Prim.Native.Nat.{ℕ, suc, _+_, _*_, _≤_, _<_}
 use lib.Dec.{eqb, leb}
 use lib.ListN.{length, take}
 use Rattle.meaning.specs.Tree.{size, flatten}
@@ -32,22 +34,46 @@ use Rattle.charge_laws.specs.Fit.Accepted.{accepted-dues}
 use Rattle.charge_laws.specs.Fit.Ends.{walk-ends}
 use Rattle.charge_laws.specs.Fit.Final.{charges-final}
 use Rattle.bound_laws.specs.NumbersFit.{Bytes}
-use Rattle.figures.specs.Figures.{shownFigures}
+use Rattle.figures.specs.Figures.{shownFigures, figuredOf}
+use Rattle.checking.specs.Flat.{checkedOf}
+use Rattle.tables.specs.Loops.{turns}
+use Rattle.path.specs.Path.{Tables}
 use Rattle.start.specs.declared.Started.the-variants.{Refused as NotStarted}
 use Rattle.start.specs.Start.{begun, lentIn, ready, startOf, startF}
 use Rattle.start.specs.Filled.{admitted}
+use Rattle.walk.specs.Visit.{visitF}
+use Rattle.walk.specs.Over.{isOverIn, over-stays}
+use Rattle.walk.specs.Plain.{visitSomeF, some-visits}
 use Rattle.hint_laws.specs.Hints.{ofRead, asked, given}
 use Rattle.bound_laws.specs.Last.{last-spot, last-is}
 use Rattle.readback_laws.specs.ReadBack.{fieldsOf, fieldCount, isRecord}
 use Rattle.readback_laws.specs.Decoded.{treeIn}
 use Rattle.readback_laws.specs.Back.{Childless, hints-back}
 use Rattle.readback_laws.specs.Childless.{accepted-childless}
+use Rattle.readback_laws.specs.Written.{file-written}
+use Rattle.readback_laws.specs.Loads.Written.{isLoad, loads-written}
 use Rattle.representation.specs.Shown.Shown.{recordsIn, scopesIn, symbolsIn}
 use Rattle.claims.specs.Refusals.Numbers.{read-numbers, figures-numbers, admit-numbers, lower-numbers}
 use Rattle.claims.specs.Refusals.Small.{Short, firstShort, small-refused, refused-small, lower-total, short-output, enough-output}
+use Rattle.lowering.specs.declared.Lowered.{Lowered}
 use Rattle.lowering.specs.declared.Lowered.the-variants.{Written as WrittenIn, Refused}
 use Rattle.lowering.specs.Lower.{finished, zerosFor, writtenOver, lowerOf, lowerF}
 use Rattle.lowering.specs.Law.{last-tagged, last-length}
+use Rattle.lowering.specs.Answers.{
+  checkedNumbers,
+  figuredNumbers,
+  startedNumbers,
+  loweredNumbers,
+  outcomeNumbers,
+  plainNumbers,
+  checked-numbers,
+  figured-numbers,
+  started-numbers,
+  lowered-numbers,
+}
+use Rattle.desk.specs.Numbers.{walkNumbers, walkIn, numbers-kept, begunNumbers}
+use Rattle.path.specs.declared.Walk.{Walk}
+use Rattle.claims.specs.Desk.{deskCalls, inNumbers, desk-calls}
 use Rattle.claims.specs.Hinting.{last-hints}
 use Rattle.claims.specs.Calls.{
   firstTables,
@@ -56,6 +82,7 @@ use Rattle.claims.specs.Calls.{
   calls-tree,
   calls-scopes,
   calls-symbols,
+  calls-over,
   calls-count,
   calls-most,
   file-shows,
@@ -94,12 +121,42 @@ pub refused-start-keeps : (bytes r s y : List ℕ) (c p : ℕ) → admit bytes (
 unfolding startF
 refused-start-keeps bytes r s y c p e = ap (λ (a : Outcome File). startOf a r s y) e
 
--- Every input is refused or lowered. That the code ends and does not misbehave is part of each function's proof.
-pub always-answered : (bytes : List ℕ) (lent : Lent) (out : ℕ)
-    → ((w : Written) × (lower bytes lent out ≡ accepted w)) ⊎ ((c : ℕ) × (p : ℕ) × (lower bytes lent out ≡ refused c p))
-always-answered = lower-total
+-- Every call of lower answers the final figures of the file that it admits, or a refusal with a number from 1 to 10. That the code ends and
+-- does not misbehave is part of each function's proof.
+pub always-answered : (bytes r s y o : List ℕ)
+    → let answer = lowerF bytes r s y o .answer in
+    ((f : File) × (admit bytes (lentIn r s y) ≡ accepted f) × (answer ≡ WrittenIn (shownFigures (finalFigures f))))
+    ⊎ ((c : ℕ) × (p : ℕ) × (1 ≤ c) × (c ≤ 10) × (answer ≡ Refused c p))
+unfolding lowerF
+always-answered bytes r s y o =
+    let answered : Outcome Written → Lowered = λ a. lowerOf a r s y o .answer in
+    ⊎-map
+    (λ (f, e, w). (f, e, ap answered w))
+    (λ (c, p, e). let n = lower-numbers bytes (lentIn r s y) (length o) c p e in (c, p, n .0, n .1, ap answered e))
+    (lower-total bytes (lentIn r s y) (length o))
+
+-- What the calls answer is an enum. In 01's numbers (the refusal's number or 0, its place, then the figures) it is 01's answer.
+pub check-answers : (bytes : List ℕ) → checkedNumbers (checkedOf (readFile bytes)) ≡ plainNumbers (readFile bytes)
+check-answers bytes = checked-numbers (readFile bytes)
+
+pub figures-answers : (bytes : List ℕ) → figuredNumbers (figuredOf (figuresOf bytes)) ≡ outcomeNumbers (λ g. g) (figuresOf bytes)
+figures-answers bytes = figured-numbers (figuresOf bytes)
+
+pub start-answers : (bytes r s y : List ℕ) → startedNumbers (startF bytes r s y .answer) ≡ plainNumbers (admit bytes (lentIn r s y))
+unfolding startF
+start-answers bytes r s y = started-numbers (admit bytes (lentIn r s y)) r s y
+
+pub lower-answers : (bytes r s y o : List ℕ)
+    → loweredNumbers (lowerF bytes r s y o .answer) ≡ outcomeNumbers (λ w. w .figures) (lower bytes (lentIn r s y) (length o))
+unfolding lowerF
+lower-answers bytes r s y o = lowered-numbers (lower bytes (lentIn r s y) (length o)) r s y o
 
 -- ---- DEMAND 2: the lowered file is 01's
+
+-- Reading and writing are inverse: an accepted file is, byte for byte, what writing makes of what was read. Each byte is at most 255, as in
+-- every `&[u8]`.
+pub read-written : (bytes : List ℕ) (f : File) → Bytes bytes → readFile bytes ≡ accepted f → written f ≡ bytes
+read-written = file-written
 
 -- 01's proved cases, and more, as a table: each file gets the answer written beside it.
 pub cases-hold : map (λ c. lower (c .input) (c .rows) (c .output)) table ≡ map (λ c. c .answer) table
@@ -156,6 +213,9 @@ pub record Demand3 (bytes r s y : List ℕ) (f : File) (k : ℕ) : Type 0 where
   -- the walk has as many visits as charges, and where it is over is its last spot
   pub ends : isOver (visits k (start f)) ≡ leb (length (visitCharges f)) k
   pub last : isOver (visits k (start f)) ≡ true → visits k (start f) ≡ lastSpot f
+  -- over is told exactly when 01's walk is over, and then a call leaves every number of the tables and the walk as it is
+  pub overTold : isOverIn (afterCalls k f r s y) ≡ isOver (visits k (start f))
+  pub overStays : isOverIn (afterCalls k f r s y) ≡ true → visitF (afterCalls k f r s y) ≡ afterCalls k f r s y
   -- an accepted lowering writes what the last visit leaves, and answers the final figures
   pub writes : (out : ℕ) → finalFigures f .bytes ≤ out
       → lower bytes (lentIn r s y) out ≡ accepted (record { file = written (fileAt (lastSpot f)); figures = finalFigures f })
@@ -164,8 +224,9 @@ pub record Demand3 (bytes r s y : List ℕ) (f : File) (k : ℕ) : Type 0 where
   pub scopesShown : fieldCount (λ t. eqb t 41) (fieldsOf (written (fileAt (lastSpot f)))) ≡ finalFigures f .scopes
   pub symbolsShown : fieldCount (λ t. eqb t 42) (fieldsOf (written (fileAt (lastSpot f)))) ≡ finalFigures f .symbols
   pub lengthShown : length (written (fileAt (lastSpot f))) ≡ finalFigures f .bytes
-  -- and the number of contexts is how many the walk made
+  -- and the number of contexts is how many the walk made, and how many Loads it added: those written are those read, and one for each
   pub contextsShown : storeAt (lastSpot f) .contexts ≡ finalFigures f .contexts
+  pub loadsShown : fieldCount isLoad (fieldsOf (written (fileAt (lastSpot f)))) ≡ fieldCount isLoad (fieldsOf bytes) + finalFigures f .contexts
 
 -- DEMAND 3. Each byte is at most 255, as in every `&[u8]`.
 pub demand-3 : (bytes r s y : List ℕ) (f : File) → Bytes bytes → admit bytes (lentIn r s y) ≡ accepted f → (k : ℕ) → Demand3 bytes r s y f k
@@ -190,13 +251,34 @@ demand-3 bytes r s y f b e k =
       final = sym (charges-final bytes f read);
       ends = walk-ends bytes f k read;
       last = last-is bytes f k read;
+      overTold = calls-over bytes r s y f e k;
+      overStays = over-stays (afterCalls k f r s y);
       writes = λ out h. enough-output bytes (lentIn r s y) out f e h;
       recordsShown = shown .0;
       scopesShown = shown .1;
       symbolsShown = shown .2;
       lengthShown = last-length bytes r s y f b e;
       contextsShown = shown .3;
+      loadsShown = loads-written bytes f b read;
     }
+
+-- Some visits in one call are the visits that it reports, one after the other, on any tables: none once the walk is over, and otherwise one at
+-- least and n at most.
+pub visits-reported : (n : ℕ) (q : Tables)
+    → let v = visitSomeF n q in
+    (v .tables ≡ turns (v .visits) visitF q) × (v .visits ≤ n) × (isOverIn q ≡ true → v .visits ≡ 0)
+    × (isOverIn q ≡ false → 1 ≤ n → 1 ≤ v .visits)
+visits-reported = some-visits
+
+-- THROUGH C. The eleven numbers in which a walk is kept lose nothing of it,
+pub walk-kept : (w : Walk) → walkIn (walkNumbers w) ≡ w
+walk-kept = numbers-kept
+
+-- so demand 3 holds of calls of `desk_visit` too: after `desk_start` and k + 1 of them, each handed what the one before left, the tables and the
+-- walk's numbers are those of as many visits, and the last call has answered 1 if 01's walk is over, and else 0.
+pub desk-visits : (bytes r s y : List ℕ) (f : File) → admit bytes (lentIn r s y) ≡ accepted f → (old : List ℕ) (k : ℕ)
+    → deskCalls (suc k) (begunNumbers old (startF bytes r s y)) ≡ inNumbers (isOver (visits (suc k) (start f))) (afterCalls (suc k) f r s y)
+desk-visits = desk-calls
 
 -- REFUSAL 9 EXACTLY. Whatever file and tables are handed in: if the checks before it are passed and a final figure is above the rows lent,
 -- lowering is refused with 9, the place being the first that is short;

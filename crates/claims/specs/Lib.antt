@@ -1,6 +1,7 @@
 -- What is claimed, and the last steps of its proofs.
 pub mod Hinting
 pub mod Calls
+pub mod Desk
 pub mod ShutOut
 pub mod Claims
 pub mod Refusals

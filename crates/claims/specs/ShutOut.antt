@@ -9,13 +9,17 @@ use lib.ListN.{length}
 use Rattle.meaning.specs.Tree.{Forest, none}
 use Rattle.meaning.specs.File.{File, written}
 use Rattle.meaning.specs.Reading.{Outcome, accepted, refused, _>>=_, _>>_, readFile}
-use Rattle.meaning.specs.Walk.{Spot, visits, start, fileAt}
+use Rattle.meaning.specs.Walk.{Spot, isOver, visits, start, fileAt}
 use Rattle.meaning.specs.Charges.{Figures, figures, figuresAt, finalFigures}
 use Rattle.meaning.specs.Lowering.{Lent, Written, checkOutput, checkFile, admit, lastSpot, lower}
 use Rattle.meaning.specs.Notation.{bytes}
 use Rattle.meaning.specs.Computing.{computing}
 use Rattle.meaning.specs.Hint.{hintOf, letterOf}
 use Rattle.spec_laws.specs.Tags.{clash}
+use Rattle.path.specs.Path.{Tables}
+use Rattle.representation.specs.Spots.Spots.{Rest, held}
+use Rattle.walk.specs.Over.{isOverIn}
+use Rattle.simulation.specs.Visit.{over-told}
 use Rattle.hint_laws.specs.Hints.{sumOver, namesOf, ofInitializer, overDeclarators, usingsIn, asksFor, asked}
 
 -- ---- two files and what is seen of an answer
@@ -176,6 +180,25 @@ honest-records = refl
 pub no-haste : hasty ≡ honest → ⊥
 no-haste e = omega (arith, hasty-records, honest-records, ap recordsAfterOne e)
 
+-- ---- never over (excluded by `overTold` of `demand-3`)
+
+-- what is told of the tables: there is always a visit left
+abbrev neverOver : Tables → Bool
+neverOver q = false
+
+-- the end of the walk over the empty Program
+abbrev end : Spot
+end = lastSpot (fileOf (readFile empty))
+
+end-over : isOver end ≡ true
+unfolding computing
+end-over = refl
+
+pub no-endless : neverOver ≡ isOverIn → ⊥
+no-endless e =
+    let rest : Rest = record { records = []; scopes = []; symbols = [] } in
+    clash refl (ap (λ (o : Tables → Bool). o (held end 0 rest)) e ∙ over-told end 0 rest ∙ end-over)
+
 -- ---- invented figures (excluded by the counts in the written file, `demand-3`)
 
 -- one record more than there are
@@ -195,6 +218,28 @@ invented-records = refl
 
 pub no-inventing : inventing ≡ lower → ⊥
 no-inventing e = omega (arith, invented-records, whole-records, ap (λ (l : Lowering). recordsSaid (on l whole)) e)
+
+-- and one context more
+abbrev contextMore : Figures → Figures
+contextMore g = figures (g .records) (g .scopes) (g .symbols) (suc (g .contexts)) (g .bytes)
+
+unfoldable pub inventingContexts : Lowering
+inventingContexts file lent out = withFigures contextMore (lower file lent out)
+
+abbrev contextsSaid : Outcome Written → ℕ
+contextsSaid (accepted w) = w .figures .contexts
+contextsSaid (refused c p) = 0
+
+whole-contexts : contextsSaid (on lower whole) ≡ 1
+unfolding computing
+whole-contexts = refl
+
+invented-contexts : contextsSaid (on inventingContexts whole) ≡ 2
+unfolding inventingContexts computing
+invented-contexts = refl
+
+pub no-inventing-contexts : inventingContexts ≡ lower → ⊥
+no-inventing-contexts e = omega (arith, invented-contexts, whole-contexts, ap (λ (l : Lowering). contextsSaid (on l whole)) e)
 
 -- ---- one letter for all (excluded by `hints`)
 

@@ -1,46 +1,18 @@
 -- What the calls for C answer and leave, in numbers.
 -- Assumes nothing.
+use mathlib.Core.Path.{_≡_, refl}
 use Prim.Native.Nat.{ℕ}
 use mathlib.Core.Bool.{cond}
 use mathlib.Core.List.{List, [], _∷_}
 use lib.ListN.{getD}
-use Rattle.figures.specs.declared.FinalFigures.{FinalFigures}
-use Rattle.figures.specs.declared.Figured.{Figured}
-use Rattle.figures.specs.declared.Figured.the-variants as figured
-use Rattle.checking.specs.declared.Checked.{Checked}
-use Rattle.checking.specs.declared.Checked.the-variants as checked
 use Rattle.path.specs.declared.Walk.{Walk}
 use Rattle.path.specs.Path.{Tables}
 use Rattle.start.specs.declared.Started.{Started}
 use Rattle.start.specs.declared.Started.the-variants as started
 use Rattle.start.specs.Start.{Begun}
 use Rattle.walk.specs.Visit.{isOverF}
-use Rattle.lowering.specs.declared.Lowered.{Lowered}
-use Rattle.lowering.specs.declared.Lowered.the-variants as lowered
 use Rattle.lowering.specs.Lower.{Finished}
-
--- ---- answers: 01's refusal number or 0, its place, then records, scopes, symbols, contexts and bytes
-
-abbrev pub refusalNumbers : ℕ → ℕ → List ℕ
-refusalNumbers c p = c ∷ p ∷ 0 ∷ 0 ∷ 0 ∷ 0 ∷ 0 ∷ []
-
-abbrev pub fineNumbers : List ℕ
-fineNumbers = refusalNumbers 0 0
-
-abbrev pub figuresNumbers : FinalFigures → List ℕ
-figuresNumbers g = 0 ∷ 0 ∷ g .records ∷ g .scopes ∷ g .symbols ∷ g .contexts ∷ g .bytes ∷ []
-
-abbrev pub checkedNumbers : Checked → List ℕ
-checkedNumbers checked.Fine = fineNumbers
-checkedNumbers (checked.Refused c p) = refusalNumbers c p
-
-abbrev pub figuredNumbers : Figured → List ℕ
-figuredNumbers (figured.Fine g) = figuresNumbers g
-figuredNumbers (figured.Refused c p) = refusalNumbers c p
-
-abbrev pub loweredNumbers : Lowered → List ℕ
-loweredNumbers (lowered.Written g) = figuresNumbers g
-loweredNumbers (lowered.Refused c p) = refusalNumbers c p
+use Rattle.lowering.specs.Answers.{refusalNumbers, fineNumbers, loweredNumbers, startedNumbers as answeredNumbers}
 
 -- ---- where a walk stands
 
@@ -68,6 +40,10 @@ walkIn l =
           };
     }
 
+-- they lose nothing
+pub numbers-kept : (w : Walk) → walkIn (walkNumbers w) ≡ w
+numbers-kept w = refl
+
 -- ---- what each call leaves
 
 -- an answer, the walk's numbers and the tables
@@ -88,6 +64,14 @@ startedNumbers old (started.Refused c p) = begun (refusalNumbers c p) old
 
 abbrev pub begunNumbers : List ℕ → Begun → Begins
 begunNumbers old b = startedNumbers old (b .answer) (b .records) (b .scopes) (b .symbols)
+
+-- the answer is the one in 01's numbers
+answer-told : (old : List ℕ) (a : Started) (r s y : List ℕ) → startedNumbers old a r s y .answer ≡ answeredNumbers a
+answer-told old (started.Ready w) r s y = refl
+answer-told old (started.Refused c p) r s y = refl
+
+pub answer-begun : (old : List ℕ) (b : Begun) → begunNumbers old b .answer ≡ answeredNumbers (b .answer)
+answer-begun old b = answer-told old (b .answer) (b .records) (b .scopes) (b .symbols)
 
 -- 1 or 0, the walk's numbers and the tables
 pub record Visits : Type 0 where

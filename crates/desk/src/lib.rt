@@ -21,7 +21,8 @@ ghost use Rattle.start.specs.Start.{startF};
 ghost use Rattle.path.specs.Path.{tables};
 ghost use Rattle.walk.specs.Visit.{visitF};
 ghost use Rattle.lowering.specs.Lower.{lowerF};
-ghost use Rattle.desk.specs.Numbers.{fineNumbers, refusalNumbers, figuresNumbers, checkedNumbers, figuredNumbers, walkIn, walkNumbers, begun, begunNumbers, visited, visitedNumbers, finished, finishedNumbers};
+ghost use Rattle.lowering.specs.Answers.{fineNumbers, refusalNumbers, figuresNumbers, checkedNumbers, figuredNumbers};
+ghost use Rattle.desk.specs.Numbers.{walkIn, walkNumbers, begun, begunNumbers, visited, visitedNumbers, finished, finishedNumbers};
 
 // ---- answers in numbers
 

@@ -13,7 +13,7 @@ use Rattle.tables.specs.Loops.{until}
 use Rattle.path.specs.Path.{Tables}
 use Rattle.start.specs.Flat.{fillF}
 use Rattle.walk.specs.Visit.{visitF}
-use Rattle.walk.specs.Plain.{isOverIn}
+use Rattle.walk.specs.Over.{isOverIn}
 use Rattle.writing.specs.Writing.{fileBytes}
 use Rattle.lowering.specs.Lower.{Finished, finished, zerosFor}
 use Rattle.lowering.specs.declared.Lowered.the-variants.{Written, Refused}

@@ -1,20 +1,20 @@
 -- What the code computes is 01's lowering.
 -- Assumes nothing.
 use mathlib.Core.Path.{_≡_, refl, sym, ap, _∙_}
-use mathlib.Core.Bool.{Bool, true, false, not}
+use mathlib.Core.Bool.{Bool, true, false}
 use mathlib.Core.List.{List}
-use Prim.Native.Nat.{ℕ, zero, suc, _*_, _≤_, min}
+use Prim.Native.Nat.{ℕ, _*_, _≤_, min}
 use native.Mathlib.Omega.{arith}
 use lib.Dec.{leb}
 use lib.ListN.{length}
-use borrow.Author.Tests.{not-true, leb-true, le-leb, le-ltb}
+use borrow.Author.Tests.{leb-true, le-leb}
 use Rattle.meaning.specs.Tree.{if_then_else_, Forest, none, more}
 use Rattle.meaning.specs.File.{File, written}
 use Rattle.meaning.specs.Reading.{Outcome, accepted, refused, _>>=_, _>>_, ensure}
 use Rattle.meaning.specs.Walk.{Spot, at, leaving, over, isOver, visits, start, treeAt, fileAt}
 use Rattle.meaning.specs.Charges.{Figures, figuresAt, finalFigures}
 use Rattle.meaning.specs.Lowering.{Lent, checkOutput, admit, admitOutput, lastSpot, Written, lower}
-use Rattle.spec_laws.specs.Tags.{clash, and-left, and-right}
+use Rattle.spec_laws.specs.Tags.{clash}
 use Rattle.charge_laws.specs.Totals.Fits.{accepted-fits}
 use Rattle.bound_laws.specs.Numbers.{TreeWithin}
 use Rattle.bound_laws.specs.NumbersFit.{Bytes, numbers-fit}
@@ -22,13 +22,10 @@ use Rattle.figures.specs.Figures.{shownFigures}
 use Rattle.checking.specs.declared.Surveyed.{Surveyed}
 use Rattle.checking.specs.declared.Surveyed.the-variants.{Fine, Refused as RefusedSurvey}
 use Rattle.checking.specs.Survey.{layoutOf, surveyedOf}
-use Rattle.tables.specs.Loops.{turns, until}
-use Rattle.path.specs.Path.{Tables}
 use Rattle.representation.specs.Spots.Spots.{Rest, held}
 use Rattle.start.specs.Start.{lentIn}
 use Rattle.start.specs.Flat.{fillF}
 use Rattle.start.specs.Filled.{admitted, fill-law}
-use Rattle.walk.specs.Visit.{isLeavingF, isOverF, visitF}
 use Rattle.simulation.specs.Visits.{heldIn}
 use Rattle.simulation.specs.Started.{zerosAfter, visits-after-start}
 use Rattle.writing.specs.Writing.{fileBytes}
@@ -37,36 +34,10 @@ use Rattle.bound_laws.specs.Last.{last-spot, last-over, last-figures}
 use Rattle.readback_laws.specs.ReadBack.{Tagged}
 use Rattle.readback_laws.specs.Length.{tagged-length}
 use Rattle.lowering.specs.Lower.{finished, zerosFor, writtenOver, lowerOf, lowerF}
-use Rattle.walk.specs.Plain.{isOverIn}
+use Rattle.walk.specs.Over.{until-over}
 use Rattle.lowering.specs.Flat.{admitBy, runF, finishF, lowerBy}
 use Rattle.lowering.specs.Bytes.{held-bytes}
 use Rattle.lowering.specs.declared.Lowered.the-variants.{Written as WrittenIn}
-
--- ---- visits until the walk is over
-
-module _ {A : Type 0} (stop : A → Bool) (f : A → A) (fixed : (x : A) → stop x ≡ true → f x ≡ x) where
-  stay : (n : ℕ) (x : A) → f x ≡ x → turns n f x ≡ x
-  unfolding turns
-  stay zero x e = refl
-  stay (suc n) x e = rw e (stay n x e)
-
-  until-turns : (n : ℕ) (x : A) → until n stop f x ≡ turns n f x
-  unfolding until turns
-  until-turns zero x = refl
-  until-turns (suc n) x = go (stop x) refl (until-turns n (f x))
-    where
-      go : (b : Bool) → stop x ≡ b → until n stop f (f x) ≡ turns n f (f x)
-          → (if b then x else until n stop f (f x)) ≡ turns n f (f x)
-      go true e i = sym (rw (fixed x e) (stay n x (fixed x e)))
-      go false e i = i
-
--- a visit when the walk is over changes nothing
-over-fixed : (q : Tables) → isOverIn q ≡ true → visitF q ≡ q
-unfolding isOverF visitF
-over-fixed q e =
-    let l = isLeavingF (q .records) (q .walk) in
-    let ended = leb (q .walk .end .0) (q .walk .gap .0) in
-    rw (not-true l (and-left (not l) ended e), le-ltb _ _ (leb-true _ _ (and-right (not l) ended e)))
 
 -- ---- the bytes at the end
 
@@ -106,7 +77,7 @@ module _ (b r s y : List ℕ) (f : File) (bytes : Bytes b) (e : admit b (lentIn 
   unfolding runF
   walked =
       ap (runF (2 * x .records)) (rw small at (fill-law b r s y f e))
-      ∙ until-turns isOverIn visitF over-fixed (2 * x .records) _
+      ∙ until-over (2 * x .records) _
       ∙ visits-after-start b r s y f e (2 * x .records)
       ∙ ap (heldIn x (zerosAfter f r s y)) (sym (last-spot f))
 

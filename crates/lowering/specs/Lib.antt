@@ -3,3 +3,4 @@ pub mod Lower
 pub mod Flat
 pub mod Bytes
 pub mod Law
+pub mod Answers

@@ -8,3 +8,7 @@ pub mod Contexts
 pub mod Items
 pub mod Entered
 pub mod Childless
+-- An accepted file is written as it was read.
+pub mod Written
+-- The Loads written are those read and one for each context.
+pub mod Loads

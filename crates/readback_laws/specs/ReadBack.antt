@@ -166,25 +166,25 @@ Tagged none = Unit {0}
 Tagged (more h k r) = (isRecord (h .tag) ≡ true) × Tagged k × Tagged r
 
 module _ (p : ℕ → Bool) where
-  count-++ : (rs qs : List Read) → fieldCount p (rs ++ qs) ≡ fieldCount p rs + fieldCount p qs
+  pub count-++ : (rs qs : List Read) → fieldCount p (rs ++ qs) ≡ fieldCount p rs + fieldCount p qs
   unfolding fieldCount
   count-++ [] qs = omega arith
   count-++ (r ∷ rs) qs = omega (arith, count-++ rs qs)
 
-  rows-++ : (rs qs : List Row) → fieldCount p (recordReads (rs ++ qs)) ≡ fieldCount p (recordReads rs) + fieldCount p (recordReads qs)
+  pub rows-++ : (rs qs : List Row) → fieldCount p (recordReads (rs ++ qs)) ≡ fieldCount p (recordReads rs) + fieldCount p (recordReads qs)
   unfolding fieldCount recordReads
   rows-++ [] qs = omega arith
   rows-++ (r ∷ rs) qs = omega (arith, rows-++ rs qs)
 
   -- all fields of a kind are counted, or none
-  scopes-count : (b : Bool) (ss : List Scope) → p 41 ≡ b → fieldCount p (scopeReads ss) ≡ (if b then length ss else 0)
+  pub scopes-count : (b : Bool) (ss : List Scope) → p 41 ≡ b → fieldCount p (scopeReads ss) ≡ (if b then length ss else 0)
   unfolding fieldCount scopeReads
   scopes-count true [] e = refl
   scopes-count false [] e = refl
   scopes-count true (s ∷ ss) e = rw e (omega (arith, scopes-count true ss e))
   scopes-count false (s ∷ ss) e = rw e (omega (arith, scopes-count false ss e))
 
-  symbols-count : (b : Bool) (ys : List Symbol) → p 42 ≡ b → fieldCount p (symbolReads ys) ≡ (if b then length ys else 0)
+  pub symbols-count : (b : Bool) (ys : List Symbol) → p 42 ≡ b → fieldCount p (symbolReads ys) ≡ (if b then length ys else 0)
   unfolding fieldCount symbolReads
   symbols-count true [] e = refl
   symbols-count false [] e = refl

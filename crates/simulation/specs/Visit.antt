@@ -6,7 +6,7 @@ use mathlib.Core.List.{List, [], _∷_, _++_, append-assoc}
 use Prim.Native.Nat.{ℕ, suc, _+_, _≤_}
 use native.Mathlib.Nat.{zero-add}
 use native.Mathlib.Omega.{arith}
-use borrow.Author.Tests.{eqb-true, ne-eqb, lt-ltb, le-ltb}
+use borrow.Author.Tests.{eqb-true, ne-eqb, lt-ltb, ltb-true, le-ltb, le-leb, lt-leb}
 use lib.Dec.{ltb}
 use lib.ListN.{length}
 use Rattle.meaning.specs.Tree.{Head, Forest, Node, none, one, single, count, size, _&_}
@@ -20,6 +20,7 @@ use Rattle.meaning.specs.Walk.{
   at,
   leaving,
   over,
+  isOver,
   isStaticBlock,
   enter,
   leave,
@@ -50,7 +51,8 @@ use Rattle.simulation.specs.Rewritten.Replaced.{withFree}
 use Rattle.simulation.specs.Tried.Passing.{newScopes, newSymbols}
 use Rattle.simulation.specs.Leaving.Block.{recordsFor, scopesFor, symbolsFor, leaveBy}
 use Rattle.simulation.specs.Leaving.Leaving.{leave-visit-law, leave-kept}
-use Rattle.walk.specs.Visit.{isLeavingF, visitF}
+use Rattle.walk.specs.Visit.{isLeavingF, isOverF, visitF}
+use Rattle.walk.specs.Over.{isOverIn}
 use Rattle.simulation.specs.Rows.{rows-size, settled-size, plug-other}
 use Rattle.simulation.specs.Rewrite.{newRecords, Takes, list-takes}
 use Rattle.simulation.specs.Entering.{catches, rewrite-law, enter-kept}
@@ -100,6 +102,24 @@ unfolding visitF isLeavingF held walkAt opensAt restAt
 ended tree st g z =
     let v = length (visitedAt (over tree st)) + g in
     rw (le-ltb v (v + 0) (omega arith))
+
+over-is : (tree : Forest) (st : Store) (g : ℕ) (z : Rest) → isOverIn (held (over tree st) g z) ≡ true
+unfolding isOverF isLeavingF held walkAt opensAt restAt
+over-is tree st g z =
+    let v = length (visitedAt (over tree st)) + g in
+    rw (le-leb (v + 0) v (omega arith))
+
+-- OVER IS TOLD of the tables exactly when 01's walk is over.
+pub over-told : (s : Spot) (g : ℕ) (z : Rest) → isOverIn (held s g z) ≡ isOver s
+unfolding isOverF isOver
+over-told (at done h k r path st) g z =
+    let w = held (at done h k r path st) g z .walk in
+    rw (
+      not-leaving done h k r path st g z,
+      lt-leb (w .end .0) (w .gap .0) (ltb-true (w .gap .0) (w .end .0) (goes-on done h k r path st g z)),
+    )
+over-told (leaving kids h before after path st) g z = rw (is-leaving kids h before after path st g z)
+over-told (over tree st) g z = over-is tree st g z
 
 -- ---- before a record
 

@@ -1,3 +1,4 @@
 -- The walk on tables.
 pub mod Visit
+pub mod Over
 pub mod Plain

@@ -247,7 +247,7 @@ fn enter_some(walk: Walk, limit: u32, records: &mut [u16]) -> Visited
     Visited { walk: w, visits }
 }
 
-// The next visit, and those after it that only enter a record, `limit` at most: as `visit` one by one, in less time.
+// The next visit, and those after it that only enter a record, `limit` at most: as `visit` one by one, in less time. None once the walk is over.
 pub fn visit_some(
     walk: Walk,
     limit: u32,
@@ -270,7 +270,7 @@ pub fn visit_some(
             let w = rewrite(records, scopes, symbols, walk);
             enter_some(w, limit, records)
         } else {
-            Visited { walk, visits: 1 }
+            Visited { walk, visits: 0 }
         }
     }
 }

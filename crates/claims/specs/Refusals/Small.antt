@@ -7,7 +7,7 @@ use mathlib.Core.Logic.{_⊎_, inl, inr, ⊎-elim, ⊎-map}
 use Prim.Native.Nat.{ℕ, _≤_, _<_}
 use native.Mathlib.Omega.{arith}
 use lib.Dec.{leb, ltb}
-use borrow.Author.Tests.{ltb-true, ltb-false, lt-ltb, le-leb, lt-leb}
+use borrow.Author.Tests.{ltb-true, ltb-false, lt-ltb, leb-true, leb-false, le-leb, lt-leb}
 use Rattle.meaning.specs.Tree.{if_then_else_}
 use Rattle.meaning.specs.File.{File, written}
 use Rattle.meaning.specs.Reading.{Outcome, accepted, refused, _>>=_, _>>_, ensure}
@@ -140,7 +140,27 @@ pub enough-output : (b : List ℕ) (lent : Lent) (out : ℕ) (f : File) → admi
 unfolding lower admitOutput checkOutput
 enough-output b lent out f e h = rw (e, le-leb (finalFigures f .bytes) out h)
 
--- EVERY FILE is lowered or refused.
+-- ---- EVERY FILE is lowered or refused
+
+not-admitted : (b : List ℕ) (lent : Lent) (out c p : ℕ) → admit b lent ≡ refused c p → lower b lent out ≡ refused c p
+unfolding lower admitOutput
+not-admitted b lent out c p e = rw e
+
+-- it is admitted, and the output is long enough
+abbrev pub Lowers : List ℕ → Lent → ℕ → Type 0
+Lowers b lent out =
+    (f : File) × (admit b lent ≡ accepted f)
+    × (lower b lent out ≡ accepted (record { file = written (fileAt (lastSpot f)); figures = finalFigures f }))
+
+abbrev pub Refuses : List ℕ → Lent → ℕ → Type 0
+Refuses b lent out = (c : ℕ) × (p : ℕ) × (lower b lent out ≡ refused c p)
+
+by-length : (b : List ℕ) (lent : Lent) (out : ℕ) (f : File) (c : Bool) → leb (finalFigures f .bytes) out ≡ c → admit b lent ≡ accepted f
+    → Lowers b lent out ⊎ Refuses b lent out
+by-length b lent out f true l e = inl (f, e, enough-output b lent out f e (leb-true _ _ l))
+by-length b lent out f false l e = inr (10, out, short-output b lent out f e (leb-false (finalFigures f .bytes) out l))
+
 pub lower-total : (b : List ℕ) (lent : Lent) (out : ℕ)
-    → ((w : Written) × (lower b lent out ≡ accepted w)) ⊎ ((c : ℕ) × (p : ℕ) × (lower b lent out ≡ refused c p))
-lower-total b lent out = one-of-two (lower b lent out)
+    → Lowers b lent out ⊎ Refuses b lent out
+lower-total b lent out =
+    ⊎-elim (λ (f, e). by-length b lent out f _ refl e) (λ (c, p, e). inr (c, p, not-admitted b lent out c p e)) (one-of-two (admit b lent))

@@ -7,7 +7,8 @@ use lib.ListN.{length}
 use Rattle.tables.specs.Loops.{until, run-out, stopped}
 use Rattle.path.specs.Path.{tables}
 use Rattle.walk.specs.Visit.{visitF}
-use Rattle.walk.specs.Plain.{isOverIn, some-go-on}
+use Rattle.walk.specs.Over.{isOverIn}
+use Rattle.walk.specs.Plain.{some-go-on}
 use Rattle.lowering.specs.Flat.{runF}
 use borrow.Author.Needs.{needs}
 use Rattle.lowering.proofs.run.Statement.{statement}

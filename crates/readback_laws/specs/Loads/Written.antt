@@ -1,0 +1,168 @@
+-- The Loads in the written bytes are those in the bytes read, and one for each context.
+-- Assumes nothing.
+use mathlib.Core.Path.{_≡_, refl, ap}
+use mathlib.Core.Bool.{Bool, true, false}
+use mathlib.Core.List.{List, [], _∷_}
+use Prim.Native.Nat.{ℕ, zero, suc, _+_, _*_}
+use native.Mathlib.Omega.{arith}
+use lib.Dec.{eqb}
+use Rattle.meaning.specs.Numbers.Tag
+use Rattle.meaning.specs.Tree.{if_then_else_, Head, Forest, none, more, one, single, flatten, _&_}
+use Rattle.meaning.specs.File.{File, written}
+use Rattle.meaning.specs.Scoping.{Store}
+use Rattle.meaning.specs.Reading.{accepted, readFile}
+use Rattle.meaning.specs.Walk.{
+  isStaticBlock,
+  enter,
+  leave,
+  Crumb,
+  crumb,
+  Spot,
+  at,
+  leaving,
+  over,
+  currentScope,
+  hoistScope,
+  settle,
+  visit,
+  visits,
+  storeOf,
+  start,
+  plug,
+  treeAt,
+  storeAt,
+  fileAt,
+}
+use Rattle.meaning.specs.Charges.{Figures, figuresIn, figuresAt, finalFigures}
+use Rattle.meaning.specs.Lowering.{lastSpot}
+use Rattle.charge_laws.specs.Counts.Enter.{proper}
+use Rattle.charge_laws.specs.Counts.Pending.{Pending, pending-start, pending-visit}
+use Rattle.charge_laws.specs.Fit.Accepted.{accepted-fit}
+use Rattle.bound_laws.specs.NumbersFit.{Bytes}
+use Rattle.bound_laws.specs.Last.{last-spot, last-figures}
+use Rattle.readback_laws.specs.ReadBack.{recordReads, fieldsFor, fieldsOf, read-back, fieldCount, count-++, rows-++, scopes-count, symbols-count}
+use Rattle.readback_laws.specs.Written.{file-written}
+use Rattle.hint_laws.specs.Balanced.Visit.{settled}
+use Rattle.readback_laws.specs.Loads.Contexts.{loadOf, loads, loads-&}
+use Rattle.readback_laws.specs.Loads.Entered.{enter-loads, leave-loads}
+
+-- ---- visits
+
+plug-loads : (p : List Crumb) (f g : Forest) → loads (plug f p) + loads g ≡ loads (plug g p) + loads f
+unfolding plug loads
+plug-loads [] f g = omega arith
+plug-loads (crumb h d r ∷ p) f g =
+    omega (arith, plug-loads p (d & more h f r) (d & more h g r), loads-& d (more h f r), loads-& d (more h g r))
+
+store-if : (b : Bool) (h : Head) (d d₀ r₀ : Forest) (p : List Crumb) (st : Store) → storeAt (settle (d₀ & one h d) r₀ p st) ≡ st
+    → storeAt (if b then leaving d h d₀ r₀ p st else settle (d₀ & one h d) r₀ p st) ≡ st
+unfolding storeAt
+store-if true h d d₀ r₀ p st e = refl
+store-if false h d d₀ r₀ p st e = e
+
+settled-store : (p : List Crumb) (d f : Forest) (st : Store) → storeAt (settle d f p st) ≡ st
+unfolding settle storeAt
+settled-store [] d none st = refl
+settled-store [] d (more h k r) st = refl
+settled-store (crumb h d₀ r₀ ∷ p) d none st = store-if (isStaticBlock h) h d d₀ r₀ p st (settled-store p (d₀ & one h d) r₀ st)
+settled-store (c ∷ p) d (more h k r) st = refl
+
+-- between two spots as many Loads are added as contexts are made
+abbrev Paid : Spot → Spot → Type 0
+Paid s t = loads (treeAt t) + storeAt s .contexts ≡ loads (treeAt s) + storeAt t .contexts
+
+contexts-settled : (p : List Crumb) (d f : Forest) (st : Store) → storeAt (settle d f p st) .contexts ≡ st .contexts
+contexts-settled p d f st = ap (λ (s : Store). s .contexts) (settled-store p d f st)
+
+visit-paid : (s : Spot) → Pending s → Paid s (visit s)
+unfolding visit treeAt storeAt plug loads _&_
+visit-paid (over tree st) q = refl
+visit-paid (at d h k r p st) q =
+    let e = enter (currentScope p) (hoistScope p) h k st in
+    let now = more (e .0 .head) (e .0 .children) r in
+    omega (
+      arith,
+      ap loads (settled (crumb (e .0 .head) d r ∷ p) none (e .0 .children) (e .1)),
+      contexts-settled (crumb (e .0 .head) d r ∷ p) none (e .0 .children) (e .1),
+      plug-loads p (d & now) (d & more h k r),
+      loads-& d now,
+      loads-& d (more h k r),
+      enter-loads (currentScope p) (hoistScope p) h k st (proper h k (q .0 .0)),
+    )
+visit-paid (leaving k h d r p st) q =
+    let e = leave h k st in
+    let now = single (e .0) in
+    omega (
+      arith,
+      ap loads (settled p (d & now) r (e .1)),
+      contexts-settled p (d & now) r (e .1),
+      plug-loads p ((d & now) & r) (d & more h k r),
+      loads-& (d & now) r,
+      loads-& d now,
+      loads-& d (more h k r),
+      leave-loads h k st (q .0),
+    )
+
+visits-paid : (k : ℕ) (s : Spot) → Pending s → Paid s (visits k s)
+unfolding visits
+visits-paid zero s q = refl
+visits-paid (suc k) s q = omega (arith, visit-paid s q, visits-paid k (visit s) (pending-visit s q))
+
+-- ---- a file
+
+start-loads : (f : File) → (loads (treeAt (start f)) ≡ loads (f .tree)) × (storeAt (start f) .contexts ≡ 0)
+unfolding start plug storeOf _&_
+start-loads f = (ap loads (settled [] none (f .tree) (storeOf f)), contexts-settled [] none (f .tree) (storeOf f))
+
+contexts-at : (s : Spot) → figuresAt s .contexts ≡ storeAt s .contexts
+unfolding figuresAt figuresIn fileAt
+contexts-at s = omega arith
+
+last-loads : (bytes : List ℕ) (f : File) → readFile bytes ≡ accepted f
+    → loads (treeAt (lastSpot f)) ≡ loads (f .tree) + finalFigures f .contexts
+last-loads bytes f e =
+    let n = 2 * finalFigures f .records in
+    omega (
+      arith,
+      ap (λ (s : Spot). loads (treeAt s)) (last-spot f),
+      ap (λ (s : Spot). storeAt s .contexts) (last-spot f),
+      visits-paid n (start f) (pending-start f (accepted-fit bytes f e)),
+      start-loads f,
+      contexts-at (lastSpot f),
+      ap (λ (x : Figures). x .contexts) (last-figures bytes f e),
+    )
+
+-- ---- the bytes
+
+abbrev pub isLoad : ℕ → Bool
+isLoad t = eqb t Tag.Load
+
+records-loads : (f : Forest) → fieldCount isLoad (recordReads (flatten f)) ≡ loads f
+unfolding fieldCount recordReads flatten loads loadOf
+records-loads none = refl
+records-loads (more h k r) = omega (arith, rows-++ isLoad (flatten k) (flatten r), records-loads k, records-loads r)
+
+-- the Loads of a file can be counted in its bytes
+loads-back : (g : File) → fieldCount isLoad (fieldsOf (written g)) ≡ loads (g .tree)
+unfolding fieldCount fieldsFor
+loads-back g =
+    rw (read-back g, count-++ isLoad, count-++ isLoad)
+    (omega (
+      arith,
+      scopes-count isLoad false (g .scopes) refl,
+      symbols-count isLoad false (g .symbols) refl,
+      records-loads (g .tree),
+    ))
+
+-- THE CONTEXTS ARE COUNTED in the written bytes.
+pub loads-written : (bytes : List ℕ) (f : File) → Bytes bytes → readFile bytes ≡ accepted f
+    → fieldCount isLoad (fieldsOf (written (fileAt (lastSpot f)))) ≡ fieldCount isLoad (fieldsOf bytes) + finalFigures f .contexts
+unfolding fileAt
+loads-written bytes f b e =
+    omega (
+      arith,
+      loads-back (fileAt (lastSpot f)),
+      last-loads bytes f e,
+      loads-back f,
+      ap (λ (bs : List ℕ). fieldCount isLoad (fieldsOf bs)) (file-written bytes f b e),
+    )
