@@ -1,24 +1,48 @@
 -- A Program's items keep their Loads, and no line of theirs charges a context.
 -- Assumes nothing.
 use mathlib.Core.Path.{_≡_, refl, ap}
-use mathlib.Core.Bool.{Bool, true, false, not, _&&_}
+use mathlib.Core.Bool.{Bool, true, false, _&&_}
 use mathlib.Core.List.{List, [], _∷_, _++_}
 use Prim.Native.Nat.{ℕ, _+_}
 use native.Mathlib.Omega.{arith}
 use lib.ListN.{length}
 use lib.Dec.{eqb}
-use borrow.Author.Tests.{eqb-true}
 use Rattle.meaning.specs.Numbers.Tag
-use Rattle.meaning.specs.Tree.{if_then_else_, oneOf, Head, hd, Forest, none, more, one, single, count, _&_}
+use Rattle.meaning.specs.Tree.{if_then_else_, Head, hd, Forest, none, more, one, single, _&_}
 use Rattle.meaning.specs.Shapes.{block}
-use Rattle.meaning.specs.Scoping.{Store, return, insertScopeBelow, setFlagsOf}
-use Rattle.meaning.specs.Program.{transformClassDecl, Split, split, boundNames, specifiers, topLevelDeclaration, exportedDeclaration, exportedClass, exportedItem, defaultClass, asExpression, defaultValue, keepsDefault, defaultItem, programItem, programItems, enterProgram}
-use Rattle.meaning.specs.Charges.{Line, topLevelClass, exportedClass as classLine, defaultExport, exportedNames, helper, lineCharge, total, exportLines, defaultLines, itemLines}
+use Rattle.meaning.specs.Scoping.{Store, insertScopeBelow, setFlagsOf}
+use Rattle.meaning.specs.Program.{
+  transformClassDecl,
+  Split,
+  boundNames,
+  specifiers,
+  topLevelClass,
+  topLevelDeclaration,
+  exportedDeclaration,
+  exportedClass,
+  defaultClass,
+  asExpression,
+  defaultValue,
+  ItemAct,
+  stay,
+  move,
+  lowerClass,
+  lowerDeclaration,
+  exportDeclaration,
+  exportClass,
+  exportDefaultClass,
+  exportDefaultValue,
+  itemAct,
+  itemAs,
+  programItem,
+  programItems,
+  enterProgram,
+}
+use Rattle.meaning.specs.Charges.{Line, topLevelClass as topClassLine, exportedClass as classLine, defaultExport, exportedNames, helper, lineCharge, total, actLines, itemLines}
 use Rattle.meaning.specs.Due.{anyContext, missing}
-use Rattle.spec_laws.specs.Tags.{Seen, other, here, there, seen, and-left}
 use Rattle.spec_laws.specs.Figures.{total-++}
 use Rattle.spec_laws.specs.Trees.{expression-tag}
-use Rattle.charge_laws.specs.Growth.Program.{Exports}
+use Rattle.charge_laws.specs.Growth.Items.{Exports, Alone, alone, ChosenItem, as-kept, as-moved, as-class, as-declaration, as-exported-declaration, as-exported-class, as-default-class, as-default-value, only-item}
 use Rattle.charge_laws.specs.Growth.Charged.{helperLine}
 use Rattle.readback_laws.specs.Loads.Contexts.{loadOf, loads, contextsOf, loads-&}
 
@@ -39,66 +63,27 @@ expression-loads : (h : Head) → loadOf (asExpression h .tag) ≡ loadOf (h .ta
 unfolding asExpression
 expression-loads h = ap loadOf (expression-tag (eqb (h .tag) 15) h refl)
 
-default-one : (keeps class : Bool) (h h₁ : Head) (k₁ : Forest) (st : Store) → h .tag ≡ 18 → (class ≡ true → h₁ .tag ≡ 15)
-    → KeepsItem (one h (one h₁ k₁))
-    ((if keeps then return (split (one h (one h₁ k₁)) none) else if class then defaultClass h₁ k₁ else defaultValue h₁ k₁) st)
-unfolding defaultClass defaultValue loads loadOf
-default-one true class h h₁ k₁ st b e = omega arith
-default-one false true h h₁ k₁ st b e = omega (arith, ap loadOf b, class-loads h₁ k₁ st (e refl))
-default-one false false h h₁ k₁ st b e = omega (arith, ap loadOf b, expression-loads h₁)
-
-default-keeps : (h : Head) (k : Forest) (st : Store) → h .tag ≡ 18 → count k ≡ 1 → KeepsItem (one h k) (defaultItem h k st)
-unfolding defaultItem count loads
-default-keeps h none st b c = absurd (omega arith)
-default-keeps h (more h₁ k₁ none) st b c =
-    let named = not (eqb (h₁ .c) 0) in
-    default-one (keepsDefault h₁) (eqb (h₁ .tag) 15 && eqb (h₁ .a) 0 && named) h h₁ k₁ st b
-    (λ e. eqb-true (h₁ .tag) 15 (and-left (eqb (h₁ .tag) 15) (eqb (h₁ .a) 0) (and-left (eqb (h₁ .tag) 15 && eqb (h₁ .a) 0) named e)))
-default-keeps h (more h₁ k₁ (more h₂ k₂ r)) st b c = absurd (omega arith)
-
-exported-one : (class declares : Bool) (h h₁ : Head) (k₁ : Forest) (st : Store) → h .tag ≡ 19
-    → (class ≡ true → h₁ .tag ≡ 15) → (declares ≡ true → h₁ .tag ≡ 5)
-    → KeepsItem (one h (one h₁ k₁))
-    ((if class then exportedClass h₁ k₁ else if declares then exportedDeclaration k₁ else return (split (one h (one h₁ k₁)) none)) st)
-unfolding exportedClass exportedDeclaration loads loadOf
-exported-one true declares h h₁ k₁ st b e d = omega (arith, ap loadOf b, class-loads h₁ k₁ st (e refl))
-exported-one false true h h₁ k₁ st b e d =
-    omega (
-      arith,
-      ap loadOf b,
-      ap loadOf (d refl),
-      specifiers-loads ((setFlagsOf (boundNames k₁) 1 st) .1) (boundNames k₁),
-    )
-exported-one false false h h₁ k₁ st b e d = omega arith
-
-exported-keeps : (h : Head) (k : Forest) (st : Store) → h .tag ≡ 19 → count k ≡ 1 → KeepsItem (one h k) (exportedItem h k st)
-unfolding exportedItem count loads
-exported-keeps h none st b c = absurd (omega arith)
-exported-keeps h (more h₁ k₁ none) st b c =
-    exported-one (eqb (h₁ .tag) 15) (eqb (h₁ .tag) 5) h h₁ k₁ st b (eqb-true (h₁ .tag) 15) (eqb-true (h₁ .tag) 5)
-exported-keeps h (more h₁ k₁ (more h₂ k₂ r)) st b c = absurd (omega arith)
-
-item-keeps : {t : ℕ} (a b c : ℕ) (k : Forest) (st : Store) → (oneOf (18 ∷ 19 ∷ []) t ≡ true → count k ≡ 1)
-    → Seen (13 ∷ 17 ∷ 18 ∷ 19 ∷ 15 ∷ 5 ∷ []) t → KeepsItem (one (hd t a b c) k) (programItem (hd t a b c) k st)
-unfolding programItem topLevelDeclaration loads loadOf
-item-keeps a b c k st s here = omega arith
-item-keeps a b c k st s (there e₁₃ here) = omega arith
-item-keeps a b c k st s (there e₁₃ (there e₁₇ here)) = default-keeps (hd 18 a b c) k st refl (s refl)
-item-keeps a b c k st s (there e₁₃ (there e₁₇ (there e₁₈ here))) = exported-keeps (hd 19 a b c) k st refl (s refl)
-item-keeps a b c k st s (there e₁₃ (there e₁₇ (there e₁₈ (there e₁₉ here)))) = omega (arith, class-loads (hd 15 a b c) k st refl)
-item-keeps a b c k st s (there e₁₃ (there e₁₇ (there e₁₈ (there e₁₉ (there e₁₅ here))))) = omega arith
-item-keeps {t} a b c k st s (there e₁₃ (there e₁₇ (there e₁₈ (there e₁₉ (there e₁₅ (there e₅ other)))))) =
-    rw (e₁₃, e₁₇, e₁₈, e₁₉, e₁₅, e₅) (omega arith)
+item-keeps : {x : ItemAct} {h : Head} {k : Forest} (st : Store) → ChosenItem Alone x h k → KeepsItem (one h k) (itemAs x h k st)
+unfolding itemAs topLevelClass topLevelDeclaration exportedDeclaration exportedClass defaultClass defaultValue loads loadOf
+item-keeps st (as-kept s) = omega arith
+item-keeps st (as-moved e₁₃ e₁₇ e₁₈ e₁₉ e₁₅ e₅) = omega arith
+item-keeps {h = h} {k = k} st as-class = omega (arith, class-loads h k st refl)
+item-keeps st as-declaration = omega arith
+item-keeps st (as-exported-declaration {k = k} alone) =
+    omega (arith, specifiers-loads ((setFlagsOf (boundNames k) 1 st) .1) (boundNames k))
+item-keeps st (as-exported-class {x = x} {y = y} {z = z} {k = k} alone) = omega (arith, class-loads (hd 15 x y z) k st refl)
+item-keeps st (as-default-class {y = y} {z = z} {k = k} named alone) = omega (arith, class-loads (hd 15 0 y z) k st refl)
+item-keeps st (as-default-value {h = h} e d alone) = omega (arith, expression-loads h)
 
 items-keep : (f : Forest) (st : Store) → Exports f → KeepsItem f (programItems f st)
-unfolding programItems loads
+unfolding programItems programItem loads
 items-keep none st x = refl
 items-keep (more h k r) st x =
     let item = programItem h k st in
     let rest = programItems r (item .1) in
     omega (
       arith,
-      item-keeps (h .a) (h .b) (h .c) k st (x .0) (seen (13 ∷ 17 ∷ 18 ∷ 19 ∷ 15 ∷ 5 ∷ []) (h .tag)),
+      item-keeps st (only-item h k (x .0)),
       items-keep r (item .1) (x .1),
       loads-& (item .0 .kept) (rest .0 .kept),
       loads-& (item .0 .moved) (rest .0 .moved),
@@ -132,29 +117,21 @@ free-if false p q = q
 free-++ : {xs zs : List Line} → Free xs → Free zs → Free (xs ++ zs)
 free-++ {xs} {zs} p q = record { free = omega (arith, total-++ xs zs, p .free, q .free) }
 
-default-free : (f : Forest) → Free (defaultLines f)
-unfolding defaultLines lineCharge
-default-free none = free-none
-default-free (more h k r) = free-++ (free-if (keepsDefault h) free-none (free-line defaultExport refl)) (default-free r)
-
-export-free : (f : Forest) → Free (exportLines f)
-unfolding exportLines lineCharge
-export-free none = free-none
-export-free (more h k r) =
-    free-++
-    (free-if (eqb (h .tag) Tag.Class) (free-line classLine refl)
-    (free-if (eqb (h .tag) Tag.Declaration) (free-line (exportedNames (length (boundNames k))) refl) free-none))
-    (export-free r)
+act-free : (x : ItemAct) → Free (actLines x)
+unfolding actLines lineCharge
+act-free stay = free-none
+act-free move = free-none
+act-free lowerClass = free-line topClassLine refl
+act-free lowerDeclaration = free-none
+act-free (exportDeclaration k) = free-line (exportedNames (length (boundNames k))) refl
+act-free (exportClass h k) = free-line classLine refl
+act-free (exportDefaultClass h k) = free-line defaultExport refl
+act-free (exportDefaultValue h k) = free-line defaultExport refl
 
 pub items-free : (f : Forest) → Free (itemLines f)
-unfolding itemLines lineCharge
+unfolding itemLines
 items-free none = free-none
-items-free (more h k r) =
-    free-++
-    (free-if (eqb (h .tag) Tag.Class) (free-line topLevelClass refl)
-    (free-if (eqb (h .tag) Tag.DefaultExport) (default-free k)
-    (free-if (eqb (h .tag) Tag.ExportedDeclaration) (export-free k) free-none)))
-    (items-free r)
+items-free (more h k r) = free-++ (act-free (itemAct h k)) (items-free r)
 
 pub helper-free : (st : Store) (ls : List Line) → Free (helperLine st ls)
 unfolding helperLine lineCharge
