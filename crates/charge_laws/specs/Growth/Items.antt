@@ -24,10 +24,13 @@ use Rattle.meaning.specs.Program.{
 }
 use Rattle.spec_laws.specs.Tags.{Seen, other, here, there, seen}
 
--- each export of a list has one child
+-- an export has one child; so has each of a list
+abbrev pub Export : Head → Forest → Type 0
+Export h k = oneOf (18 ∷ 19 ∷ []) (h .tag) ≡ true → count k ≡ 1
+
 abbrev pub Exports : Forest → Type 0
 Exports none = Unit {0}
-Exports (more h k r) = (oneOf (18 ∷ 19 ∷ []) (h .tag) ≡ true → count k ≡ 1) × Exports r
+Exports (more h k r) = Export h k × Exports r
 
 -- what stands behind the child of an export: anything, or nothing
 pub data Anything : Forest → Type 0 where
@@ -133,7 +136,7 @@ chosen-item h k = item h k (λ _. behind k)
     behind none = tt
     behind (more h k r) = anything
 
-pub only-item : (h : Head) (k : Forest) → (oneOf (18 ∷ 19 ∷ []) (h .tag) ≡ true → count k ≡ 1) → ChosenItem Alone (itemAct h k) h k
+pub only-item : (h : Head) (k : Forest) → Export h k → ChosenItem Alone (itemAct h k) h k
 unfolding count
 only-item h k x = item h k (λ e. behind k (x e))
   where

@@ -6,7 +6,7 @@ use mathlib.Core.List.{List, [], _∷_}
 use Prim.Native.Nat.{ℕ, _+_, _≤_, _<_}
 use native.Mathlib.Omega.{arith}
 use lib.ListN.{length}
-use Rattle.meaning.specs.Tree.{oneOf, Head, hd, Forest, none, more, one, count, _&_}
+use Rattle.meaning.specs.Tree.{oneOf, Head, hd, Forest, none, more, one, _&_}
 use Rattle.meaning.specs.Scoping.{Store, symbolIn, createSymbol, setFlagsOf, insertScopeBelow}
 use Rattle.meaning.specs.Shapes.{specifier}
 use Rattle.meaning.specs.Statements.{isUsing}
@@ -26,7 +26,7 @@ use Rattle.meaning.specs.Program.{
   programItems,
   enterProgram,
 }
-use Rattle.charge_laws.specs.Growth.Items.{Exports, Alone, alone, ChosenItem, as-kept, as-moved, as-class, as-declaration, as-exported-declaration, as-exported-class, as-default-class, as-default-value, only-item}
+use Rattle.charge_laws.specs.Growth.Items.{Export, Exports, Alone, alone, ChosenItem, as-kept, as-moved, as-class, as-declaration, as-exported-declaration, as-exported-class, as-default-class, as-default-value, only-item}
 use Rattle.charge_laws.specs.Growth.Program.{item-pays}
 use Rattle.charge_laws.specs.Counts.Program.{Kinds}
 use Rattle.hint_laws.specs.Hints.{letterFor, asksFor, callsIn}
@@ -54,7 +54,7 @@ use Rattle.hint_laws.specs.Balanced.Items.{
 
 -- ---- items only add symbols
 
-item-grows : (h : Head) (k : Forest) (st : Store) → (oneOf (18 ∷ 19 ∷ []) (h .tag) ≡ true → count k ≡ 1)
+item-grows : (h : Head) (k : Forest) (st : Store) → Export h k
     → length (st .symbols) ≤ length ((programItem h k st) .1 .symbols)
 unfolding programItem
 item-grows h k st x = omega (arith, item-pays st (only-item h k x) .rows .symbols)

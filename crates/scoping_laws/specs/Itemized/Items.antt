@@ -1,13 +1,12 @@
 -- One item of a Program: its rows and the symbols come to what 01 makes of them.
 -- Assumes nothing.
 use mathlib.Core.Path.{_≡_, sym, ap}
-use mathlib.Core.Bool.{true}
-use mathlib.Core.List.{List, [], _∷_, _++_, append-nil}
+use mathlib.Core.List.{List, _∷_, _++_, append-nil}
 use Prim.Native.Nat.{ℕ, _+_, _≤_}
 use native.Mathlib.Nat.{zero-add, add-zero}
 use native.Mathlib.Omega.{arith}
 use lib.ListN.{length}
-use Rattle.meaning.specs.Tree.{oneOf, Head, Forest, none, one, count, size}
+use Rattle.meaning.specs.Tree.{Head, Forest, none, one, count, size}
 use Rattle.meaning.specs.Scoping.{Store}
 use Rattle.meaning.specs.Program.{
   transformClassDecl,
@@ -25,7 +24,7 @@ use Rattle.meaning.specs.Program.{
   programItem,
 }
 use Rattle.meaning.specs.Charges.{lineCharge, total, actLines, itemLines}
-use Rattle.charge_laws.specs.Growth.Items.{Alone, alone, ChosenItem, as-kept, as-moved, as-class, as-declaration, as-exported-declaration, as-exported-class, as-default-class, as-default-value, only-item}
+use Rattle.charge_laws.specs.Growth.Items.{Export, Alone, alone, ChosenItem, as-kept, as-moved, as-class, as-declaration, as-exported-declaration, as-exported-class, as-default-class, as-default-value, only-item}
 use Rattle.tables.specs.Stream.{Buf}
 use Rattle.tables.specs.declared.Row.{Row}
 use Rattle.representation.specs.Gap.Cells.{line, rowsOf, gapped}
@@ -167,7 +166,7 @@ item {h = h} st ag (as-default-class {k = k} named alone) is = default-class h _
 item {h = h} st ag (as-default-value {k = k} e d alone) is = default-value h _ k st ag is
 
 -- WHAT AN ITEM COMES TO
-pub item-law : (h : Head) (k : Forest) (st : Store) → Agreed st → (oneOf (18 ∷ 19 ∷ []) (h .tag) ≡ true → count k ≡ 1)
+pub item-law : (h : Head) (k : Forest) (st : Store) → Agreed st → Export h k
     → Lowers (itemRows h k) (itemSymbols h k) h k st (programItem h k st)
 unfolding programItem
 item-law h k st ag x = let c = only-item h k x in item st ag c (is-kind c)

@@ -1,18 +1,17 @@
 -- All items of a Program, one after another.
 -- Assumes nothing.
 use mathlib.Core.Path.{_≡_, ap, ap₂, _∙_}
-use mathlib.Core.Bool.{true}
-use mathlib.Core.List.{List, [], _∷_, _++_, append-assoc, append-nil}
+use mathlib.Core.List.{List, [], _++_, append-assoc, append-nil}
 use Prim.Native.Nat.{ℕ, zero, suc, _+_, _≤_}
 use native.Mathlib.Nat.{zero-add, suc-add}
 use native.Mathlib.Omega.{arith}
 use lib.ListN.{length, length-append}
-use Rattle.meaning.specs.Tree.{oneOf, Head, Forest, none, more, one, count, size, _&_}
+use Rattle.meaning.specs.Tree.{Head, Forest, none, more, one, count, size, _&_}
 use Rattle.meaning.specs.Scoping.{Store}
 use Rattle.meaning.specs.Program.{itemAct, programItem, programItems}
 use Rattle.meaning.specs.Charges.{total, actLines, itemLines}
 use Rattle.spec_laws.specs.Figures.{total-++}
-use Rattle.charge_laws.specs.Growth.Items.{Exports, only-item}
+use Rattle.charge_laws.specs.Growth.Items.{Export, Exports, only-item}
 use Rattle.charge_laws.specs.Growth.Program.{item-pays}
 use Rattle.tables.specs.Loops.{turns}
 use Rattle.tables.specs.Stream.{Buf}
@@ -44,7 +43,7 @@ free-more zero n z = rw (zero-add n)
 free-more (suc m) n z = rw (suc-add m n, free-more m n z)
 
 -- an item becomes so many records
-item-size : (h : Head) (k : Forest) (st : Store) → (oneOf (18 ∷ 19 ∷ []) (h .tag) ≡ true → count k ≡ 1)
+item-size : (h : Head) (k : Forest) (st : Store) → Export h k
     → (let s = programItem h k st .0 in size (s .kept) + size (s .moved) ≡ size (one h k) + itemRows h k)
 unfolding programItem
 item-size h k st x = let s = programItem h k st .0 in omega (arith, item-pays st (only-item h k x) .records, size-& (s .kept) (s .moved))

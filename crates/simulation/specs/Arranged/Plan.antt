@@ -1,13 +1,12 @@
 -- What the items of a Program come to, counted on their rows.
 -- Assumes nothing.
 use mathlib.Core.Path.{_≡_, refl, ap, _∙_}
-use mathlib.Core.Bool.{true}
 use mathlib.Core.List.{List, [], _∷_, _++_, append-assoc}
 use Prim.Native.Nat.{ℕ, suc, _+_, _≤_}
 use native.Mathlib.Nat.{zero-add, add-zero}
 use native.Mathlib.Omega.{arith}
 use lib.ListN.{length}
-use Rattle.meaning.specs.Tree.{oneOf, Head, Forest, none, more, one, count, size}
+use Rattle.meaning.specs.Tree.{Head, Forest, none, more, one, count, size}
 use Rattle.meaning.specs.Scoping.{Store}
 use Rattle.meaning.specs.Program.{
   transformClassDecl,
@@ -26,7 +25,7 @@ use Rattle.meaning.specs.Program.{
   programItems,
 }
 use Rattle.meaning.specs.Charges.{Line, lineCharge, total, actLines, itemLines}
-use Rattle.charge_laws.specs.Growth.Items.{Exports, Alone, alone, ChosenItem, as-kept, as-moved, as-class, as-declaration, as-exported-declaration, as-exported-class, as-default-class, as-default-value, only-item}
+use Rattle.charge_laws.specs.Growth.Items.{Export, Exports, Alone, alone, ChosenItem, as-kept, as-moved, as-class, as-declaration, as-exported-declaration, as-exported-class, as-default-class, as-default-value, only-item}
 use Rattle.charge_laws.specs.Growth.Program.{items-pay}
 use Rattle.tables.specs.Loops.{turns}
 use Rattle.tables.specs.Table.{rowF}
@@ -91,7 +90,7 @@ module _ (z : List ℕ) (a v : List Row) (t : List ℕ) where
   item-counts st (as-default-value f c alone) e q = record { added = refl; kept = refl; moved = refl }
 
   item-counted : (h : Head) (k : Forest) (st : Store) → t ≡ table (a ++ line h (count k) ∷ (rowsOf k ++ v)) z → length a + suc (size k) ≤ 65535
-      → (oneOf (18 ∷ 19 ∷ []) (h .tag) ≡ true → count k ≡ 1)
+      → Export h k
       → (let i = itemF t (length a) in Counts i (exportedNamesF t i (length a)) (actLines (itemAct h k)) (programItem h k st .0))
   unfolding programItem
   item-counted h k st e q x =
