@@ -6,9 +6,11 @@ use Prim.Native.Nat.{ℕ}
 use Prim.Native.String.{String}
 use lib.ListN.{take}
 use Rattle.meaning.specs.Numbers.SymbolFlag
-use Rattle.meaning.specs.File.{Symbol, symbolRow}
+use Rattle.meaning.specs.Tree.{none}
+use Rattle.meaning.specs.File.{scopeRow, Symbol, symbolRow}
 use Rattle.meaning.specs.Reading.{Outcome, accepted, refused, readFile}
-use Rattle.meaning.specs.Scoping.{getBinding, blockScopedIn}
+use Rattle.meaning.specs.Scoping.{getBinding, findBinding, blockScopedIn}
+use Rattle.meaning.specs.Walk.{storeOf}
 use Rattle.meaning.specs.Charges.{Figures, figures}
 use Rattle.meaning.specs.Lowering.{Lent, Written, figuresOf, admit, admitOutput, lower}
 use Rattle.meaning.specs.Notation.{bytes}
@@ -83,6 +85,19 @@ rows =
 pub last-row : getBinding rows 2 13 ≡ 4
 unfolding computing
 last-row = refl
+
+-- a name is bound in the nearest scope: one row in scope 1, and one in scope 2 below it
+pub nearest-scope
+    : findBinding 2 (storeOf (record {
+      mode = 1;
+      isModule = 0;
+      scopes = scopeRow 0 16 ∷ scopeRow 1 0 ∷ [];
+      symbols = symbolRow 13 SymbolFlag.BlockScoped 2 0 ∷ symbolRow 13 SymbolFlag.BlockScoped 1 0 ∷ [];
+      tree = none;
+    })) 2 13
+    ≡ 1
+unfolding computing
+nearest-scope = refl
 
 pub moving-rows : blockScopedIn rows 2 rows 1 ≡ 2 ∷ 4 ∷ []
 unfolding computing
