@@ -28,7 +28,7 @@ use Rattle.meaning.specs.Charges.{_⊕_, total, figuresIn, finalFigures}
 use Rattle.meaning.specs.Due.{dues}
 use Rattle.charge_laws.specs.VisitCharges.{visitCharges}
 use Rattle.meaning.specs.Lowering.{Lent, Written, checkFile, figuresOf, admit, lastSpot, lower}
-use Rattle.meaning.specs.Table.{table, table-holds}
+use Rattle.cases.specs.Table.{table, table-holds}
 use Rattle.charge_laws.specs.Counts.Figures.{joined}
 use Rattle.charge_laws.specs.Fit.Accepted.{accepted-dues}
 use Rattle.charge_laws.specs.Fit.Ends.{walk-ends}

@@ -16,8 +16,7 @@ pub mod Charges
 pub mod Due
 pub mod Lowering
 pub mod Hint
--- 01's cases, computed.
+-- Files in 01's notation, and small ones computed.
 pub mod Notation
 pub mod Computing
-pub mod Table
-pub mod TableVisits
+pub mod Examples

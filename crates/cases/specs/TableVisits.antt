@@ -4,14 +4,14 @@ use mathlib.Core.Path.{_≡_, refl}
 use mathlib.Core.List.{List, [], _∷_, map}
 use Prim.Native.Nat.{ℕ, zero, suc, _*_}
 use lib.ListN.{length}
 use Rattle.meaning.specs.File.{File}
 use Rattle.meaning.specs.Reading.{Outcome, accepted, refused, readFile}
 use Rattle.meaning.specs.Walk.{Spot, visit, start}
 use Rattle.meaning.specs.Charges.{Line, Figures, _⊕_, total, figuresIn, figuresAt, finalFigures}
 use Rattle.meaning.specs.Due.{dues}
 use Rattle.meaning.specs.Lowering.{lastSpot}
 use Rattle.meaning.specs.Computing.{computing}
-use Rattle.meaning.specs.Table.{table}
+use Rattle.cases.specs.Table.{table}
 
 -- the figures after each of n visits, counted
 unfoldable pub counted : ℕ → Spot → List Figures

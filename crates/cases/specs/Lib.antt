@@ -1,0 +1,3 @@
+-- 01's cases, computed.
+pub mod Table
+pub mod TableVisits

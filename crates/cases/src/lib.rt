@@ -1,0 +1,1 @@
+// 01's cases as one table: no code.

@@ -1,0 +1,141 @@
+-- Small files, computed: each holds the definitions to a rule of 01. All of 01's cases are in crates/cases.
+-- Assumes nothing.
+use mathlib.Core.Path.{_≡_, refl}
+use mathlib.Core.List.{List, [], _∷_}
+use Prim.Native.Nat.{ℕ}
+use Prim.Native.String.{String}
+use lib.ListN.{take}
+use Rattle.meaning.specs.Numbers.SymbolFlag
+use Rattle.meaning.specs.Tree.{none}
+use Rattle.meaning.specs.File.{scopeRow, Symbol, symbolRow}
+use Rattle.meaning.specs.Reading.{Outcome, accepted, refused, readFile}
+use Rattle.meaning.specs.Scoping.{getBinding, findBinding, blockScopedIn}
+use Rattle.meaning.specs.Walk.{storeOf}
+use Rattle.meaning.specs.Charges.{Figures, figures}
+use Rattle.meaning.specs.Lowering.{Lent, Written, figuresOf, admit, admitOutput, lower}
+use Rattle.meaning.specs.Notation.{bytes}
+use Rattle.meaning.specs.Computing.{computing}
+
+abbrev lend : ℕ → ℕ → ℕ → Lent
+lend r s y = record { records = r; scopes = s; symbols = y }
+
+-- the file that a text says, lowered with rows and output enough
+abbrev lowered : String → Outcome Written
+lowered text = lower (bytes text) (lend 100 100 100) 1000
+
+-- records, scopes, symbols, contexts and length, and the file written
+abbrev gives : ℕ → ℕ → ℕ → ℕ → ℕ → String → Outcome Written
+gives r s y c b text = accepted (record { file = bytes text; figures = figures r s y c b })
+
+-- a block with one using
+abbrev wholeCase : List ℕ
+wholeCase = bytes "40:1,0 41:0,16 41:1,0 42:10,6,2,0 1:1,1 2:2,1 5:3,1 6:0,1,2 26:1 24:7,0"
+
+-- ---- reading
+
+-- a field's head is three bytes
+pub cut-head : readFile (take 16 (bytes "40:1,0 41:0,16 1:1,1")) ≡ refused 2 14
+unfolding computing
+cut-head = refl
+
+-- 3 goes before 4
+pub tag-before-length : readFile (bytes "40:1,0 41:0,16 2:1") ≡ refused 3 14
+unfolding computing
+tag-before-length = refl
+
+-- the module setting is 0 or 1
+pub module-setting : readFile (bytes "40:1,2 41:0,16 1:1,0") ≡ refused 5 0
+unfolding computing
+module-setting = refl
+
+-- a scope row is named by one record
+pub named-once : readFile (bytes "40:1,0 41:0,16 41:1,0 1:1,2 2:2,0 2:2,0") ≡ refused 5 35
+unfolding computing
+named-once = refl
+
+-- the lowest row that no record names is refused at its own field
+pub unnamed-row : readFile (bytes "40:1,0 41:0,16 41:1,0 41:1,0 41:1,0 1:1,1 2:3,0") ≡ refused 5 14
+unfolding computing
+unnamed-row = refl
+
+-- ---- figures and rows
+
+-- a Block statement's context costs 11 records, and no helper in external mode
+pub whole-figures : figuresOf wholeCase ≡ accepted (figures 18 5 3 1 209)
+unfolding figuresOf computing
+whole-figures = refl
+
+-- refusal 9 names records before scopes
+pub records-first : admit wholeCase (lend 17 4 2) ≡ refused 9 0
+unfolding computing
+records-first = refl
+
+-- the place of refusal 10 is the output's length
+pub short-output : admitOutput wholeCase (lend 18 5 3) 208 ≡ refused 10 208
+unfolding computing
+short-output = refl
+
+-- the last row of a name is bound, and a class moves with the block-scoped names
+abbrev rows : List Symbol
+rows =
+    symbolRow 11 SymbolFlag.FunctionScoped 2 0 ∷ symbolRow 12 SymbolFlag.Class 2 0 ∷ symbolRow 13 SymbolFlag.BlockScoped 2 0
+    ∷ symbolRow 13 SymbolFlag.BlockScoped 2 0
+    ∷ []
+
+pub last-row : getBinding rows 2 13 ≡ 4
+unfolding computing
+last-row = refl
+
+-- a name is bound in the nearest scope: one row in scope 1, and one in scope 2 below it
+pub nearest-scope
+    : findBinding 2 (storeOf (record {
+      mode = 1;
+      isModule = 0;
+      scopes = scopeRow 0 16 ∷ scopeRow 1 0 ∷ [];
+      symbols = symbolRow 13 SymbolFlag.BlockScoped 2 0 ∷ symbolRow 13 SymbolFlag.BlockScoped 1 0 ∷ [];
+      tree = none;
+    })) 2 13
+    ≡ 1
+unfolding computing
+nearest-scope = refl
+
+pub moving-rows : blockScopedIn rows 2 rows 1 ≡ 2 ∷ 4 ∷ []
+unfolding computing
+moving-rows = refl
+
+-- ---- rewrites
+
+-- each declaration has its own letter
+pub own-letters
+    : lowered "40:1,0 41:0,16 41:1,0 42:10,6,2,0 42:11,6,2,0 42:12,6,2,0 1:1,1 2:2,3 5:3,1 6:0,1,2 26:1 24:7,0 5:4,1 6:0,1,2 26:2 24:8,0 5:3,1 6:0,1,2 26:3 24:9,0"
+    ≡ gives 28 5 5 1 305 "40:1,0 41:0,16 41:1,0 41:1,2 41:3,0 41:1,0 42:10,6,2,0 42:11,6,2,0 42:12,6,2,0 42:5,1,1,1 42:2,17,4,0 1:1,1 11:3,3 2:2,4 5:0,1 6:0,1,2 26:4 28:1,0 5:2,1 6:0,1,2 26:1 27:0,4,1 24:7,0 5:2,1 6:0,1,2 26:2 27:1,4,1 24:8,0 5:2,1 6:0,1,2 26:3 27:0,4,1 24:9,0 12:3,1,0,2 26:5 2:4,1 29:0,4,5 2:5,1 29:2,4,0"
+unfolding computing
+own-letters = refl
+
+-- in a switch a `using` after an `await using` gets its letter
+pub running-letter
+    : lowered "40:1,0 41:0,16 41:1,0 41:2,0 42:10,6,3,0 42:11,6,3,0 1:1,1 2:2,1 9:3,3 24:1,0 10:1,2 24:2,0 5:4,1 6:0,1,2 26:1 24:7,0 10:0,1 5:3,1 6:0,1,2 26:2 24:8,0"
+    ≡ gives 29 7 4 1 313 "40:1,0 41:0,16 41:1,0 41:4,0 41:2,0 41:2,2 41:5,0 41:2,0 42:10,6,3,0 42:11,6,3,0 42:5,1,2,1 42:2,17,6,0 1:1,1 2:2,1 11:3,3 2:4,2 5:0,1 6:0,1,2 26:3 28:1,0 9:3,3 24:1,0 10:1,2 24:2,0 5:2,1 6:0,1,2 26:1 27:1,3,1 24:7,0 10:0,1 5:2,1 6:0,1,2 26:2 27:1,3,1 24:8,0 12:5,1,0,2 26:4 2:6,1 29:0,3,4 2:7,1 29:2,3,0"
+unfolding computing
+running-letter = refl
+
+-- a catch parameter moves with the lowered handler, which costs 12 records as a try part
+pub handler-moves
+    : lowered "40:1,0 41:0,16 41:1,0 41:1,2 41:3,0 42:10,17,4,0 42:11,6,4,0 1:1,1 11:1,2 2:2,0 12:3,1,0,2 26:1 2:4,1 5:3,1 6:0,1,2 26:2 24:7,0"
+    ≡ gives 23 8 4 1 278 "40:1,0 41:0,16 41:1,0 41:1,2 41:5,0 41:3,0 41:5,2 41:6,0 41:5,0 42:10,17,5,0 42:11,6,4,0 42:5,1,1,1 42:2,17,7,0 1:1,1 11:1,2 2:2,0 12:3,1,0,2 26:1 2:5,1 11:3,3 2:4,2 5:0,1 6:0,1,2 26:3 28:1,0 5:2,1 6:0,1,2 26:2 27:0,3,1 24:7,0 12:6,1,0,2 26:4 2:7,1 29:0,3,4 2:8,1 29:1,3,0"
+unfolding computing
+handler-moves = refl
+
+-- a ForOf's body that binds the name is wrapped in a Block
+pub body-wrapped
+    : lowered "40:1,0 41:0,16 41:1,0 41:2,0 42:10,6,2,0 42:10,2,3,0 1:1,1 8:2,0,3 5:3,1 6:0,1,1 26:1 24:7,0 2:3,1 5:1,1 6:0,1,1 26:2"
+    ≡ gives 27 7 5 1 308 "40:1,0 41:0,16 41:1,0 41:4,0 41:2,0 41:2,2 41:5,0 41:2,0 42:10,6,4,0 42:10,2,3,0 42:10,6,2,1 42:5,1,1,1 42:2,17,6,0 1:1,1 8:2,0,3 5:2,1 6:0,1,1 26:3 24:7,0 11:3,3 2:4,3 5:0,1 6:0,1,2 26:4 28:1,0 5:2,1 6:0,1,2 26:1 27:0,4,1 25:3 2:3,1 5:1,1 6:0,1,1 26:2 12:5,1,0,2 26:5 2:6,1 29:0,4,5 2:7,1 29:1,4,0"
+unfolding computing
+body-wrapped = refl
+
+-- a direct declaration becomes var; what is exported comes first, and the Block last
+pub kept-first
+    : lowered "40:1,1 41:0,17 42:10,6,1,0 42:11,6,1,0 1:1,2 5:3,1 6:0,1,2 26:1 24:7,0 19:1 5:4,1 6:0,1,2 26:2 24:8,0"
+    ≡ gives 24 5 4 1 264 "40:1,1 41:0,17 41:1,1 41:1,3 41:3,1 41:1,1 42:10,1,1,0 42:11,1,1,0 42:5,1,1,1 42:2,17,4,0 1:1,2 17:2,0,1 20:2,11 11:3,3 2:2,3 5:0,1 6:0,1,2 26:3 28:1,0 5:0,1 6:0,1,2 26:1 27:0,3,1 24:7,0 5:0,1 6:0,1,2 26:2 24:8,0 12:3,1,0,2 26:4 2:4,1 29:0,3,4 2:5,1 29:1,3,0"
+unfolding computing
+kept-first = refl
