@@ -7,6 +7,8 @@ use Prim.Native.Nat.{ℕ, _+_, _*_, _≤_}
 use native.Mathlib.Omega.{arith}
 use lib.ListN.{length}
 use lib.Dec.{eqb}
+use Rattle.meaning.specs.Numbers.Tag
+use Rattle.meaning.specs.Numbers.Kind
 use Rattle.meaning.specs.Tree.{if_then_else_, oneOf, Head, Forest, none, more, size, Row, flatten}
 use Rattle.meaning.specs.File.{File, fieldBytes, numbersOf}
 use Rattle.meaning.specs.Reading.{accepted, readFile}
@@ -15,7 +17,7 @@ use Rattle.meaning.specs.Walk.{storeOf, start, visits, treeAt, storeAt}
 use Rattle.meaning.specs.Charges.{recordBytes}
 use Rattle.spec_laws.specs.Tags.{Seen, other, here, there, seen}
 use Rattle.charge_laws.specs.Totals.Fits.{declarators, Sound, accepted-room}
-use Rattle.bound_laws.specs.Rows.{given, Kind, records, scopes, symbols, perRecord, perScope, perSymbol, rows}
+use Rattle.bound_laws.specs.Rows.{given, RowKind, records, scopes, symbols, perRecord, perScope, perSymbol, rows}
 use Rattle.bound_laws.specs.Weights.{
   Role,
   plain,
@@ -82,7 +84,7 @@ declarator-debt declarator = refl
 declarator-debt name = refl
 declarator-debt held = refl
 
-below-debt : {t : ℕ} (r : Role) (u : Bool) → Seen (1 ∷ 5 ∷ 6 ∷ 8 ∷ 19 ∷ []) t → debt (below r t u) ≤ 4 * given (eqb t 8) 1
+below-debt : {t : ℕ} (r : Role) (u : Bool) → Seen (Tag.Program ∷ Tag.Declaration ∷ Tag.Declarator ∷ Tag.ForOf ∷ Tag.ExportedDeclaration ∷ []) t → debt (below r t u) ≤ 4 * given (eqb t Tag.ForOf) 1
 unfolding below debt
 below-debt r u here = omega arith
 below-debt r u (there e₁ here) = omega (arith, declaration-debt r u)
@@ -93,7 +95,7 @@ below-debt r u (there e₁ (there e₅ (there e₆ (there e₈ (there e₁₉ ot
 
 -- ---- what a record weighs, at most
 
-one-kind : (K : Kind) → perRecord K + perScope K + perSymbol K ≡ 1
+one-kind : (K : RowKind) → perRecord K + perScope K + perSymbol K ≡ 1
 unfolding perRecord perScope perSymbol
 one-kind records = refl
 one-kind scopes = refl
@@ -108,9 +110,9 @@ one-most true = omega arith
 one-most false = omega arith
 
 abbrev extraMost : ℕ → Bool → ℕ
-extraMost t u = given u 1 + 4 * given (eqb t 15) 1 + 4 * given (eqb t 18) 1 + given (eqb t 26) 1 + given (eqb t 6) 1
+extraMost t u = given u 1 + 4 * given (eqb t Tag.Class) 1 + 4 * given (eqb t Tag.DefaultExport) 1 + given (eqb t Tag.Name) 1 + given (eqb t Tag.Declarator) 1
 
-extra-most : (K : Kind) (r : Role) (t : ℕ) (u : Bool) → extra K r t u ≤ extraMost t u + debt r
+extra-most : (K : RowKind) (r : Role) (t : ℕ) (u : Bool) → extra K r t u ≤ extraMost t u + debt r
 unfolding extra debt
 extra-most K plain t u = omega arith
 extra-most K item t u =
@@ -118,33 +120,33 @@ extra-most K item t u =
     omega (
       arith,
       times u (perRecord K + perScope K) 1 (omega arith),
-      times (eqb t 15) (3 * perRecord K + perSymbol K) 4 (omega arith),
-      times (eqb t 18) (4 * perRecord K + perSymbol K) 4 (omega arith),
+      times (eqb t Tag.Class) (3 * perRecord K + perSymbol K) 4 (omega arith),
+      times (eqb t Tag.DefaultExport) (4 * perRecord K + perSymbol K) 4 (omega arith),
     )
 extra-most K first t u =
     let o = one-kind K in
     omega (arith, times u (5 * perRecord K + perScope K + perSymbol K) 5 (omega arith), one-most u)
 extra-most K exported t u =
     let o = one-kind K in
-    omega (arith, times (eqb t 15) (4 * perRecord K + perSymbol K) 4 (omega arith))
-extra-most K declarator t u = let o = one-kind K in omega (arith, times (eqb t 6) (perRecord K) 1 (omega arith))
-extra-most K name t u = let o = one-kind K in omega (arith, times (eqb t 26) (perRecord K) 1 (omega arith))
-extra-most K held t u = let o = one-kind K in omega (arith, times (eqb t 6) (perRecord K) 1 (omega arith))
+    omega (arith, times (eqb t Tag.Class) (4 * perRecord K + perSymbol K) 4 (omega arith))
+extra-most K declarator t u = let o = one-kind K in omega (arith, times (eqb t Tag.Declarator) (perRecord K) 1 (omega arith))
+extra-most K name t u = let o = one-kind K in omega (arith, times (eqb t Tag.Name) (perRecord K) 1 (omega arith))
+extra-most K held t u = let o = one-kind K in omega (arith, times (eqb t Tag.Declarator) (perRecord K) 1 (omega arith))
 
 one-first : (b c : Bool) → given (b && c) 1 ≤ given b 1
 one-first true c = one-most c
 one-first false c = omega arith
 
-using-tag : (h : Head) → given (isUsing h) 1 ≤ given (eqb (h .tag) 5) 1
+using-tag : (h : Head) → given (isUsing h) 1 ≤ given (eqb (h .tag) Tag.Declaration) 1
 unfolding isUsing
-using-tag h = one-first (eqb (h .tag) 5) (oneOf (3 ∷ 4 ∷ []) (h .a) || oneOf (3 ∷ 4 ∷ []) (h .b))
+using-tag h = one-first (eqb (h .tag) Tag.Declaration) (oneOf (Kind.Using ∷ Kind.AwaitUsing ∷ []) (h .a) || oneOf (3 ∷ 4 ∷ []) (h .b))
 
 -- ---- what its bytes pay, and a Declaration's Declarator
 
-tag-paid : {t : ℕ} → Seen (5 ∷ 6 ∷ 8 ∷ 15 ∷ 18 ∷ 26 ∷ []) t
-    → 1 + 13 * given (eqb t 5) 1 + 8 * given (eqb t 6) 1 + 4 * given (eqb t 8) 1 + 4 * given (eqb t 15) 1 + 4 * given (eqb t 18) 1
-    + given (eqb t 26) 1
-    ≤ fieldBytes t + 7 * given (eqb t 5) 1
+tag-paid : {t : ℕ} → Seen (Tag.Declaration ∷ Tag.Declarator ∷ Tag.ForOf ∷ Tag.Class ∷ Tag.DefaultExport ∷ Tag.Name ∷ []) t
+    → 1 + 13 * given (eqb t Tag.Declaration) 1 + 8 * given (eqb t Tag.Declarator) 1 + 4 * given (eqb t Tag.ForOf) 1 + 4 * given (eqb t Tag.Class) 1 + 4 * given (eqb t Tag.DefaultExport) 1
+    + given (eqb t Tag.Name) 1
+    ≤ fieldBytes t + 7 * given (eqb t Tag.Declaration) 1
 unfolding fieldBytes numbersOf
 tag-paid here = omega arith
 tag-paid (there e₅ here) = omega arith
@@ -154,8 +156,8 @@ tag-paid (there e₅ (there e₆ (there e₈ (there e₁₅ here)))) = omega ari
 tag-paid (there e₅ (there e₆ (there e₈ (there e₁₅ (there e₁₈ here))))) = omega arith
 tag-paid (there e₅ (there e₆ (there e₈ (there e₁₅ (there e₁₈ (there e₂₆ other)))))) = rw (e₅, e₆, e₈, e₁₅, e₁₈, e₂₆) (omega arith)
 
-own-paid : (K : Kind) (r : Role) (h : Head) (d : ℕ) → given (eqb (h .tag) 5) 1 ≤ d
-    → own K r (h .tag) (isUsing h) + 7 * given (eqb (h .tag) 6) 1 + debt (below r (h .tag) (isUsing h)) ≤ fieldBytes (h .tag) + 7 * d + debt r
+own-paid : (K : RowKind) (r : Role) (h : Head) (d : ℕ) → given (eqb (h .tag) Tag.Declaration) 1 ≤ d
+    → own K r (h .tag) (isUsing h) + 7 * given (eqb (h .tag) Tag.Declarator) 1 + debt (below r (h .tag) (isUsing h)) ≤ fieldBytes (h .tag) + 7 * d + debt r
 unfolding own
 own-paid K r h d l =
     let t = h .tag in
@@ -165,13 +167,13 @@ own-paid K r h d l =
       arith,
       times u (12 * perRecord K + 4 * perScope K + 2 * perSymbol K) 12 (omega arith),
       extra-most K r t u,
-      below-debt r u (seen (1 ∷ 5 ∷ 6 ∷ 8 ∷ 19 ∷ []) t),
-      tag-paid (seen (5 ∷ 6 ∷ 8 ∷ 15 ∷ 18 ∷ 26 ∷ []) t),
+      below-debt r u (seen (Tag.Program ∷ Tag.Declaration ∷ Tag.Declarator ∷ Tag.ForOf ∷ Tag.ExportedDeclaration ∷ []) t),
+      tag-paid (seen (Tag.Declaration ∷ Tag.Declarator ∷ Tag.ForOf ∷ Tag.Class ∷ Tag.DefaultExport ∷ Tag.Name ∷ []) t),
       using-tag h,
     )
 
 -- PAID. A forest weighs no more than its bytes.
-paid : (K : Kind) (r : Role) (f : Forest) → Sound f → weigh K r f + 7 * declarators f ≤ recordBytes f + debt r
+paid : (K : RowKind) (r : Role) (f : Forest) → Sound f → weigh K r f + 7 * declarators f ≤ recordBytes f + debt r
 unfolding weigh recordBytes declarators
 paid K r none s = omega arith
 paid K r (more h k f) s =

@@ -6,6 +6,7 @@ use Prim.Native.Nat.{ℕ, zero, suc, _≤_, _<_}
 use native.Mathlib.Omega.{arith}
 use lib.ListN.{length, getD, set, length-append}
 use lib.Dec.{eqb}
+use Rattle.meaning.specs.Numbers.Tag
 use Rattle.meaning.specs.Tree.{if_then_else_, oneOf, Head, Forest, none, more, Node, _&_}
 use Rattle.meaning.specs.File.{Scope, Symbol, symbolRow}
 use Rattle.meaning.specs.Grammar.{scopeOf}
@@ -166,8 +167,8 @@ module _ {B : ℕ} (big : 32 ≤ B) where
   pub scope-of : (h : Head) → HeadWithin B h → scopeOf h ≤ B
   unfolding scopeOf
   scope-of h p =
-      either (UpTo B) (oneOf (1 ∷ 2 ∷ 3 ∷ 7 ∷ 8 ∷ 9 ∷ 12 ∷ 16 ∷ []) (h .tag)) (p .1)
-      (either (UpTo B) (oneOf (13 ∷ 15 ∷ []) (h .tag)) (p .2) (omega arith))
+      either (UpTo B) (oneOf (Tag.Program ∷ Tag.Block ∷ Tag.Plain ∷ Tag.For ∷ Tag.ForOf ∷ Tag.Switch ∷ Tag.Catch ∷ Tag.StaticBlock ∷ []) (h .tag)) (p .1)
+      (either (UpTo B) (oneOf (Tag.Function ∷ Tag.Class ∷ []) (h .tag)) (p .2) (omega arith))
 
   -- ---- scopes
 

@@ -6,6 +6,7 @@ use mathlib.Core.List.{List, [], _∷_}
 use native.Mathlib.Omega.{arith}
 use lib.ListN.{length}
 use lib.Dec.{eqb}
+use Rattle.meaning.specs.Numbers.Tag
 use Rattle.meaning.specs.Tree.{if_then_else_, Head, Forest, none, more, one, single, _&_}
 use Rattle.meaning.specs.File.{Symbol}
 use Rattle.meaning.specs.Shapes.{block, declaration}
@@ -100,7 +101,7 @@ module _ {B : ℕ} (big : 32 ≤ B) where
   initializers-within letter ctx none l c w = tt
   initializers-within letter ctx (more h k r) l c w = (
     w .0,
-    either (TreeWithin B) (eqb (h .tag) 6) (initializer-within letter ctx (h .b) k l c (w .1)) (w .1),
+    either (TreeWithin B) (eqb (h .tag) Tag.Declarator) (initializer-within letter ctx (h .b) k l c (w .1)) (w .1),
     initializers-within letter ctx r l c (w .2),
   )
 
@@ -125,7 +126,7 @@ module _ {B : ℕ} (big : 32 ≤ B) where
   for-within ctx none c w = tt
   for-within ctx (more h k r) c w = (
     w .0,
-    either (TreeWithin B) (eqb (h .tag) 4) (for-within ctx k c (w .1)) (list-within false ctx false k c (w .1)),
+    either (TreeWithin B) (eqb (h .tag) Tag.Label) (for-within ctx k c (w .1)) (list-within false ctx false k c (w .1)),
     w .2,
   )
 
@@ -133,7 +134,7 @@ module _ {B : ℕ} (big : 32 ≤ B) where
   unfolding takeUpCases
   cases-within ctx needsAwait none c w = tt
   cases-within ctx needsAwait (more h k r) c w =
-      either (TreeWithin B) (eqb (h .tag) 10)
+      either (TreeWithin B) (eqb (h .tag) Tag.Case)
       (w .0, list-within true ctx needsAwait k c (w .1), cases-within ctx (needsAwait || anyAwaitUsing k) r c (w .2))
       (w .0, w .1, cases-within ctx needsAwait r c (w .2))
 
@@ -272,7 +273,7 @@ module _ {B : ℕ} (big : 32 ≤ B) where
   block-scope-most : (f : Forest) → TreeWithin B f → lastBlockScope f ≤ B
   unfolding lastBlockScope
   block-scope-most none w = omega arith
-  block-scope-most (more h k none) w = either (UpTo B) (eqb (h .tag) 2) (w .0 .1) (omega arith)
+  block-scope-most (more h k none) w = either (UpTo B) (eqb (h .tag) Tag.Block) (w .0 .1) (omega arith)
   block-scope-most (more h k (more h′ k′ r)) w = block-scope-most (more h′ k′ r) (w .2)
 
   handler-kept : (h : Head) (k : Forest) (inside : Change Forest) (st : Store) → HeadWithin B h
@@ -289,8 +290,8 @@ module _ {B : ℕ} (big : 32 ≤ B) where
   parts-kept cur hoist none st d w = gives (λ _. tt)
   parts-kept cur hoist (more h k r) st d w =
       step
-      (branch (eqb (h .tag) 12) _ _ st (handler-kept h k (transformTryParts cur hoist k) st (w .0) (parts-kept cur hoist k st d (w .1)))
-      (branch (eqb (h .tag) 2 && anyUsing k) _ _ st (part-kept cur hoist h k st d (w .0) (w .1)) (gives (λ _. (w .0, w .1)))))
+      (branch (eqb (h .tag) Tag.Catch) _ _ st (handler-kept h k (transformTryParts cur hoist k) st (w .0) (parts-kept cur hoist k st d (w .1)))
+      (branch (eqb (h .tag) Tag.Block && anyUsing k) _ _ st (part-kept cur hoist h k st d (w .0) (w .1)) (gives (λ _. (w .0, w .1)))))
       (λ _. tt)
       (step (parts-kept cur hoist r _ d (w .2)) (λ _. tt)
       (gives (λ ((_, part), rest). within-& big (single _) _ (part .0, part .1, tt) rest)))

@@ -8,6 +8,7 @@ use native.Mathlib.Omega.{arith}
 use lib.ListN.{getD}
 use lib.Dec.{eqb, leb, ltb}
 use borrow.Author.Tests.{leb-true, leb-false, ne-eqb}
+use Rattle.meaning.specs.Numbers.Tag
 use Rattle.meaning.specs.Tree.{Forest, none}
 use Rattle.meaning.specs.File.{File, numbersOf, ownNumbers}
 use Rattle.meaning.specs.Grammar.{two, number, fieldOf, right, headOf, parentIn}
@@ -35,11 +36,11 @@ FieldWithin x = (x .a ≤ 65535) × (x .b ≤ 65535) × (x .c ≤ 65535)
 past : (t n : ℕ) → 29 < t → leb n 29 ≡ true → eqb t n ≡ false
 past t n l e = ne-eqb t n (λ q. omega (arith, leb-true n 29 e))
 
-pub tag-most : (b : Bool) (p : Place) (syms : ℕ) (x : Field) → leb (x .tag) 29 ≡ b → right p syms x ≡ true → x .tag ≤ 29
+pub tag-most : (b : Bool) (p : Place) (syms : ℕ) (x : Field) → leb (x .tag) Tag.Step ≡ b → right p syms x ≡ true → x .tag ≤ 29
 unfolding right
-tag-most true p syms x e r = leb-true (x .tag) 29 e
+tag-most true p syms x e r = leb-true (x .tag) Tag.Step e
 tag-most false p syms x e r =
-    let l : 29 < x .tag = leb-false (x .tag) 29 e in
+    let l : 29 < x .tag = leb-false (x .tag) Tag.Step e in
     absurd (clash refl (simp past at r))
 
 head-within : (x : Field) → FieldWithin x → x .tag ≤ 29 → HeadWithin 65535 (headOf x)
@@ -73,7 +74,7 @@ module _ (f : List ℕ) (bytes : Bytes f) where
   records-within parsed-none = tt
   records-within {syms} {place} {i} {at = at} (parsed-more y k r) =
       let x = fieldOf f at in (
-        rw (y .head) (head-within x (field-within at) (tag-most (leb (x .tag) 29) (place i) syms x refl (y .numbers))),
+        rw (y .head) (head-within x (field-within at) (tag-most (leb (x .tag) Tag.Step) (place i) syms x refl (y .numbers))),
         records-within k,
         records-within r,
       )

@@ -5,6 +5,7 @@ use mathlib.Core.List.{List, [], _∷_}
 use Prim.Native.Nat.{ℕ, _≤_}
 use native.Mathlib.Omega.{arith}
 use lib.Dec.{eqb}
+use Rattle.meaning.specs.Numbers.Tag
 use Rattle.meaning.specs.Tree.{if_then_else_, Head, Forest, none, more, one}
 use Rattle.meaning.specs.Scoping.{Store}
 use Rattle.meaning.specs.Statements.{isUsing}
@@ -121,14 +122,14 @@ module _ {B : ℕ} (big : 32 ≤ B) where
   unfolding namesIn
   names-most none w = tt
   names-most (more h k r) w =
-      either (All (UpTo B)) (eqb (h .tag) 26) (w .0 .1, names-most r (w .2)) (names-most r (w .2))
+      either (All (UpTo B)) (eqb (h .tag) Tag.Name) (w .0 .1, names-most r (w .2)) (names-most r (w .2))
 
   bound-names-most : (f : Forest) → TreeWithin B f → All (UpTo B) (boundNames f)
   unfolding boundNames
   bound-names-most none w = tt
   bound-names-most (more h k r) w =
-      all-++ (UpTo B) (if eqb (h .tag) 6 then namesIn k else []) (boundNames r)
-      (either (All (UpTo B)) (eqb (h .tag) 6) {y = []} (names-most k (w .1)) tt)
+      all-++ (UpTo B) (if eqb (h .tag) Tag.Declarator then namesIn k else []) (boundNames r)
+      (either (All (UpTo B)) (eqb (h .tag) Tag.Declarator) {y = []} (names-most k (w .1)) tt)
       (bound-names-most r (w .2))
 
   specifiers-within : (st : Store) (ys : List ℕ) → StoreWithin B st → All (UpTo B) ys → TreeWithin B (specifiers st ys)
@@ -140,7 +141,7 @@ module _ {B : ℕ} (big : 32 ≤ B) where
 
   expression-within : (h : Head) → HeadWithin B h → HeadWithin B (asExpression h)
   unfolding asExpression
-  expression-within h p = either (HeadWithin B) (eqb (h .tag) 15) (omega arith) p
+  expression-within h p = either (HeadWithin B) (eqb (h .tag) Tag.Class) (omega arith) p
 
   item-kept : {x : ItemAct} {h : Head} {k : Forest} (st : Store) → HeadWithin B h → TreeWithin B k → ChosenItem Anything x h k
       → Keeps B (Unit {0}) SplitWithin st (itemAs x h k st)

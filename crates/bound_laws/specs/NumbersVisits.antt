@@ -6,6 +6,7 @@ use mathlib.Core.List.{List, [], _∷_}
 use Prim.Native.Nat.{ℕ, zero, suc, _≤_}
 use native.Mathlib.Omega.{arith}
 use lib.Dec.{eqb}
+use Rattle.meaning.specs.Numbers.Tag
 use Rattle.meaning.specs.Tree.{oneOf, Head, Forest, none, more, one, _&_}
 use Rattle.meaning.specs.Grammar.{scopeOf}
 use Rattle.meaning.specs.Scoping.{Store}
@@ -89,7 +90,7 @@ module _ {B : ℕ} (big : 32 ≤ B) where
   unfolding hoistScope
   hoist-most [] p = omega arith
   hoist-most (crumb h before after ∷ path) p =
-      either (UpTo B) (oneOf (1 ∷ 13 ∷ 16 ∷ []) (h .tag)) (scope-of big h (p .0 .0)) (hoist-most path (p .1))
+      either (UpTo B) (oneOf (Tag.Program ∷ Tag.Function ∷ Tag.StaticBlock ∷ []) (h .tag)) (scope-of big h (p .0 .0)) (hoist-most path (p .1))
 
   pub settled-within : (path : List Crumb) (done f : Forest) (st : Store) → All (CrumbWithin B) path → TreeWithin B done → TreeWithin B f
       → StoreWithin B st → SpotWithin B (settle done f path st)

@@ -14,26 +14,26 @@ given b n = if b then n else 0
 
 -- what is counted: records, scopes or symbols
 
-pub data Kind : Type 0 where
-  records scopes symbols : Kind
+pub data RowKind : Type 0 where
+  records scopes symbols : RowKind
 
-unfoldable pub perRecord : Kind → ℕ
+unfoldable pub perRecord : RowKind → ℕ
 perRecord records = 1
 perRecord scopes = 0
 perRecord symbols = 0
 
-unfoldable pub perScope : Kind → ℕ
+unfoldable pub perScope : RowKind → ℕ
 perScope records = 0
 perScope scopes = 1
 perScope symbols = 0
 
-unfoldable pub perSymbol : Kind → ℕ
+unfoldable pub perSymbol : RowKind → ℕ
 perSymbol records = 0
 perSymbol scopes = 0
 perSymbol symbols = 1
 
 -- the store's rows, with the helper's symbol while it may still come
-unfoldable pub rows : Kind → Store → ℕ
+unfoldable pub rows : RowKind → Store → ℕ
 rows records st = 0
 rows scopes st = length (st .scopes)
 rows symbols st = length (st .symbols) + given (eqb (st .helper) 0) 1
@@ -46,7 +46,7 @@ helper-most true false u = omega arith
 helper-most false true u = omega arith
 helper-most false false u = omega arith
 
-pub rows-most : (K : Kind) {u : Bool} {s y c : ℕ} {a b : Store} → Grown u s y c a b
+pub rows-most : (K : RowKind) {u : Bool} {s y c : ℕ} {a b : Store} → Grown u s y c a b
     → rows K b ≤ rows K a + (s * perScope K + y * perSymbol K)
 unfolding rows perScope perSymbol
 rows-most records p = omega arith

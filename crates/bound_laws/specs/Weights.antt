@@ -7,6 +7,7 @@ use Prim.Native.Nat.{ℕ, zero, suc, _+_, _*_, _≤_}
 use native.Mathlib.Omega.{arith}
 use lib.Dec.{eqb}
 use borrow.Author.Tests.{eqb-true}
+use Rattle.meaning.specs.Numbers.Tag
 use Rattle.meaning.specs.Tree.{if_then_else_, oneOf, Head, Forest, none, more, _&_}
 use Rattle.meaning.specs.Statements.{
   isUsing,
@@ -22,7 +23,7 @@ use Rattle.meaning.specs.Statements.{
 use Rattle.meaning.specs.Contexts.{forList, takeUpFor, anyCaseUsing, takeUpCases}
 use Rattle.spec_laws.specs.Tags.{Seen, other, here, there, seen, clash}
 use Rattle.charge_laws.specs.Growth.Trees.{using-tag}
-use Rattle.bound_laws.specs.Rows.{given, Kind, perRecord, perScope, perSymbol}
+use Rattle.bound_laws.specs.Rows.{given, RowKind, perRecord, perScope, perSymbol}
 
 -- ---- what a record is to the one around it
 
@@ -61,40 +62,40 @@ inDeclarator held = plain
 -- below a record with this role and tag, which is a using or not
 unfoldable pub below : Role → ℕ → Bool → Role
 below r t u =
-    if eqb t 1 then item
-    else if eqb t 5 then inDeclaration r u
-    else if eqb t 6 then inDeclarator r
-    else if eqb t 8 then first
-    else if eqb t 19 then exported
+    if eqb t Tag.Program then item
+    else if eqb t Tag.Declaration then inDeclaration r u
+    else if eqb t Tag.Declarator then inDeclarator r
+    else if eqb t Tag.ForOf then first
+    else if eqb t Tag.ExportedDeclaration then exported
     else plain
 
 -- ---- weights
 
 -- a context: 12 records, 4 scopes and 2 symbols
-abbrev pub context : Kind → ℕ
+abbrev pub context : RowKind → ℕ
 context K = 12 * perRecord K + 4 * perScope K + 2 * perSymbol K
 
 -- what a role adds: Program's Block, a class and its export; a ForOf's new using and its Block; a Specifier; a Call
-unfoldable pub extra : Kind → Role → ℕ → Bool → ℕ
+unfoldable pub extra : RowKind → Role → ℕ → Bool → ℕ
 extra K plain t u = 0
 extra K item t u =
-    given u (perRecord K + perScope K) + given (eqb t 15) (3 * perRecord K + perSymbol K) + given (eqb t 18) (4 * perRecord K + perSymbol K)
+    given u (perRecord K + perScope K) + given (eqb t Tag.Class) (3 * perRecord K + perSymbol K) + given (eqb t Tag.DefaultExport) (4 * perRecord K + perSymbol K)
 extra K first t u = given u (5 * perRecord K + perScope K + perSymbol K)
-extra K exported t u = given (eqb t 15) (4 * perRecord K + perSymbol K)
-extra K declarator t u = given (eqb t 6) (perRecord K)
-extra K name t u = given (eqb t 26) (perRecord K)
-extra K held t u = given (eqb t 6) (perRecord K)
+extra K exported t u = given (eqb t Tag.Class) (4 * perRecord K + perSymbol K)
+extra K declarator t u = given (eqb t Tag.Declarator) (perRecord K)
+extra K name t u = given (eqb t Tag.Name) (perRecord K)
+extra K held t u = given (eqb t Tag.Declarator) (perRecord K)
 
-unfoldable pub own : Kind → Role → ℕ → Bool → ℕ
+unfoldable pub own : RowKind → Role → ℕ → Bool → ℕ
 own K r t u = perRecord K + given u (context K) + extra K r t u
 
-unfoldable pub weigh : Kind → Role → Forest → ℕ
+unfoldable pub weigh : RowKind → Role → Forest → ℕ
 weigh K r none = 0
 weigh K r (more h k f) =
     own K r (h .tag) (isUsing h) + weigh K (below r (h .tag) (isUsing h)) k + weigh K (next r) f
 
 -- a record with its children
-abbrev pub weight : Kind → Role → Head → Forest → ℕ
+abbrev pub weight : RowKind → Role → Head → Forest → ℕ
 weight K r h k = own K r (h .tag) (isUsing h) + weigh K (below r (h .tag) (isUsing h)) k
 
 -- ---- a lighter role
@@ -104,7 +105,7 @@ pub data Lighter : Role → Role → Type 0 where
   least : {r : Role} → Lighter plain r
   unnamed : Lighter held declarator
 
-lighter-own : (K : Kind) {q r : Role} (t : ℕ) (u : Bool) → Lighter q r → own K q t u ≤ own K r t u
+lighter-own : (K : RowKind) {q r : Role} (t : ℕ) (u : Bool) → Lighter q r → own K q t u ≤ own K r t u
 unfolding own extra
 lighter-own K t u same = omega arith
 lighter-own K t u least = omega arith
@@ -142,9 +143,9 @@ in-declarator unnamed = least
 lighter-below : {q r : Role} (t : ℕ) (u : Bool) → Lighter q r → Lighter (below q t u) (below r t u)
 unfolding below
 lighter-below t u l =
-    if-lighter (eqb t 1) same (if-lighter (eqb t 5) (in-declaration u l) (if-lighter (eqb t 6) (in-declarator l) same))
+    if-lighter (eqb t Tag.Program) same (if-lighter (eqb t Tag.Declaration) (in-declaration u l) (if-lighter (eqb t Tag.Declarator) (in-declarator l) same))
 
-pub lighter : (K : Kind) (f : Forest) {q r : Role} → Lighter q r → weigh K q f ≤ weigh K r f
+pub lighter : (K : RowKind) (f : Forest) {q r : Role} → Lighter q r → weigh K q f ≤ weigh K r f
 unfolding weigh
 lighter K none l = omega arith
 lighter K (more h k f) l =
@@ -177,16 +178,16 @@ unfolding after
 after-next none r = refl
 after-next (more h k f) r = next-twice r
 
-pub weigh-& : (K : Kind) (r : Role) (f g : Forest) → weigh K r (f & g) ≡ weigh K r f + weigh K (after f r) g
+pub weigh-& : (K : RowKind) (r : Role) (f g : Forest) → weigh K r (f & g) ≡ weigh K r f + weigh K (after f r) g
 unfolding _&_ weigh after
 weigh-& K r none g = omega arith
 weigh-& K r (more h k f) g = omega (arith, rw (after-next f r) at (weigh-& K (next r) f g))
 
-pub plain-& : (K : Kind) (f g : Forest) → weigh K plain (f & g) ≡ weigh K plain f + weigh K plain g
+pub plain-& : (K : RowKind) (f g : Forest) → weigh K plain (f & g) ≡ weigh K plain f + weigh K plain g
 unfolding next
 plain-& K f g = rw (after-next f plain) at (weigh-& K plain f g)
 
-pub item-& : (K : Kind) (f g : Forest) → weigh K item (f & g) ≡ weigh K item f + weigh K item g
+pub item-& : (K : RowKind) (f g : Forest) → weigh K item (f & g) ≡ weigh K item f + weigh K item g
 unfolding next
 item-& K f g = rw (after-next f item) at (weigh-& K item f g)
 
@@ -197,26 +198,26 @@ given-or true b n = omega arith
 given-or false b n = omega arith
 
 -- at most one Call more
-initializer-wrapped : (K : Kind) (f : Forest) (letter ctx m : ℕ) → weigh K plain (wrapInitializer letter ctx m f) ≤ weigh K plain f + perRecord K
+initializer-wrapped : (K : RowKind) (f : Forest) (letter ctx m : ℕ) → weigh K plain (wrapInitializer letter ctx m f) ≤ weigh K plain f + perRecord K
 unfolding wrapInitializer weigh next own extra below isUsing _&_
 initializer-wrapped K none letter ctx m = omega arith
 initializer-wrapped K (more h k r) letter ctx zero = omega arith
 initializer-wrapped K (more h k r) letter ctx (suc m) = omega (arith, initializer-wrapped K r letter ctx m)
 
-declarator-wrapped : (K : Kind) (b : Bool) (t : ℕ) (u : Bool) (k : Forest) (letter ctx m : ℕ) → eqb t 6 ≡ b
+declarator-wrapped : (K : RowKind) (b : Bool) (t : ℕ) (u : Bool) (k : Forest) (letter ctx m : ℕ) → eqb t Tag.Declarator ≡ b
     → own K plain t u + weigh K (below plain t u) (if b then wrapInitializer letter ctx m k else k)
     ≤ own K held t u + weigh K (below held t u) k
 unfolding own extra below inDeclaration inDeclarator
 declarator-wrapped K true t u k letter ctx m e = rw (eqb-true t 6 e) (omega (arith, initializer-wrapped K k letter ctx m))
 declarator-wrapped K false t u k letter ctx m e = omega arith
 
-initializers-wrapped : (K : Kind) (f : Forest) (letter ctx : ℕ) → weigh K plain (wrapInitializers letter ctx f) ≤ weigh K held f
+initializers-wrapped : (K : RowKind) (f : Forest) (letter ctx : ℕ) → weigh K plain (wrapInitializers letter ctx f) ≤ weigh K held f
 unfolding wrapInitializers weigh next
 initializers-wrapped K none letter ctx = omega arith
 initializers-wrapped K (more h k r) letter ctx =
     omega (
       arith,
-      declarator-wrapped K (eqb (h .tag) 6) (h .tag) (isUsing h) k letter ctx (h .b) refl,
+      declarator-wrapped K (eqb (h .tag) Tag.Declarator) (h .tag) (isUsing h) k letter ctx (h .b) refl,
       initializers-wrapped K r letter ctx,
     )
 
@@ -228,11 +229,11 @@ as-const h = go (eqb (h .b) 0)
     go true = refl
     go false = refl
 
-const-tag : (h : Head) → asTakenUp h .tag ≡ 5
+const-tag : (h : Head) → asTakenUp h .tag ≡ Tag.Declaration
 unfolding asTakenUp
 const-tag h = refl
 
-using-taken : (K : Kind) (b any : Bool) (h h′ : Head) (k r r′ : Forest) (letter ctx : ℕ) → isUsing h ≡ b → isUsing h′ ≡ false → h′ .tag ≡ 5
+using-taken : (K : RowKind) (b any : Bool) (h h′ : Head) (k r r′ : Forest) (letter ctx : ℕ) → isUsing h ≡ b → isUsing h′ ≡ false → h′ .tag ≡ Tag.Declaration
     → weigh K plain r′ + given any (context K) ≤ weigh K plain r
     → weigh K plain (if b then more h′ (wrapInitializers letter ctx k) r′ else more h k r′) + given (b || any) (context K)
     ≤ weigh K plain (more h k r)
@@ -241,7 +242,7 @@ using-taken K true any h h′ k r r′ letter ctx e n t i =
     rw (n, t, e, using-tag h e) (omega (arith, initializers-wrapped K k letter ctx))
 using-taken K false any h h′ k r r′ letter ctx e n t i = omega arith
 
-pub list-taken : (K : Kind) (f : Forest) (running : Bool) (ctx : ℕ) (needsAwait : Bool)
+pub list-taken : (K : RowKind) (f : Forest) (running : Bool) (ctx : ℕ) (needsAwait : Bool)
     → weigh K plain (takeUp running ctx needsAwait f) + given (anyUsing f) (context K) ≤ weigh K plain f
 unfolding takeUp anyUsing weigh
 list-taken K none running ctx needsAwait = omega arith
@@ -251,40 +252,40 @@ list-taken K (more h k r) running ctx needsAwait =
     (as-const h) (const-tag h) (list-taken K r running ctx (running && awaits))
 
 -- a For below its Labels
-loop-taken : (K : Kind) {t : ℕ} (u : Bool) (k : Forest) (ctx : ℕ) → Seen (4 ∷ 7 ∷ []) t
+loop-taken : (K : RowKind) {t : ℕ} (u : Bool) (k : Forest) (ctx : ℕ) → Seen (Tag.Label ∷ Tag.For ∷ []) t
     → (anyUsing (forList k) ≡ true → weigh K plain (takeUpFor ctx k) + context K ≤ weigh K plain k)
-    → anyUsing (if eqb t 4 then forList k else if eqb t 7 then k else none) ≡ true
-    → weigh K (below plain t u) (if eqb t 4 then takeUpFor ctx k else takeUp false ctx false k) + context K
+    → anyUsing (if eqb t Tag.Label then forList k else if eqb t Tag.For then k else none) ≡ true
+    → weigh K (below plain t u) (if eqb t Tag.Label then takeUpFor ctx k else takeUp false ctx false k) + context K
     ≤ weigh K (below plain t u) k
 unfolding below anyUsing
 loop-taken K u k ctx here i e = i e
 loop-taken K u k ctx (there e₄ here) i e = omega (arith, rw e at (list-taken K k false ctx false))
 loop-taken K u k ctx (there e₄ (there e₇ other)) i e = absurd (clash refl (rw (e₄, e₇) at e))
 
-pub for-taken : (K : Kind) (f : Forest) (ctx : ℕ) → anyUsing (forList f) ≡ true
+pub for-taken : (K : RowKind) (f : Forest) (ctx : ℕ) → anyUsing (forList f) ≡ true
     → weigh K plain (takeUpFor ctx f) + context K ≤ weigh K plain f
 unfolding forList takeUpFor anyUsing weigh next
 for-taken K none ctx e = absurd (clash refl e)
 for-taken K (more h k r) ctx e =
-    omega (arith, loop-taken K (isUsing h) k ctx (seen (4 ∷ 7 ∷ []) (h .tag)) (for-taken K k ctx) e)
+    omega (arith, loop-taken K (isUsing h) k ctx (seen (Tag.Label ∷ Tag.For ∷ []) (h .tag)) (for-taken K k ctx) e)
 
 -- the Cases of a Switch
-case-taken : (K : Kind) (b any : Bool) (h : Head) (k r r₁ r₂ : Forest) (ctx : ℕ) (needsAwait : Bool) → eqb (h .tag) 10 ≡ b
+case-taken : (K : RowKind) (b any : Bool) (h : Head) (k r r₁ r₂ : Forest) (ctx : ℕ) (needsAwait : Bool) → eqb (h .tag) Tag.Case ≡ b
     → weigh K plain r₁ + given any (context K) ≤ weigh K plain r
     → weigh K plain r₂ + given any (context K) ≤ weigh K plain r
     → weigh K plain (if b then more h (takeUp true ctx needsAwait k) r₁ else more h k r₂) + given ((b && anyUsing k) || any) (context K)
     ≤ weigh K plain (more h k r)
 unfolding weigh next below
 case-taken K true any h k r r₁ r₂ ctx needsAwait e i j =
-    rw (eqb-true (h .tag) 10 e) (omega (arith, list-taken K k true ctx needsAwait, given-or (anyUsing k) any (context K)))
+    rw (eqb-true (h .tag) Tag.Case e) (omega (arith, list-taken K k true ctx needsAwait, given-or (anyUsing k) any (context K)))
 case-taken K false any h k r r₁ r₂ ctx needsAwait e i j = omega arith
 
-pub cases-taken : (K : Kind) (f : Forest) (ctx : ℕ) (needsAwait : Bool)
+pub cases-taken : (K : RowKind) (f : Forest) (ctx : ℕ) (needsAwait : Bool)
     → weigh K plain (takeUpCases ctx needsAwait f) + given (anyCaseUsing f) (context K) ≤ weigh K plain f
 unfolding takeUpCases anyCaseUsing weigh
 cases-taken K none ctx needsAwait = omega arith
 cases-taken K (more h k r) ctx needsAwait =
-    case-taken K (eqb (h .tag) 10) (anyCaseUsing r) h k r (takeUpCases ctx (needsAwait || anyAwaitUsing k) r) (takeUpCases ctx needsAwait r)
+    case-taken K (eqb (h .tag) Tag.Case) (anyCaseUsing r) h k r (takeUpCases ctx (needsAwait || anyAwaitUsing k) r) (takeUpCases ctx needsAwait r)
     ctx needsAwait refl
     (cases-taken K r ctx (needsAwait || anyAwaitUsing k))
     (cases-taken K r ctx needsAwait)

@@ -6,7 +6,7 @@ use Prim.Native.Nat.{ℕ, zero, suc, _+_}
 use lib.ListN.{length, replicate}
 use lib.Dec.{eqb}
 use Rattle.meaning.specs.Numbers.Tag
-use Rattle.meaning.specs.Numbers.Mode as LoadMode
+use Rattle.meaning.specs.Numbers.Mode
 use Rattle.meaning.specs.Tree.{if_then_else_, oneOf, Head, Forest, none, more, one}
 use Rattle.meaning.specs.File.{Symbol, File}
 use Rattle.meaning.specs.Statements.{isUsing, anyUsing}
@@ -32,19 +32,19 @@ use Rattle.meaning.specs.Due.{enterLines, anyContext}
 -- ---- the visits to records beside each other
 
 -- What a rewrite above has done to records of the source before they are visited.
-pub data Mode : Type 0 where
+pub data Treatment : Type 0 where
   -- nothing; a list whose usings a context took up; the Declarators of such a using; their children, so many Names being left
-  standing takenUp declarators : Mode
-  initializer : ℕ → Mode
+  standing takenUp declarators : Treatment
+  initializer : ℕ → Treatment
   -- a For with its Labels; the children of a Switch; those of a Try or a Catch
-  loop cases parts : Mode
+  loop cases parts : Treatment
   -- Program's items: what stays of them, and what moves into the Block
-  kept moved skipped : Mode
+  kept moved skipped : Treatment
   -- the children of a ForOf
-  left right body : ForOfAct → Mode
+  left right body : ForOfAct → Treatment
 
 -- the mode of the next record
-unfoldable pub next : Mode → Mode
+unfoldable pub next : Treatment → Treatment
 next standing = standing
 next takenUp = takenUp
 next declarators = declarators
@@ -64,11 +64,11 @@ next (body a) = standing
 -- second time, in its Block.
 pub record Visits : Type 0 where
   pub before : List (List Line)
-  pub inside : Mode
+  pub inside : Treatment
   pub again : Bool
   pub behind : List (List Line)
 
-abbrev pub around : List (List Line) → Mode → List (List Line) → Visits
+abbrev pub around : List (List Line) → Treatment → List (List Line) → Visits
 around before inside behind = record { before = before; inside = inside; again = false; behind = behind }
 
 -- visits without a charge
@@ -77,7 +77,7 @@ free n = replicate n []
 
 -- In a made Try five records stand before the list (Block, and the context's Declaration, Declarator, Name and Load), and six behind it (Catch,
 -- Name, Block, Step; Block, Step).
-abbrev pub inTry : List (List Line) → Mode → Visits
+abbrev pub inTry : List (List Line) → Treatment → Visits
 inTry before inside = around (before ++ free 5) inside (free 6)
 
 -- so many visits more before it
@@ -156,7 +156,7 @@ module _ (asRead : List Symbol) where
       else if eqb (h .tag) Tag.Class then behindFree 3 (visitsStanding h k)
       else visitsTakenUp h k
 
-  unfoldable pub visitsOf : Mode → Head → Forest → Visits
+  unfoldable pub visitsOf : Treatment → Head → Forest → Visits
   visitsOf standing h k = visitsStanding h k
   visitsOf takenUp h k = visitsTakenUp h k
   visitsOf declarators h k = if eqb (h .tag) Tag.Declarator then around (free 1) (initializer (h .b)) [] else visitsStanding h k
@@ -180,7 +180,7 @@ module _ (asRead : List Symbol) where
   programVisits true items inside = contextLines ofBlock items ∷ (free 5 ++ inside tt)
   programVisits false items inside = []
 
-  unfoldable pub visitsIn : Forest → Mode → List (List Line)
+  unfoldable pub visitsIn : Forest → Treatment → List (List Line)
   visitsIn none m = []
   visitsIn (more h k r) m =
       let v = visitsOf m h k in
@@ -200,4 +200,4 @@ addHelper missing (x ∷ xs) =
 
 -- the charges of the visits, in order
 unfoldable pub visitCharges : File → List (List Line)
-visitCharges f = addHelper (eqb (f .mode) LoadMode.Runtime) (visitsIn (f .symbols) (f .tree) standing)
+visitCharges f = addHelper (eqb (f .mode) Mode.Runtime) (visitsIn (f .symbols) (f .tree) standing)

@@ -7,6 +7,7 @@ use Prim.Native.Nat.{ℕ, _+_, _≤_}
 use native.Mathlib.Omega.{arith}
 use lib.Dec.{eqb, leb, ltb, T, eqb→eq}
 use lib.ListN.{getD}
+use Rattle.meaning.specs.Numbers.Tag
 use Rattle.meaning.specs.Tree.{if_then_else_, oneOf, Head, hd, Forest, none, more, count}
 use Rattle.meaning.specs.File.{numbersOf, hasChildren, ownNumbers, fieldBytes}
 use Rattle.meaning.specs.Grammar.{
@@ -42,8 +43,8 @@ and-inv false b e = absurd (let z : _≡_ {A = ℕ} 0 1 = cc in omega arith)
 pub is-eq : (a b : ℕ) → eqb a b ≡ true → a ≡ b
 is-eq a b e = eqb→eq a b (subst T (sym e) tt)
 
-module _ (p : Place) (syms : ℕ) (x : Field) (tag : x .tag ≡ 5) where
-  declaration-head : headOf x ≡ hd 5 (x .a) 0 0
+module _ (p : Place) (syms : ℕ) (x : Field) (tag : x .tag ≡ Tag.Declaration) where
+  declaration-head : headOf x ≡ hd Tag.Declaration (x .a) 0 0
   unfolding headOf numbersOf hasChildren ownNumbers
   declaration-head = rw tag
 
@@ -55,8 +56,8 @@ module _ (p : Place) (syms : ℕ) (x : Field) (tag : x .tag ≡ 5) where
   unfolding right declarationRight index childrenOf numbersOf hasChildren ownNumbers
   declaration-one e r = rw tag (is-eq (x .b) 1 (and-inv (leb (x .a) 4) (eqb (x .b) 1) (rw (tag, e) at r) .1))
 
-module _ (p : Place) (syms : ℕ) (x : Field) (tag : x .tag ≡ 6) where
-  declarator-head : headOf x ≡ hd 6 (x .a) (x .b) 0
+module _ (p : Place) (syms : ℕ) (x : Field) (tag : x .tag ≡ Tag.Declarator) where
+  declarator-head : headOf x ≡ hd Tag.Declarator (x .a) (x .b) 0
   unfolding headOf numbersOf hasChildren ownNumbers
   declarator-head = rw tag
 
@@ -75,7 +76,7 @@ module _ (p : Place) (syms : ℕ) (x : Field) (tag : x .tag ≡ 6) where
       let b = is-eq (x .b) 1 (a .0) in
       (b, is-eq (x .c) (x .b) (sym (or-false (eqb (x .c) (x .b))) ∙ a .1) ∙ b)
 
-name-head : (x : Field) → x .tag ≡ 26 → headOf x ≡ hd 26 (x .a) 0 0
+name-head : (x : Field) → x .tag ≡ Tag.Name → headOf x ≡ hd Tag.Name (x .a) 0 0
 unfolding headOf numbersOf hasChildren ownNumbers
 name-head x tag = rw tag
 
@@ -115,14 +116,14 @@ module _ {f : List ℕ} {syms : ℕ} where
   declarator-is p n parsed-none = absurd (omega arith)
   declarator-is {place} {at = at} p n (parsed-more {k = kids} {r = beside} y k r) =
       let x = fieldOf f at in
-      let tag : x .tag ≡ 6 = only-tag 6 (ap tagsOf p) (y .field) in
+      let tag : x .tag ≡ Tag.Declarator = only-tag 6 (ap tagsOf p) (y .field) in
       let number : x .a ≡ two f (at + 3) = first-number f at 6 tag refl in
       let name : x .a ≡ 0 → firstNumberOf kids ≡ two f (at + 12) =
       λ z.
       let o = declarator-one (place 0) syms x tag p (y .numbers) z in
       let next : x .next + 3 ≡ at + 12 = omega (arith, rw tag at (y .field .bytes)) in
       rw next at (name-is (declarator-place (place 0) syms x tag (o .0)) (y .children ∙ declarator-kids (place 0) syms x tag ∙ o .1) k) in
-      rw (y .head, declarator-head (place 0) syms x tag, number) (both (hd 6 (two f (at + 3)) (x .b) 0) kids beside (eqb (two f (at + 3)) 0)
+      rw (y .head, declarator-head (place 0) syms x tag, number) (both (hd Tag.Declarator (two f (at + 3)) (x .b) 0) kids beside (eqb (two f (at + 3)) 0)
       (λ e. name (number ∙ is-eq (two f (at + 3)) 0 e)))
     where
       both : {n : ℕ} (h : Head) (k r : Forest) (b : Bool) → (b ≡ true → firstNumberOf k ≡ n)
@@ -152,14 +153,14 @@ up-if f at = go (eqb (getD f at 0) 5) (oneOf (3 ∷ 4 ∷ []) (two f (at + 3))) 
     go true false c = refl
     go false b c = refl
 
-using-if : (n : ℕ) → isUsing (hd 5 n 0 0) ≡ oneOf (3 ∷ 4 ∷ []) n
+using-if : (n : ℕ) → isUsing (hd Tag.Declaration n 0 0) ≡ oneOf (3 ∷ 4 ∷ []) n
 unfolding isUsing
 using-if n = or-false (oneOf (3 ∷ 4 ∷ []) n)
 
 -- a ForOf's first child: its kind, and what it binds
 module _ {f : List ℕ} {syms : ℕ} {p : Place} {cur at : ℕ} {m : List ℕ} {h : Head} {kids : Forest}
     (y : RecordAt f syms p cur at m h kids) where
-  tag-is : getD f at 0 ≡ 5 → fieldOf f at .tag ≡ 5
+  tag-is : getD f at 0 ≡ 5 → fieldOf f at .tag ≡ Tag.Declaration
   unfolding fieldOf
   tag-is e = e
 
@@ -168,11 +169,11 @@ module _ {f : List ℕ} {syms : ℕ} {p : Place} {cur at : ℕ} {m : List ℕ} {
   using-is true e =
       let tag = is-eq (getD f at 0) 5 e in
       ap isUsing (y .head ∙ declaration-head p syms (fieldOf f at) tag)
-      ∙ ap (λ (n : ℕ). isUsing (hd 5 n 0 0)) (first-number f at 5 tag refl)
+      ∙ ap (λ (n : ℕ). isUsing (hd Tag.Declaration n 0 0)) (first-number f at 5 tag refl)
       ∙ using-if (two f (at + 3))
   using-is false e = rw (y .head, e)
 
-  binds-is : {below next : ℕ} {n o : List ℕ} → p ≡ ForOfLeft → fieldOf f at .tag ≡ 5
+  binds-is : {below next : ℕ} {n o : List ℕ} → p ≡ ForOfLeft → fieldOf f at .tag ≡ Tag.Declaration
       → Parsed f syms (placeOf p (fieldOf f at)) 0 below (fieldOf f at .next) n kids next o
       → identifierOf kids ≡ (if eqb (two f (at + 10)) 0 then Body (two f (at + 19)) else Plain)
   unfolding fieldBytes numbersOf

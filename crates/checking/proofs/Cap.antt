@@ -6,6 +6,7 @@ use Prim.Native.Nat.{ℕ, zero, suc, _+_}
 use native.Mathlib.Omega.{arith}
 use lib.Dec.{eqb, ltb}
 use borrow.Author.Tests.{ne-eqb}
+use Rattle.meaning.specs.Numbers.Tag
 use Rattle.meaning.specs.Tree.{if_then_else_, Head}
 use Rattle.meaning.specs.File.{fieldBytes}
 use Rattle.meaning.specs.Statements.{isUsing}
@@ -157,15 +158,15 @@ module _ (u : Role) (inserts : Bool) (h : Head) (n : ℕ) (t : Tally) where
         wrapped = (if-two (takesUp (h .tag) (t .usings)) (takesUpCases (h .tag) (t .«case_usings»)) (t .wrapped) (t .wraps) (t .«case_wraps») (oneIf (isBody u))) i;
         «for_ofs» = (one (t .«for_ofs») (oneIf (isBody u && inserts))) i;
         «for_of_blocks» = (one (t .«for_of_blocks») (oneIf (isBody u && not inserts))) i;
-        programs = (one (t .programs) (oneIf ((takesUp (h .tag) (t .usings)) && eqb (h .tag) 1))) i;
-        classes = (unless-one (eqb (h .tag) 1 && eqb (t .usings) 0) (t .classes) (oneIf (isRole u Item && eqb (h .tag) 15))) i;
-        exports = (unless-one (eqb (h .tag) 1 && eqb (t .usings) 0) (t .exports) (oneIf (isExport u h))) i;
-        declarations = (unless-one (eqb (h .tag) 1 && eqb (t .usings) 0) (t .declarations) (oneIf (isRole u Exported && eqb (h .tag) 5))) i;
-        names = (unless-one (eqb (h .tag) 1 && eqb (t .usings) 0) (t .names) (oneIf (isRole u ExportedName && eqb (h .tag) 26))) i;
+        programs = (one (t .programs) (oneIf ((takesUp (h .tag) (t .usings)) && eqb (h .tag) Tag.Program))) i;
+        classes = (unless-one (eqb (h .tag) Tag.Program && eqb (t .usings) 0) (t .classes) (oneIf (isRole u Item && eqb (h .tag) Tag.Class))) i;
+        exports = (unless-one (eqb (h .tag) Tag.Program && eqb (t .usings) 0) (t .exports) (oneIf (isExport u h))) i;
+        declarations = (unless-one (eqb (h .tag) Tag.Program && eqb (t .usings) 0) (t .declarations) (oneIf (isRole u Exported && eqb (h .tag) Tag.Declaration))) i;
+        names = (unless-one (eqb (h .tag) Tag.Program && eqb (t .usings) 0) (t .names) (oneIf (isRole u ExportedName && eqb (h .tag) Tag.Name))) i;
         usings = capped (oneIf (isUsing h));
-        wraps = (if-one (eqb (h .tag) 5) (t .wraps) (oneIf (isRole u Held && eqb (h .tag) 6 && ltb (h .b) n))) i;
-        «case_usings» = (if-alone (eqb (h .tag) 10) (t .usings)) i;
-        «case_wraps» = (if-alone (eqb (h .tag) 10) (t .wraps)) i;
+        wraps = (if-one (eqb (h .tag) Tag.Declaration) (t .wraps) (oneIf (isRole u Held && eqb (h .tag) Tag.Declarator && ltb (h .b) n))) i;
+        «case_usings» = (if-alone (eqb (h .tag) Tag.Case) (t .usings)) i;
+        «case_wraps» = (if-alone (eqb (h .tag) Tag.Case) (t .wraps)) i;
       })
 
 -- one record more

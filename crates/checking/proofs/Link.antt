@@ -6,6 +6,7 @@ use mathlib.Core.List.{List}
 use Prim.Native.Nat.{ℕ, zero, suc, _+_, _*_}
 use native.Mathlib.Omega.{arith}
 use lib.Dec.{eqb, leb}
+use Rattle.meaning.specs.Numbers.Tag
 use Rattle.meaning.specs.Tree.{Head, Forest, more, count}
 use Rattle.meaning.specs.File.{Symbol, numbersOf, hasChildren, ownNumbers}
 use Rattle.meaning.specs.Grammar.{
@@ -50,7 +51,7 @@ use Rattle.checking.proofs.Body.{is-eq, and-inv, body-is}
 -- ---- what an accepted list of children tells
 
 -- only a ForOf looks at what its body is
-ups-same : (u : Role) (t : ℕ) (held : Bool) (b₁ b₂ : Role) (is : Bool) → eqb t 8 ≡ is → (eqb t 8 ≡ true → b₁ ≡ b₂) → roleOf u t held b₁ ≡ roleOf u t held b₂
+ups-same : (u : Role) (t : ℕ) (held : Bool) (b₁ b₂ : Role) (is : Bool) → eqb t Tag.ForOf ≡ is → (eqb t Tag.ForOf ≡ true → b₁ ≡ b₂) → roleOf u t held b₁ ≡ roleOf u t held b₂
 unfolding roleOf
 ups-same u t held b₁ b₂ true e h = ap (roleOf u t held) (h e)
 ups-same u t held b₁ b₂ false e h = λ i k. pointwise k i
@@ -59,11 +60,11 @@ ups-same u t held b₁ b₂ false e h = λ i k. pointwise k i
     pointwise k = rw e
 
 -- a ForOf has three children, and a Declaration or an expression first
-forOf-kids : (p : Place) (syms : ℕ) (x : Field) → x .tag ≡ 8 → right p syms x ≡ true → childrenOf x ≡ 3
+forOf-kids : (p : Place) (syms : ℕ) (x : Field) → x .tag ≡ Tag.ForOf → right p syms x ≡ true → childrenOf x ≡ 3
 unfolding right childrenOf numbersOf hasChildren ownNumbers
 forOf-kids p syms x t e = rw t (is-eq (x .c) 3 (and-inv (leb 1 (x .a) && leb (x .b) 1) (eqb (x .c) 3) (rw t at e) .1))
 
-forOf-place : (p : Place) (x : Field) → x .tag ≡ 8 → placeOf p x 0 ≡ ForOfLeft
+forOf-place : (p : Place) (x : Field) → x .tag ≡ Tag.ForOf → placeOf p x 0 ≡ ForOfLeft
 unfolding placeOf
 forOf-place p x t = rw t
 
@@ -72,8 +73,8 @@ ups-are : (f : List ℕ) (syms : ℕ) (p : Place) (u : Role) (x : Field) {cur ne
     → count t ≡ childrenOf x → Parsed f syms (placeOf p x) 0 cur (x .next) m t next o
     → roleOf u (x .tag) (isUsing (headOf x)) (bodyOf t) ≡ upsF f u x
 ups-are f syms p u x {t = t} r n k =
-    ups-same u (x .tag) (isUsing (headOf x)) (bodyOf t) (bodyRole f (x .next)) (eqb (x .tag) 8) refl (λ e.
-    let tag = is-eq (x .tag) 8 e in
+    ups-same u (x .tag) (isUsing (headOf x)) (bodyOf t) (bodyRole f (x .next)) (eqb (x .tag) Tag.ForOf) refl (λ e.
+    let tag = is-eq (x .tag) Tag.ForOf e in
     body-is (forOf-place p x tag) (omega (arith, n, forOf-kids p syms x tag r)) k)
 
 -- ---- answers

@@ -6,6 +6,7 @@ use Prim.Native.Nat.{ℕ, _+_, _≤_}
 use native.Mathlib.Omega.{arith}
 use lib.Dec.{eqb}
 use lib.ListN.{length}
+use Rattle.meaning.specs.Numbers.Tag
 use Rattle.meaning.specs.Tree.{size, flatten}
 use Rattle.meaning.specs.File.{File, written}
 use Rattle.meaning.specs.Reading.{accepted}
@@ -108,8 +109,8 @@ module _ (bytes r s y : List ℕ) (f : File) (e : admit bytes (lentIn r s y) ≡
     abbrev fields : List Rattle.readback_laws.specs.ReadBack.Read
     fields = fieldsOf (written (fileAt (lastSpot f)))
 
-    pub file-shows : (fieldCount isRecord fields ≡ finalFigures f .records) × (fieldCount (λ t. eqb t 41) fields ≡ finalFigures f .scopes)
-        × (fieldCount (λ t. eqb t 42) fields ≡ finalFigures f .symbols) × (storeAt (lastSpot f) .contexts ≡ finalFigures f .contexts)
+    pub file-shows : (fieldCount isRecord fields ≡ finalFigures f .records) × (fieldCount (λ t. eqb t Tag.Scope) fields ≡ finalFigures f .scopes)
+        × (fieldCount (λ t. eqb t Tag.Symbol) fields ≡ finalFigures f .symbols) × (storeAt (lastSpot f) .contexts ≡ finalFigures f .contexts)
     unfolding fileAt
     file-shows =
         let figures-are = last-figures bytes f (admitted bytes r s y f e .0) in

@@ -20,6 +20,7 @@ use mathlib.Core.Logic.{_⊎_, ⊎-map}
 use Prim.Native.Nat.{ℕ, suc, _+_, _*_, _≤_, _<_}
 use lib.Dec.{eqb, leb}
 use lib.ListN.{length, take}
+use Rattle.meaning.specs.Numbers.Tag
 use Rattle.meaning.specs.Tree.{size, flatten}
 use Rattle.meaning.specs.File.{File, written}
 use Rattle.meaning.specs.Reading.{Outcome, accepted, refused, readFile}
@@ -221,8 +222,8 @@ pub record Demand3 (bytes r s y : List ℕ) (f : File) (k : ℕ) : Type 0 where
       → lower bytes (lentIn r s y) out ≡ accepted (record { file = written (fileAt (lastSpot f)); figures = finalFigures f })
   -- the written file shows them: reading its fields back counts them, and its length is the answer's
   pub recordsShown : fieldCount isRecord (fieldsOf (written (fileAt (lastSpot f)))) ≡ finalFigures f .records
-  pub scopesShown : fieldCount (λ t. eqb t 41) (fieldsOf (written (fileAt (lastSpot f)))) ≡ finalFigures f .scopes
-  pub symbolsShown : fieldCount (λ t. eqb t 42) (fieldsOf (written (fileAt (lastSpot f)))) ≡ finalFigures f .symbols
+  pub scopesShown : fieldCount (λ t. eqb t Tag.Scope) (fieldsOf (written (fileAt (lastSpot f)))) ≡ finalFigures f .scopes
+  pub symbolsShown : fieldCount (λ t. eqb t Tag.Symbol) (fieldsOf (written (fileAt (lastSpot f)))) ≡ finalFigures f .symbols
   pub lengthShown : length (written (fileAt (lastSpot f))) ≡ finalFigures f .bytes
   -- and the number of contexts is how many the walk made, and how many Loads it added: those written are those read, and one for each
   pub contextsShown : storeAt (lastSpot f) .contexts ≡ finalFigures f .contexts

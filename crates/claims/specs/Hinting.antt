@@ -7,6 +7,7 @@ use Prim.Native.Nat.{ℕ, _+_, _*_}
 use native.Mathlib.Omega.{arith}
 use lib.Dec.{eqb}
 use lib.ListN.{length}
+use Rattle.meaning.specs.Numbers.Tag
 use Rattle.meaning.specs.Tree.{if_then_else_, Head, Forest, none, more}
 use Rattle.meaning.specs.File.{File}
 use Rattle.meaning.specs.Reading.{accepted, readFile}
@@ -40,7 +41,7 @@ module _ (w : List ℕ → ℕ → ℕ) (read : ℕ) where
   unfolding doneIn
   done-none none q = refl
   done-none (more h k r) q =
-      if-none (eqb (h .tag) 5 && not (isUsing h)) (overDeclarators (called w read) k) (doneIn w read r) (overs-none w read k (q .1))
+      if-none (eqb (h .tag) Tag.Declaration && not (isUsing h)) (overDeclarators (called w read) k) (doneIn w read r) (overs-none w read k (q .1))
       (done-none r (q .2))
 
   either-none : (b : Bool) (n m : ℕ) → n ≡ 0 → m ≡ 0 → (if b then n else m) ≡ 0

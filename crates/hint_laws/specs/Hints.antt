@@ -6,6 +6,7 @@ use mathlib.Core.List.{List, [], _∷_}
 use mathlib.Core.Bool.{Bool, true, _&&_}
 use Prim.Native.Nat.{ℕ, zero, suc, _+_}
 use lib.Dec.{eqb, leb, ltb}
+use Rattle.meaning.specs.Numbers.Tag
 use Rattle.meaning.specs.Tree.{if_then_else_, oneOf, Head, Forest, none, more}
 use Rattle.meaning.specs.Hint.{hintOf, letterOf}
 use Rattle.meaning.specs.Statements.{isUsing}
@@ -22,7 +23,7 @@ sumOver v (more h k r) = v h k + (sumOver v k + sumOver v r)
 unfoldable pub namesOf : ℕ → Forest → List ℕ
 namesOf zero k = []
 namesOf (suc m) none = []
-namesOf (suc m) (more h k r) = (if eqb (h .tag) 26 then h .a else 0) ∷ namesOf m r
+namesOf (suc m) (more h k r) = (if eqb (h .tag) Tag.Name then h .a else 0) ∷ namesOf m r
 
 -- of the initializer that follows m Names, if there is one
 unfoldable pub ofInitializer : (Head → ℕ) → ℕ → Forest → ℕ
@@ -33,7 +34,7 @@ ofInitializer v (suc m) (more h k r) = ofInitializer v m r
 -- over the Declarators with an initializer
 unfoldable pub overDeclarators : (List ℕ → Head → ℕ) → Forest → ℕ
 overDeclarators v none = 0
-overDeclarators v (more h k r) = (if eqb (h .tag) 6 then ofInitializer (v (namesOf (h .b) k)) (h .b) k else 0) + overDeclarators v r
+overDeclarators v (more h k r) = (if eqb (h .tag) Tag.Declarator then ofInitializer (v (namesOf (h .b) k)) (h .b) k else 0) + overDeclarators v r
 
 -- the symbols are rows read, so many
 unfoldable pub allRead : ℕ → List ℕ → Bool
@@ -53,7 +54,7 @@ letterFor h = letterOf (hintOf (h .a))
 -- the records that stand around usings which are taken up: lists, and a For around its first child. A Case's are a switch's, and have
 -- another letter; an exported using is not taken up.
 abbrev pub takesUp : ℕ → Bool
-takesUp t = oneOf (1 ∷ 2 ∷ 7 ∷ 14 ∷ 16 ∷ []) t
+takesUp t = oneOf (Tag.Program ∷ Tag.Block ∷ Tag.For ∷ Tag.Body ∷ Tag.StaticBlock ∷ []) t
 
 module _ (w : List ℕ → ℕ → ℕ) where
   -- the usings that stand directly in a list
@@ -75,7 +76,7 @@ module _ (w : List ℕ → ℕ → ℕ) where
   unfoldable pub asksFor : (Head → ℕ) → Head → Forest → ℕ
   asksFor letter h k =
       if takesUp (h .tag) then usingsIn letter k
-      else if eqb (h .tag) 8 then forOfUsing k
+      else if eqb (h .tag) Tag.ForOf then forOfUsing k
       else 0
 
   -- WHAT THE SOURCE ASKS FOR: the names of each using that is taken up outside a switch, with the letter of its TC39 hint.
@@ -86,16 +87,16 @@ module _ (w : List ℕ → ℕ → ℕ) where
 
   -- a Call through a context that lowering made: its symbol's row is behind the rows read
   unfoldable pub called : ℕ → List ℕ → Head → ℕ
-  called read names h = if eqb (h .tag) 27 && ltb read (h .b) then w names (h .a) else 0
+  called read names h = if eqb (h .tag) Tag.Call && ltb read (h .b) then w names (h .a) else 0
 
   -- the Declarations that stand directly in a list
   unfoldable pub callsIn : ℕ → Forest → ℕ
   callsIn read none = 0
-  callsIn read (more h k r) = (if eqb (h .tag) 5 then overDeclarators (called read) k else 0) + callsIn read r
+  callsIn read (more h k r) = (if eqb (h .tag) Tag.Declaration then overDeclarators (called read) k else 0) + callsIn read r
 
   -- by a record; a Declaration in a Case is a switch's, and that of a ForOf has no initializer
   unfoldable pub calls : ℕ → Head → Forest → ℕ
-  calls read h k = if oneOf (8 ∷ 10 ∷ []) (h .tag) then 0 else callsIn read k
+  calls read h k = if oneOf (Tag.ForOf ∷ Tag.Case ∷ []) (h .tag) then 0 else callsIn read k
 
   -- WHAT A TREE CALLS: the names of each Declarator outside a switch whose initializer lowering has wrapped, with the letter of the Call.
   unfoldable pub given : ℕ → Forest → ℕ

@@ -5,6 +5,7 @@ use mathlib.Core.Bool.{false}
 use mathlib.Core.List.{List, [], _∷_}
 use mathlib.Core.Logic.{_⊎_, inl, inr}
 use Prim.Native.Nat.{ℕ}
+use Rattle.meaning.specs.Numbers.Tag
 use Rattle.meaning.specs.Tree.{oneOf, Head, Forest, none, more, _&_}
 use Rattle.meaning.specs.Statements.{isUsing, anyUsing}
 use Rattle.spec_laws.specs.Bools.{no-summand}
@@ -12,7 +13,7 @@ use Rattle.hint_laws.specs.Hints.{overDeclarators, usingsIn}
 
 -- neither a Declaration nor a Declarator, a Name or a Call
 abbrev pub Neutral : Head → Type 0
-Neutral h = oneOf (5 ∷ 6 ∷ 26 ∷ 27 ∷ []) (h .tag) ≡ false
+Neutral h = oneOf (Tag.Declaration ∷ Tag.Declarator ∷ Tag.Name ∷ Tag.Call ∷ []) (h .tag) ≡ false
 
 -- record by record: the same head above the same outline, or two neutral heads above anything
 unfoldable pub Same : Forest → Forest → Type 0

@@ -8,6 +8,7 @@ use native.Mathlib.Omega.{arith}
 use lib.Dec.{leb}
 use lib.ListN.{length}
 use borrow.Author.Tests.{leb-true, le-leb}
+use Rattle.meaning.specs.Numbers.Tag
 use Rattle.meaning.specs.Tree.{if_then_else_, Forest, none, more}
 use Rattle.meaning.specs.File.{File, written}
 use Rattle.meaning.specs.Reading.{Outcome, accepted, refused, _>>=_, _>>_, ensure}
@@ -43,7 +44,7 @@ use Rattle.lowering.specs.declared.Lowered.the-variants.{Written as Writ
 
 within-tagged : (f : Forest) → TreeWithin 65535 f → Tagged f
 within-tagged none p = tt
-within-tagged (more h k r) p = (le-leb (h .tag) 29 (p .0 .0), within-tagged k (p .1), within-tagged r (p .2))
+within-tagged (more h k r) p = (le-leb (h .tag) Tag.Step (p .0 .0), within-tagged k (p .1), within-tagged r (p .2))
 
 over-bytes : (s : Spot) (g : ℕ) (z : Rest) → isOver s ≡ true → Tagged (treeAt s)
     → let q = held s g z in

@@ -19,12 +19,12 @@ use Rattle.meaning.specs.Walk.{Spot, fileAt, storeAt}
 -- ---- 01's lines
 
 -- what a context is made for
-pub data Kind : Type 0 where
-  ofBlock ofBody ofStaticBlock ofTryPart ofFor ofSwitch : Kind
+pub data ContextKind : Type 0 where
+  ofBlock ofBody ofStaticBlock ofTryPart ofFor ofSwitch : ContextKind
 
 -- A charge is a list of these. The numbers count wrapped initializers, and the names of an exported Declaration.
 pub data Line : Type 0 where
-  context : Kind → Line
+  context : ContextKind → Line
   wrapped : ℕ → Line
   forOf forOfBlock programBlock topLevelClass exportedClass defaultExport : Line
   exportedNames : ℕ → Line
@@ -117,7 +117,7 @@ pub bytes-made
 unfolding bytesOf fieldBytes numbersOf
 bytes-made = (refl, refl, refl, refl, refl, refl, refl, refl, refl, refl, refl)
 
-unfoldable pub contextCharge : Kind → Figures
+unfoldable pub contextCharge : ContextKind → Figures
 contextCharge ofBlock = charge 11 3 2 1 contextBytes
 contextCharge ofBody = charge 12 4 2 1 innerContextBytes
 contextCharge ofStaticBlock = charge 12 4 2 1 innerContextBytes
@@ -158,7 +158,7 @@ caseWraps none = 0
 caseWraps (more h k r) = (if eqb (h .tag) Tag.Case then wraps k else 0) + caseWraps r
 
 -- a list that gets a context, if it has a using
-unfoldable pub contextLines : Kind → Forest → List Line
+unfoldable pub contextLines : ContextKind → Forest → List Line
 contextLines kind list = if anyUsing list then context kind ∷ wrapped (wraps list) ∷ [] else []
 
 -- ---- Program's items

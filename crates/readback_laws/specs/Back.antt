@@ -8,6 +8,7 @@ use native.Mathlib.Omega.{arith}
 use lib.ListN.{length, take, getD, length-append}
 use lib.Dec.{eqb, leb, ltb}
 use borrow.Author.Tests.{eqb-true, leb-true}
+use Rattle.meaning.specs.Numbers.Tag
 use Rattle.meaning.specs.Tree.{if_then_else_, Head, hd, Forest, none, more, count, size, Row, row, flatten}
 use Rattle.meaning.specs.File.{Scope, Symbol, File, numbersOf, hasChildren, ownNumbers, recordNumbers, written}
 use Rattle.spec_laws.specs.Tags.{and-left}
@@ -177,14 +178,14 @@ unfolding namesOf plain plainHead ownNumbers hasChildren numbersOf
 names-kept zero k = refl
 names-kept (suc m) none = refl
 names-kept (suc m) (more h k r) =
-    ap₂ _∷_ (if-same (eqb (h .tag) 26) (plainHead h .a) (h .a) (keeps-a h 26 refl)) (names-kept m r)
+    ap₂ _∷_ (if-same (eqb (h .tag) Tag.Name) (plainHead h .a) (h .a) (keeps-a h 26 refl)) (names-kept m r)
 
 module _ (w : List ℕ → ℕ → ℕ) (read : ℕ) where
   called-kept : (names : List ℕ) (h : Head) → called w read names (plainHead h) ≡ called w read names h
   unfolding called plainHead ownNumbers hasChildren numbersOf
-  called-kept names h = go (eqb (h .tag) 27) refl
+  called-kept names h = go (eqb (h .tag) Tag.Call) refl
     where
-      go : (b : Bool) → eqb (h .tag) 27 ≡ b → called w read names (plainHead h) ≡ called w read names h
+      go : (b : Bool) → eqb (h .tag) Tag.Call ≡ b → called w read names (plainHead h) ≡ called w read names h
       go true e = rw (keeps-a h 27 refl e, keeps-b h 27 refl e)
       go false e = rw e
 
@@ -200,7 +201,7 @@ module _ (w : List ℕ → ℕ → ℕ) (read : ℕ) where
   declarators-kept none = refl
   declarators-kept (more h k r) =
       ap₂ _+_
-      (if-same (eqb (h .tag) 6) _ _
+      (if-same (eqb (h .tag) Tag.Declarator) _ _
       (λ e. rw (keeps-b h 6 refl e, names-kept (h .b) k) (initializer-kept (namesOf (h .b) k) (h .b) k)))
       (declarators-kept r)
 
@@ -208,7 +209,7 @@ module _ (w : List ℕ → ℕ → ℕ) (read : ℕ) where
   unfolding callsIn plain plainHead
   calls-kept none = refl
   calls-kept (more h k r) =
-      ap₂ _+_ (if-same (eqb (h .tag) 5) _ _ (λ e. declarators-kept k)) (calls-kept r)
+      ap₂ _+_ (if-same (eqb (h .tag) Tag.Declaration) _ _ (λ e. declarators-kept k)) (calls-kept r)
 
   record-kept : (h : Head) (k : Forest) → calls w read (plainHead h) (plain k) ≡ calls w read h k
   unfolding calls plainHead

@@ -4,6 +4,7 @@ use mathlib.Core.Path.{_≡_, ap}
 use mathlib.Core.Bool.{Bool, true, false, _&&_}
 use Prim.Native.Nat.{ℕ}
 use lib.Dec.{eqb}
+use Rattle.meaning.specs.Numbers.Tag
 use Rattle.meaning.specs.Tree.{if_then_else_, Head, Forest, none, more, one, node, single, _&_}
 use Rattle.meaning.specs.File.{hasChildren}
 use Rattle.meaning.specs.Scoping.{
@@ -143,7 +144,7 @@ parts-childless : (f : Forest) (cur hoist : ℕ) (st : Store) → Childless f �
 unfolding transformTryParts
 parts-childless none cur hoist st p = tt
 parts-childless (more h k r) cur hoist st p =
-    one-part (eqb (h .tag) 12) (eqb (h .tag) 2 && anyUsing k) cur hoist h k _ (transformTryParts cur hoist k) st (p .0) (p .1)
+    one-part (eqb (h .tag) Tag.Catch) (eqb (h .tag) Tag.Block && anyUsing k) cur hoist h k _ (transformTryParts cur hoist k) st (p .0) (p .1)
     (no-parts cur hoist k st)
     (parts-childless k cur hoist st (p .1))
     (parts-childless r cur hoist _ (p .2))

@@ -5,6 +5,7 @@ use mathlib.Core.Bool.{true, false}
 use Prim.Native.Nat.{ℕ}
 use native.Mathlib.Omega.{arith}
 use borrow.Author.Tests.{eq-eqb}
+use Rattle.meaning.specs.Numbers.Tag
 use Rattle.meaning.specs.Tree.{Head, Forest, none, more, one, count, single, _&_}
 use Rattle.meaning.specs.File.{hasChildren}
 use Rattle.meaning.specs.Scoping.{Store, symbolIn, createSymbol}
@@ -105,9 +106,9 @@ entered {h = h} {k = k} cur hoist st p o (as-try e u) = try-statement-childless 
 entered {h = h} {k = k} cur hoist st p o (as-for e u) = for-statement-childless cur hoist h k st p
 entered {h = h} {k = k} cur hoist st p o (as-switch e u) = switch-childless cur h k st p
 entered {h = h} cur hoist st p o (as-insert {h₁ = h₁} {h₂ = h₂} {h₃ = h₃} {k₁ = k₁} {k₂ = k₂} {k₃ = k₃} {r = r} e b two) =
-    insert-childless h h₁ k₁ h₂ k₂ h₃ k₃ r st (o .side (eq-eqb (h .tag) 8 e) (b .both) .0) (ap hasChildren two) p
+    insert-childless h h₁ k₁ h₂ k₂ h₃ k₃ r st (o .side (eq-eqb (h .tag) Tag.ForOf e) (b .both) .0) (ap hasChildren two) p
 entered {h = h} cur hoist st p o (as-wrap {h₁ = h₁} {h₂ = h₂} {h₃ = h₃} {k₁ = k₁} {k₂ = k₂} {k₃ = k₃} {r = r} e b) =
-    wrap-childless h h₁ k₁ h₂ k₂ h₃ k₃ r st (o .side (eq-eqb (h .tag) 8 e) (b .both) .0) p
+    wrap-childless h h₁ k₁ h₂ k₂ h₃ k₃ r st (o .side (eq-eqb (h .tag) Tag.ForOf e) (b .both) .0) p
 
 -- of a record as it should be
 pub enter-childless : (cur hoist : ℕ) (h : Head) (k : Forest) (st : Store) → Fit h k → Childless (one h k)

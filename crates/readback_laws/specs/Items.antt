@@ -5,6 +5,8 @@ use mathlib.Core.Bool.{Bool, true, false}
 use mathlib.Core.List.{List, [], _∷_}
 use Prim.Native.Nat.{ℕ}
 use lib.Dec.{eqb}
+use Rattle.meaning.specs.Numbers.Tag
+use Rattle.meaning.specs.Numbers.Form
 use Rattle.meaning.specs.Tree.{if_then_else_, Head, hd, Forest, none, more, one, single}
 use Rattle.meaning.specs.File.{hasChildren}
 use Rattle.meaning.specs.Scoping.{Store}
@@ -44,7 +46,7 @@ unfolding specifiers
 specifiers-childless st [] = tt
 specifiers-childless st (y ∷ names) = ((λ _. refl), tt, specifiers-childless st names)
 
-expression-bare : (b : Bool) (h : Head) (k : Forest) → Bare h k → Bare (if b then hd 15 1 (h .b) (h .c) else h) k
+expression-bare : (b : Bool) (h : Head) (k : Forest) → Bare h k → Bare (if b then hd Tag.Class Form.Expression (h .b) (h .c) else h) k
 unfolding hasChildren
 expression-bare true h k o = never
 expression-bare false h k o = o
@@ -61,7 +63,7 @@ item-childless st o p (as-exported-class {k = k} anything) = ((never, ((λ _. re
 item-childless st o p (as-default-class {k = k} named anything) = ((never, ((λ _. refl), tt, tt), tt), class-childless _ k st (p .1))
 item-childless st o p (as-default-value {h = h} {k = k} e d anything) = (
   (never, ((λ _. refl), tt, tt), tt),
-  (never, (never, ((λ _. refl), tt, (expression-bare (eqb (h .tag) 15) h k (p .0), p .1, tt)), tt), tt),
+  (never, (never, ((λ _. refl), tt, (expression-bare (eqb (h .tag) Tag.Class) h k (p .0), p .1, tt)), tt), tt),
 )
 
 items-childless : (f : Forest) (st : Store) → Childless f → Both (programItems f st)

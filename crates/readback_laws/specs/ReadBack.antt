@@ -9,6 +9,7 @@ use lib.ListN.{length, take, drop, length-append}
 use lib.Seq.{take-at, drop-at}
 use lib.Dec.{eqb, leb}
 use borrow.Author.Tests.{leb-true, ne-eqb}
+use Rattle.meaning.specs.Numbers.Tag
 use Rattle.meaning.specs.Tree.{if_then_else_, Forest, none, more, size, Row, flatten}
 use Rattle.meaning.specs.File.{
   Scope,
@@ -212,19 +213,19 @@ module _ (p : ℕ → Bool) where
       rw (read-back g, z, count-++, count-++)
       (omega (arith, scopes-count a (g .scopes) e, symbols-count b (g .symbols) d, records-count c (g .tree) i q))
 
-no-scope : (t : ℕ) → isRecord t ≡ true → eqb t 41 ≡ false
-no-scope t e = ne-eqb t 41 (λ d. omega (arith, leb-true t 29 e))
+no-scope : (t : ℕ) → isRecord t ≡ true → eqb t Tag.Scope ≡ false
+no-scope t e = ne-eqb t Tag.Scope (λ d. omega (arith, leb-true t 29 e))
 
-no-symbol : (t : ℕ) → isRecord t ≡ true → eqb t 42 ≡ false
-no-symbol t e = ne-eqb t 42 (λ d. omega (arith, leb-true t 29 e))
+no-symbol : (t : ℕ) → isRecord t ≡ true → eqb t Tag.Symbol ≡ false
+no-symbol t e = ne-eqb t Tag.Symbol (λ d. omega (arith, leb-true t 29 e))
 
 -- Of the written fields, as many are records, scope rows and symbol rows as the file has.
 pub counts-back : (g : File) → Tagged (g .tree)
     → (fieldCount isRecord (fieldsOf (written g)) ≡ size (g .tree))
-    × (fieldCount (λ t. eqb t 41) (fieldsOf (written g)) ≡ length (g .scopes))
-    × (fieldCount (λ t. eqb t 42) (fieldsOf (written g)) ≡ length (g .symbols))
+    × (fieldCount (λ t. eqb t Tag.Scope) (fieldsOf (written g)) ≡ length (g .scopes))
+    × (fieldCount (λ t. eqb t Tag.Symbol) (fieldsOf (written g)) ≡ length (g .symbols))
 counts-back g q = (
   omega (arith, file-count isRecord g false false true refl refl refl (λ t e. e) q),
-  omega (arith, file-count (λ t. eqb t 41) g true false false refl refl refl no-scope q),
-  omega (arith, file-count (λ t. eqb t 42) g false true false refl refl refl no-symbol q),
+  omega (arith, file-count (λ t. eqb t Tag.Scope) g true false false refl refl refl no-scope q),
+  omega (arith, file-count (λ t. eqb t Tag.Symbol) g false true false refl refl refl no-symbol q),
 )

@@ -4,6 +4,8 @@ use mathlib.Core.Path.{_≡_, refl, ap}
 use mathlib.Core.Bool.{Bool, true, false, _||_, _&&_}
 use Prim.Native.Nat.{ℕ, zero, suc}
 use lib.Dec.{eqb}
+use Rattle.meaning.specs.Numbers.Tag
+use Rattle.meaning.specs.Numbers.Kind
 use Rattle.meaning.specs.Tree.{if_then_else_, Head, Forest, none, more, single, _&_}
 use Rattle.meaning.specs.File.{hasChildren}
 use Rattle.meaning.specs.Scoping.{Store}
@@ -58,7 +60,7 @@ initializers-childless : (f : Forest) (letter ctx : ℕ) → Childless f → Chi
 unfolding wrapInitializers
 initializers-childless none letter ctx p = tt
 initializers-childless (more h k r) letter ctx p =
-    declarator-childless (eqb (h .tag) 6) h k (wrapInitializers letter ctx r) letter ctx (p .0) (p .1)
+    declarator-childless (eqb (h .tag) Tag.Declarator) h k (wrapInitializers letter ctx r) letter ctx (p .0) (p .1)
     (initializers-childless r letter ctx (p .2))
 
 using-childless : (u : Bool) (h : Head) (k r : Forest) (letter ctx : ℕ) → Bare h k → Childless k → Childless r
@@ -86,7 +88,7 @@ pub cases-childless : (f : Forest) (ctx : ℕ) (needsAwait : Bool) → Childless
 unfolding takeUpCases
 cases-childless none ctx needsAwait p = tt
 cases-childless (more h k r) ctx needsAwait p =
-    case-childless (eqb (h .tag) 10) h k _ _ ctx needsAwait (p .0) (p .1)
+    case-childless (eqb (h .tag) Tag.Case) h k _ _ ctx needsAwait (p .0) (p .1)
     (cases-childless r ctx (needsAwait || anyAwaitUsing k) (p .2))
     (cases-childless r ctx needsAwait (p .2))
 
@@ -100,7 +102,7 @@ pub for-childless : (f : Forest) (ctx : ℕ) → Childless f → Childless (take
 unfolding takeUpFor
 for-childless none ctx p = tt
 for-childless (more h k r) ctx p =
-    loop-childless (eqb (h .tag) 4) h k r ctx (p .0) (p .1) (p .2) (for-childless k ctx (p .1))
+    loop-childless (eqb (h .tag) Tag.Label) h k r ctx (p .0) (p .1) (p .2) (for-childless k ctx (p .1))
 
 -- ---- the Try that a context makes
 
@@ -114,7 +116,7 @@ load-if true cur st = ((λ _. refl), tt, tt)
 load-if false cur st = ((λ _. refl), tt, tt)
 
 pub try-childless : (scope : ℕ) (list : Forest) (ctx cur ctx′ parent : ℕ) (needsAwait : Bool) (st st′ : Store) → Childless list
-    → Childless (single ((createTryStmt scope (declaration 0 ctx ((helperLoad cur st) .0) & list) ctx′ parent needsAwait st′) .0))
+    → Childless (single ((createTryStmt scope (declaration Kind.Var ctx ((helperLoad cur st) .0) & list) ctx′ parent needsAwait st′) .0))
 unfolding createTryStmt createCatchClause createFinallyBlock helperLoad _&_ hasChildren
 try-childless scope list ctx cur ctx′ parent needsAwait st st′ p = (
   never,

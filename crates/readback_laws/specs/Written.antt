@@ -166,7 +166,7 @@ module _ (f : List ℕ) (bytes : Bytes f) (syms : ℕ) where
   records-cut parsed-none = refl
   records-cut (parsed-more {place} {i} {cur} {at} {mid} {next} {m} {n} {o} {h} {k} {r} y ks rs) =
       let x = fieldOf f at in
-      let own = record-of x h (count k) (y .head) (y .children) (tag-most (leb (x .tag) 29) (place i) syms x refl (y .numbers)) in
+      let own = record-of x h (count k) (y .head) (y .children) (tag-most (leb (x .tag) Tag.Step) (place i) syms x refl (y .numbers)) in
       rw (own, fields-++ (flatten k) (flatten r))
       (cut-then f at (x .next) next (field (x .tag) (numbersIn x)) _ (field-cut f bytes (y .field))
       (cut-then f (x .next) mid next (recordFields (flatten k)) _ (records-cut ks) (records-cut rs)))

@@ -5,6 +5,7 @@ use mathlib.Core.Bool.{true, false}
 use mathlib.Core.List.{List, [], _∷_}
 use Prim.Native.Nat.{ℕ}
 use borrow.Author.Tests.{eq-eqb}
+use Rattle.meaning.specs.Numbers.Tag
 use Rattle.meaning.specs.Tree.{Head, hd, Forest, none, more, one}
 use Rattle.meaning.specs.Scoping.{Store}
 use Rattle.meaning.specs.Statements.{anyUsing}
@@ -81,41 +82,41 @@ module _ (done k r : Forest) (path : List Crumb) (st : Store) (g : ℕ) (z : Res
       → ((g : ℕ) (z : Rest) → (let q = held (at done (tagged t) k r path st) g z in rewriteF q ≡ f q)) → At t f x → At t rewriteF x
   by-its t f x e d = λ fits ag room. e _ _ ∙ d fits ag room
 
-  by-tag : {t : ℕ} → Fit (tagged t) k → Catches k → Seen (1 ∷ 2 ∷ 4 ∷ 7 ∷ 8 ∷ 9 ∷ 11 ∷ 14 ∷ []) t
+  by-tag : {t : ℕ} → Fit (tagged t) k → Catches k → Seen (Tag.Program ∷ Tag.Block ∷ Tag.Label ∷ Tag.For ∷ Tag.ForOf ∷ Tag.Switch ∷ Tag.Try ∷ Tag.Body ∷ []) t
       → At t rewriteF (actOf (st .asRead) (tagged t) k)
   unfolding rewriteF actOf enterAs
   by-tag p q here =
-      by-its 1 rewriteProgramF (actIf (anyUsing k) program)
-      (λ g z. rw (tag-is done (tagged 1) k r path st g z))
-      (program-by done (tagged 1) k r path st g z (anyUsing k) refl (λ u. p .items refl u .0))
+      by-its Tag.Program rewriteProgramF (actIf (anyUsing k) program)
+      (λ g z. rw (tag-is done (tagged Tag.Program) k r path st g z))
+      (program-by done (tagged Tag.Program) k r path st g z (anyUsing k) refl (λ u. p .items refl u .0))
   by-tag p q (there e₁ here) =
-      by-its 2 rewriteBlockF (actIf (anyUsing k) block)
-      (λ g z. rw (tag-is done (tagged 2) k r path st g z))
-      (block-by done (tagged 2) k r path st g z (anyUsing k) refl refl)
+      by-its Tag.Block rewriteBlockF (actIf (anyUsing k) block)
+      (λ g z. rw (tag-is done (tagged Tag.Block) k r path st g z))
+      (block-by done (tagged Tag.Block) k r path st g z (anyUsing k) refl refl)
   by-tag p q (there e₁ (there e₂ here)) =
-      by-its 4 rewriteForF (actIf (anyUsing (forList (one (tagged 4) k))) forLoop)
-      (λ g z. rw (tag-is done (tagged 4) k r path st g z))
-      (for-by done (tagged 4) k r path st g z (anyUsing (forList (one (tagged 4) k))) refl (p .label))
+      by-its Tag.Label rewriteForF (actIf (anyUsing (forList (one (tagged Tag.Label) k))) forLoop)
+      (λ g z. rw (tag-is done (tagged Tag.Label) k r path st g z))
+      (for-by done (tagged Tag.Label) k r path st g z (anyUsing (forList (one (tagged Tag.Label) k))) refl (p .label))
   by-tag p q (there e₁ (there e₂ (there e₄ here))) =
-      by-its 7 rewriteForF (actIf (anyUsing (forList (one (tagged 7) k))) forLoop)
-      (λ g z. rw (tag-is done (tagged 7) k r path st g z))
-      (for-by done (tagged 7) k r path st g z (anyUsing (forList (one (tagged 7) k))) refl (p .label))
+      by-its Tag.For rewriteForF (actIf (anyUsing (forList (one (tagged Tag.For) k))) forLoop)
+      (λ g z. rw (tag-is done (tagged Tag.For) k r path st g z))
+      (for-by done (tagged Tag.For) k r path st g z (anyUsing (forList (one (tagged Tag.For) k))) refl (p .label))
   by-tag p q (there e₁ (there e₂ (there e₄ (there e₇ here)))) =
-      by-its 8 rewriteForOfF (ofForOf (forOfAct (st .asRead) k))
-      (λ g z. rw (tag-is done (tagged 8) k r path st g z))
-      (for-of-by done (tagged 8) k r path st g z (p .side refl))
+      by-its Tag.ForOf rewriteForOfF (ofForOf (forOfAct (st .asRead) k))
+      (λ g z. rw (tag-is done (tagged Tag.ForOf) k r path st g z))
+      (for-of-by done (tagged Tag.ForOf) k r path st g z (p .side refl))
   by-tag p q (there e₁ (there e₂ (there e₄ (there e₇ (there e₈ here))))) =
-      by-its 9 rewriteSwitchF (actIf (anyCaseUsing k) switch)
-      (λ g z. rw (tag-is done (tagged 9) k r path st g z))
-      (switch-by done (tagged 9) k r path st g z (anyCaseUsing k) refl)
+      by-its Tag.Switch rewriteSwitchF (actIf (anyCaseUsing k) switch)
+      (λ g z. rw (tag-is done (tagged Tag.Switch) k r path st g z))
+      (switch-by done (tagged Tag.Switch) k r path st g z (anyCaseUsing k) refl)
   by-tag p q (there e₁ (there e₂ (there e₄ (there e₇ (there e₈ (there e₉ here)))))) =
-      by-its 11 rewriteTryF (actIf (anyPartUsing k) tryParts)
-      (λ g z. rw (tag-is done (tagged 11) k r path st g z))
-      (try-by done (tagged 11) k r path st g z (anyPartUsing k) refl q)
+      by-its Tag.Try rewriteTryF (actIf (anyPartUsing k) tryParts)
+      (λ g z. rw (tag-is done (tagged Tag.Try) k r path st g z))
+      (try-by done (tagged Tag.Try) k r path st g z (anyPartUsing k) refl q)
   by-tag p q (there e₁ (there e₂ (there e₄ (there e₇ (there e₈ (there e₉ (there e₁₁ here))))))) =
-      by-its 14 rewriteBodyF (actIf (anyUsing k) functionBody)
-      (λ g z. rw (tag-is done (tagged 14) k r path st g z))
-      (body-by done (tagged 14) k r path st g z (anyUsing k) refl refl)
+      by-its Tag.Body rewriteBodyF (actIf (anyUsing k) functionBody)
+      (λ g z. rw (tag-is done (tagged Tag.Body) k r path st g z))
+      (body-by done (tagged Tag.Body) k r path st g z (anyUsing k) refl refl)
   by-tag {t} p q (there e₁ (there e₂ (there e₄ (there e₇ (there e₈ (there e₉ (there e₁₁ (there e₁₄ other)))))))) =
       let none-of : actOf (st .asRead) (tagged t) k ≡ keep = rw (e₁, e₂, e₄, e₇, e₈, e₉, e₁₁, e₁₄) in
       subst (λ (x : Act). At t rewriteF x) (sym none-of)
@@ -127,7 +128,7 @@ pub rewrite-law : (done : Forest) (h : Head) (k r : Forest) (path : List Crumb) 
     → DoneBy done h k r path st g z rewriteF (enter (currentScope path) (hoistScope path) h k st)
 unfolding enter
 rewrite-law done h k r path st g z p q =
-    by-tag done k r path st g z (h .a) (h .b) (h .c) p q (seen (1 ∷ 2 ∷ 4 ∷ 7 ∷ 8 ∷ 9 ∷ 11 ∷ 14 ∷ []) (h .tag))
+    by-tag done k r path st g z (h .a) (h .b) (h .c) p q (seen (Tag.Program ∷ Tag.Block ∷ Tag.Label ∷ Tag.For ∷ Tag.ForOf ∷ Tag.Switch ∷ Tag.Try ∷ Tag.Body ∷ []) (h .tag))
 
 -- ---- the symbol rows still agree with those read
 
@@ -135,7 +136,7 @@ agreed-as : {x : Act} {h : Head} {k : Forest} (path : List Crumb) (st : Store) �
     → Agreed (enterAs x (currentScope path) (hoistScope path) h k st .1)
 unfolding enterAs
 agreed-as path st p c a (kept i) = a
-agreed-as {h = h} {k = k} path st p c a (as-program e u) = program-kept h k st (p .items (eq-eqb (h .tag) 1 e) u .0) a
+agreed-as {h = h} {k = k} path st p c a (as-program e u) = program-kept h k st (p .items (eq-eqb (h .tag) Tag.Program e) u .0) a
 agreed-as {h = h} {k = k} path st p c a (as-block e u) = block-kept path h k st a
 agreed-as {h = h} {k = k} path st p c a (as-body e u) = body-kept path h k st a
 agreed-as {h = h} {k = k} path st p c a (as-try e u) = try-agreed (currentScope path) (hoistScope path) h k st c a

@@ -7,6 +7,7 @@ use Prim.Native.Nat.{ℕ, _+_, _≤_}
 use native.Mathlib.Omega.{arith}
 use lib.Dec.{eqb}
 use lib.ListN.{length}
+use Rattle.meaning.specs.Numbers.Tag
 use Rattle.meaning.specs.Tree.{Head, Forest, one, count}
 use Rattle.meaning.specs.Scoping.{Store}
 use Rattle.meaning.specs.Statements.{anyUsing}
@@ -70,7 +71,7 @@ module _ (done : Forest) (h : Head) (k r : Forest) (path : List Crumb) (st : Sto
     abbrev contextFree : ℕ → Rest
     contextFree m = withFree m (2 + oneIf (missing st)) z
 
-    pub block-by : (b : Bool) → anyUsing k ≡ b → h .tag ≡ 2 → By done h k r path st g z rewriteBlockF (actIf b block)
+    pub block-by : (b : Bool) → anyUsing k ≡ b → h .tag ≡ Tag.Block → By done h k r path st g z rewriteBlockF (actIf b block)
     unfolding rewriteBlockF planNextF enterAs contextCharge
     block-by true u t =
         let n = wraps k + 11 in
@@ -82,7 +83,7 @@ module _ (done : Forest) (h : Head) (k r : Forest) (path : List Crumb) (st : Sto
     block-by false u t =
         kept-by done h k r path st g z rewriteBlockF (λ fits a. rw (n-is done h k r path st g z, in-list g z fits false u))
 
-    pub body-by : (b : Bool) → anyUsing k ≡ b → h .tag ≡ 14 → By done h k r path st g z rewriteBodyF (actIf b functionBody)
+    pub body-by : (b : Bool) → anyUsing k ≡ b → h .tag ≡ Tag.Body → By done h k r path st g z rewriteBodyF (actIf b functionBody)
     unfolding rewriteBodyF planNextF enterAs contextCharge
     body-by true u t =
         let n = wraps k + 12 in

@@ -8,6 +8,7 @@ use native.Mathlib.Omega.{arith}
 use borrow.Author.Tests.{eqb-true}
 use lib.Dec.{eqb}
 use lib.ListN.{length}
+use Rattle.meaning.specs.Numbers.Tag
 use Rattle.meaning.specs.Tree.{if_then_else_, Head, Forest, none, more, one, size}
 use Rattle.meaning.specs.Scoping.{Store}
 use Rattle.meaning.specs.Statements.{isUsing, anyUsing}
@@ -149,7 +150,7 @@ module _ (done : Forest) (h h₁ : Head) (k₁ : Forest) (h₂ : Head) (k₂ : F
   takes = isUsing h₁ && bindsIdentifier k₁
 
   abbrev inserts : Bool
-  inserts = eqb (h₃ .tag) 2 && not (bindsName (st .asRead) (h₃ .a) (boundSymbol k₁))
+  inserts = eqb (h₃ .tag) Tag.Block && not (bindsName (st .asRead) (h₃ .a) (boundSymbol k₁))
 
   is-using : takes ≡ true → isUsing h₁ ≡ true
   is-using e = and-left (isUsing h₁) (bindsIdentifier k₁) e

@@ -11,7 +11,7 @@ use lib.ListN.{length}
 use Rattle.meaning.specs.Tree.{Head, Forest, Node, node, one, single, size}
 use Rattle.meaning.specs.Scoping.{Store}
 use Rattle.meaning.specs.Statements.{anyUsing}
-use Rattle.meaning.specs.Charges.{Kind, Line, contextCharge, lineCharge, total, wraps, contextLines}
+use Rattle.meaning.specs.Charges.{ContextKind, Line, contextCharge, lineCharge, total, wraps, contextLines}
 use Rattle.meaning.specs.Due.{isContext, anyContext, missing}
 use Rattle.meaning.specs.Walk.{Crumb, Spot, at, Act, enterAs, currentScope, hoistScope}
 use Rattle.charge_laws.specs.Growth.Rows.{oneIf}
@@ -88,7 +88,7 @@ context-takes h k st e ls n s p c t =
     (omega (arith, p .records), omega (arith, p .rows .scopes), omega (arith, rw u at (p .rows .symbols)))
 
 -- a list with a using, by the kind of its context
-pub list-takes : (h : Head) (k : Forest) (st : Store) (e : Node × Store) (kind : Kind) (list : Forest)
+pub list-takes : (h : Head) (k : Forest) (st : Store) (e : Node × Store) (kind : ContextKind) (list : Forest)
     → PaysFor (contextLines kind list) (one h k) st e → anyUsing list ≡ true → contextCharge kind .symbols ≡ 2
     → Takes h k st e (wraps list + contextCharge kind .records) (contextCharge kind .scopes) (2 + oneIf (missing st))
 unfolding contextLines total lineCharge anyContext isContext

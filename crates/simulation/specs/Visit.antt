@@ -9,6 +9,7 @@ use native.Mathlib.Omega.{arith}
 use borrow.Author.Tests.{eqb-true, ne-eqb, lt-ltb, ltb-true, le-ltb, le-leb, lt-leb}
 use lib.Dec.{ltb}
 use lib.ListN.{length}
+use Rattle.meaning.specs.Numbers.Tag
 use Rattle.meaning.specs.Tree.{Head, Forest, Node, none, one, single, count, size, _&_}
 use Rattle.meaning.specs.Scoping.{Store}
 use Rattle.meaning.specs.Statements.{anyUsing}
@@ -181,7 +182,7 @@ module _ (done : Forest) (h : Head) (k r : Forest) (path : List Crumb) (st : Sto
 
 -- ---- at the end of a StaticBlock
 
-takes-by : (h : Head) (k : Forest) (st : Store) (b : Bool) → anyUsing k ≡ b → h .tag ≡ 16
+takes-by : (h : Head) (k : Forest) (st : Store) (b : Bool) → anyUsing k ≡ b → h .tag ≡ Tag.StaticBlock
     → Takes h k st (leaveBy b h k st) (recordsFor b k) (scopesFor b) (symbolsFor b st)
 unfolding contextCharge
 takes-by h k st true u t = list-takes h k st _ ofStaticBlock k (static-pays h k st t u) u refl
@@ -197,7 +198,7 @@ module _ (kids : Forest) (h : Head) (before after : Forest) (path : List Crumb) 
   leave-takes : isStaticBlock h ≡ true
       → Takes h kids st e₁ (recordsFor (anyUsing kids) kids) (scopesFor (anyUsing kids)) (symbolsFor (anyUsing kids) st)
   unfolding leave
-  leave-takes t = takes-by h kids st (anyUsing kids) refl (eqb-true (h .tag) 16 t)
+  leave-takes t = takes-by h kids st (anyUsing kids) refl (eqb-true (h .tag) Tag.StaticBlock t)
 
   leave-store : storeAt (visit s₁) ≡ e₁ .1
   unfolding visit

@@ -10,7 +10,7 @@ use Rattle.meaning.specs.File.{Symbol, File}
 use Rattle.meaning.specs.Reading.{accepted, readFile}
 use Rattle.meaning.specs.Walk.{Spot, visit, visits, storeOf, start, treeAt, storeAt, fileAt}
 use Rattle.meaning.specs.Charges.{
-  Kind,
+  ContextKind,
   ofBlock,
   ofBody,
   ofStaticBlock,
@@ -93,7 +93,7 @@ unfolding figuresAt figuresIn fileAt
 at-spot s = omega arith
 
 -- a context makes a symbol
-kind-most : (k : Kind) → contextCharge k .contexts ≤ contextCharge k .symbols
+kind-most : (k : ContextKind) → contextCharge k .contexts ≤ contextCharge k .symbols
 unfolding contextCharge
 kind-most ofBlock = omega arith
 kind-most ofBody = omega arith

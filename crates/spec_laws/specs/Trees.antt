@@ -9,6 +9,8 @@ use lib.Dec.{eqb}
 use lib.ListN.{length, set, length-set}
 use lib.Seq.{sets}
 use borrow.Author.Tests.{eqb-true}
+use Rattle.meaning.specs.Numbers.Tag
+use Rattle.meaning.specs.Numbers.Form
 use Rattle.meaning.specs.Tree.{if_then_else_, oneOf, Head, hd, Forest, none, more, count, size, Node, node}
 use Rattle.meaning.specs.File.{numbersOf, twoBytes}
 use Rattle.meaning.specs.Scoping.{Change, _>>=_, _>>_, return, setRow}
@@ -23,8 +25,8 @@ count-size none = omega arith
 count-size (more h k r) = omega (arith, count-size r)
 
 -- a Class that is made an expression keeps its tag
-pub expression-tag : (b : Bool) (h : Head) → eqb (h .tag) 15 ≡ b → (if b then hd 15 1 (h .b) (h .c) else h) .tag ≡ h .tag
-expression-tag true h e = sym (eqb-true (h .tag) 15 e)
+pub expression-tag : (b : Bool) (h : Head) → eqb (h .tag) Tag.Class ≡ b → (if b then hd Tag.Class Form.Expression (h .b) (h .c) else h) .tag ≡ h .tag
+expression-tag true h e = sym (eqb-true (h .tag) Tag.Class e)
 expression-tag false h e = refl
 
 -- what becomes of a Catch whose parts `inside` lowers
@@ -49,10 +51,10 @@ most false x y p q = q
 pub numbers-most : (t : ℕ) → numbersOf t ≤ 4
 unfolding numbersOf
 numbers-most t =
-    most (oneOf (14 ∷ 18 ∷ 19 ∷ 25 ∷ 26 ∷ []) t) 1 _ (omega arith)
-    (most (oneOf (1 ∷ 2 ∷ 4 ∷ 5 ∷ 7 ∷ 9 ∷ 10 ∷ 11 ∷ 16 ∷ 20 ∷ 24 ∷ 28 ∷ 40 ∷ 41 ∷ []) t) 2 _ (omega arith)
-    (most (oneOf (3 ∷ 6 ∷ 8 ∷ 17 ∷ 27 ∷ 29 ∷ []) t) 3 _ (omega arith)
-    (most (oneOf (12 ∷ 13 ∷ 15 ∷ 42 ∷ []) t) 4 0 (omega arith) (omega arith))))
+    most (oneOf (Tag.Body ∷ Tag.DefaultExport ∷ Tag.ExportedDeclaration ∷ Tag.Read ∷ Tag.Name ∷ []) t) 1 _ (omega arith)
+    (most (oneOf (Tag.Program ∷ Tag.Block ∷ Tag.Label ∷ Tag.Declaration ∷ Tag.For ∷ Tag.Switch ∷ Tag.Case ∷ Tag.Try ∷ Tag.StaticBlock ∷ Tag.Specifier ∷ Tag.Expression ∷ Tag.Load ∷ Tag.Settings ∷ Tag.Scope ∷ []) t) 2 _ (omega arith)
+    (most (oneOf (Tag.Plain ∷ Tag.Declarator ∷ Tag.ForOf ∷ Tag.ModuleLine ∷ Tag.Call ∷ Tag.Step ∷ []) t) 3 _ (omega arith)
+    (most (oneOf (Tag.Catch ∷ Tag.Function ∷ Tag.Class ∷ Tag.Symbol ∷ []) t) 4 0 (omega arith) (omega arith))))
 
 pub two-length : (ns : List ℕ) → length (twoBytes ns) ≡ 2 * length ns
 unfolding twoBytes

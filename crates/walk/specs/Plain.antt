@@ -74,14 +74,14 @@ no-rewrite : (q : Tables) → oneOf rewritten (columnF (q .records) (q .walk .ga
 unfolding rewriteF
 no-rewrite q e =
     let t = columnF (q .records) (q .walk .gap .0) RecordTable.Tag in
-    let n₁ = or-none (eqb t 1) _ e in
-    let n₂ = or-none (eqb t 2) _ (n₁ .1) in
-    let n₄ = or-none (eqb t 4) _ (n₂ .1) in
-    let n₇ = or-none (eqb t 7) _ (n₄ .1) in
-    let n₈ = or-none (eqb t 8) _ (n₇ .1) in
-    let n₉ = or-none (eqb t 9) _ (n₈ .1) in
-    let n₁₁ = or-none (eqb t 11) _ (n₉ .1) in
-    let n₁₄ = or-none (eqb t 14) _ (n₁₁ .1) in
+    let n₁ = or-none (eqb t Tag.Program) _ e in
+    let n₂ = or-none (eqb t Tag.Block) _ (n₁ .1) in
+    let n₄ = or-none (eqb t Tag.Label) _ (n₂ .1) in
+    let n₇ = or-none (eqb t Tag.For) _ (n₄ .1) in
+    let n₈ = or-none (eqb t Tag.ForOf) _ (n₇ .1) in
+    let n₉ = or-none (eqb t Tag.Switch) _ (n₈ .1) in
+    let n₁₁ = or-none (eqb t Tag.Try) _ (n₉ .1) in
+    let n₁₄ = or-none (eqb t Tag.Body) _ (n₁₁ .1) in
     rw (n₁ .0, n₂ .0, n₄ .0, n₇ .0, n₈ .0, n₉ .0, n₁₁ .0, n₁₄ .0)
 
 module _ (r s y : List ℕ) (w : Walk) (plain : isPlainF r w ≡ true) where

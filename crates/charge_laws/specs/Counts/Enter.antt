@@ -6,6 +6,8 @@ use mathlib.Core.List.{List, [], _∷_, _++_}
 use Prim.Native.Nat.{ℕ, suc, _+_}
 use lib.Dec.{eqb, ltb}
 use borrow.Author.Tests.{eqb-true, eq-eqb}
+use Rattle.meaning.specs.Numbers.Tag
+use Rattle.meaning.specs.Numbers.Kind
 use Rattle.meaning.specs.Tree.{if_then_else_, oneOf, Head, hd, Forest, none, more, count, Node, node, _&_}
 use Rattle.meaning.specs.File.{Symbol}
 use Rattle.meaning.specs.Scoping.{Store, return}
@@ -47,20 +49,20 @@ Begins (more h (more h₁ k₁ r₁) r) = Unit {0}
 abbrev pub Body : Forest → Type 0
 Body none = Unit {0}
 Body (more h k none) = Unit {0}
-Body (more h₂ k₂ (more h₃ k₃ r)) = eqb (h₃ .tag) 5 ≡ false
+Body (more h₂ k₂ (more h₃ k₃ r)) = eqb (h₃ .tag) Tag.Declaration ≡ false
 
 -- the using of a ForOf begins with a Name, and is not recorded
 abbrev pub Left : Forest → Type 0
 Left none = Unit {0}
-Left (more h k r) = (isUsing h && bindsIdentifier k) ≡ true → Named k × Begins k × (oneOf (3 ∷ 4 ∷ []) (h .a) ≡ true) × Body r
+Left (more h k r) = (isUsing h && bindsIdentifier k) ≡ true → Named k × Begins k × (oneOf (Kind.Using ∷ Kind.AwaitUsing ∷ []) (h .a) ≡ true) × Body r
 
 -- The exports of a Program with a using have one child each, and its usings are not recorded; a ForOf's left side is as said; a Label
 -- has one child; a Catch has no Catch among its children.
 pub record Fit (h : Head) (k : Forest) : Type 0 where
-  pub items : eqb (h .tag) 1 ≡ true → anyUsing k ≡ true → Exports k × Kinds k
-  pub side : eqb (h .tag) 8 ≡ true → Left k
-  pub label : eqb (h .tag) 4 ≡ true → Labelled k
-  pub handler : eqb (h .tag) 12 ≡ true → Lacks 12 k
+  pub items : eqb (h .tag) Tag.Program ≡ true → anyUsing k ≡ true → Exports k × Kinds k
+  pub side : eqb (h .tag) Tag.ForOf ≡ true → Left k
+  pub label : eqb (h .tag) Tag.Label ≡ true → Labelled k
+  pub handler : eqb (h .tag) Tag.Catch ≡ true → Lacks Tag.Catch k
 
 named-left : (k : Forest) → Left k → NamedLeft k
 named-left none p = tt
@@ -82,7 +84,7 @@ alike-& (more h k r) f g e =
       ap suc (i .0),
       ap (λ (b : Bool). isUsing h || b) (i .1),
       ap (λ (n : ℕ). (if isUsing h then initializers k else 0) + n) (i .2),
-      ap (λ (n : ℕ). (if eqb (h .tag) 6 && ltb (h .b) (count k) then 1 else 0) + n) (i .3),
+      ap (λ (n : ℕ). (if eqb (h .tag) Tag.Declarator && ltb (h .b) (count k) then 1 else 0) + n) (i .3),
     )
 
 -- a record's children change, and count alike
@@ -92,12 +94,12 @@ alike-below h f g r e = (
   refl,
   refl,
   ap (λ (n : ℕ). (if isUsing h then n else 0) + wraps r) (e .3),
-  ap (λ (n : ℕ). (if eqb (h .tag) 6 && ltb (h .b) n then 1 else 0) + initializers r) (e .0),
+  ap (λ (n : ℕ). (if eqb (h .tag) Tag.Declarator && ltb (h .b) n then 1 else 0) + initializers r) (e .0),
 )
 
 -- neither a using nor a Declarator
 abbrev Plain : Head → Type 0
-Plain h = (isUsing h ≡ false) × (eqb (h .tag) 6 ≡ false)
+Plain h = (isUsing h ≡ false) × (eqb (h .tag) Tag.Declarator ≡ false)
 
 alike-head : (h h′ : Head) (k k′ r : Forest) → Plain h → Plain h′ → Alike (more h k r) (more h′ k′ r)
 unfolding count anyUsing wraps initializers
@@ -109,18 +111,18 @@ alike-head h h′ k k′ r p q = (refl, rw (p .0, q .0), rw (p .0, q .0), rw (p 
 abbrev pub leaveThen : Bool → Forest → List (List Line) → List (List Line)
 leaveThen b list xs = if b then contextLines ofStaticBlock list ∷ xs else xs
 
-left-if : (b : Bool) (h : Head) (k r : Forest) (st : Store) → h .tag ≡ 16
+left-if : (b : Bool) (h : Head) (k r : Forest) (st : Store) → h .tag ≡ Tag.StaticBlock
     → let e = (if b then exitStaticBlock h k else return (node h k)) st in
     Alike (more h k r) (more (e .0 .head) (e .0 .children) r)
 unfolding exitStaticBlock isUsing
-left-if true h k r st e = alike-head h _ k _ r (ap (λ (t : ℕ). isUsing (hd t (h .a) (h .b) (h .c))) e, ap (λ (t : ℕ). eqb t 6) e) (refl, refl)
+left-if true h k r st e = alike-head h _ k _ r (ap (λ (t : ℕ). isUsing (hd t (h .a) (h .b) (h .c))) e, ap (λ (t : ℕ). eqb t Tag.Declarator) e) (refl, refl)
 left-if false h k r st e = (refl, refl, refl, refl)
 
 pub left-alike : (h : Head) (k r : Forest) (st : Store) → isStaticBlock h ≡ true
     → let e = leave h k st in
     Alike (more h k r) (more (e .0 .head) (e .0 .children) r)
 unfolding leave
-left-alike h k r st e = left-if (anyUsing k) h k r st (eqb-true (h .tag) 16 e)
+left-alike h k r st e = left-if (anyUsing k) h k r st (eqb-true (h .tag) Tag.StaticBlock e)
 
 -- ---- entering
 
@@ -158,27 +160,27 @@ module _ (ys : List Symbol) where
         alike = λ r. (refl, refl, refl, refl);
       }
   act-enters {h = h} {k = k} cur hoist st p (as-program e u) =
-      let i = p .items (eq-eqb (h .tag) 1 e) u in
-      changed (program-opens ys h k st (i .0) (i .1) u) (at-tag Plain h 1 e (refl, refl)) (at-tag Plain h 1 e (refl, refl)) (rw e)
+      let i = p .items (eq-eqb (h .tag) Tag.Program e) u in
+      changed (program-opens ys h k st (i .0) (i .1) u) (at-tag Plain h Tag.Program e (refl, refl)) (at-tag Plain h Tag.Program e (refl, refl)) (rw e)
   act-enters {h = h} {k = k} cur hoist st p (as-block e u) =
-      changed (block-opens ys cur hoist h k st) (at-tag Plain h 2 e (refl, refl)) (refl, refl) refl
+      changed (block-opens ys cur hoist h k st) (at-tag Plain h Tag.Block e (refl, refl)) (refl, refl) refl
   act-enters {h = h} {k = k} cur hoist st p (as-body e u) =
-      changed (body-opens ys cur hoist h k st) (at-tag Plain h 14 e (refl, refl)) (refl, refl) refl
+      changed (body-opens ys cur hoist h k st) (at-tag Plain h Tag.Body e (refl, refl)) (refl, refl) refl
   act-enters {h = h} {k = k} cur hoist st p (as-try e u) =
-      changed (try-opens ys cur hoist h k st) (at-tag Plain h 11 e (refl, refl)) (at-tag Plain h 11 e (refl, refl)) (rw e)
+      changed (try-opens ys cur hoist h k st) (at-tag Plain h Tag.Try e (refl, refl)) (at-tag Plain h Tag.Try e (refl, refl)) (rw e)
   act-enters {h = h} {k = k} cur hoist st p (as-for e u) =
       let n : Plain h = at-loop Plain h e (refl, refl) (refl, refl) in
       changed (for-opens ys cur hoist h k st (n .0) (p .label) u) n (refl, refl) refl
   act-enters {h = h} {k = k} cur hoist st p (as-switch e u) =
-      at-tag (λ g. Enters ys switch g k (transformSwitchStatement cur g k st)) h 9 e
+      at-tag (λ g. Enters ys switch g k (transformSwitchStatement cur g k st)) h Tag.Switch e
       (changed (switch-opens ys cur (h .a) (h .b) (h .c) k st) (refl, refl) (refl, refl) refl)
   act-enters {h = h} cur hoist st p (as-insert {h₁ = h₁} {h₂ = h₂} {h₃ = h₃} {k₁ = k₁} {k₂ = k₂} {k₃ = k₃} {r = r} e b two) =
-      let q = p .side (eq-eqb (h .tag) 8 e) (b .both) in
-      let n : Plain h = at-tag Plain h 8 e (refl, refl) in
+      let q = p .side (eq-eqb (h .tag) Tag.ForOf e) (b .both) in
+      let n : Plain h = at-tag Plain h Tag.ForOf e (refl, refl) in
       changed (insert-opens ys h h₁ k₁ h₂ k₂ h₃ k₃ r st (b .uses) (b .identifier) (q .0) (q .2) two) n n (rw e)
   act-enters {h = h} cur hoist st p (as-wrap {h₁ = h₁} {h₂ = h₂} {h₃ = h₃} {k₁ = k₁} {k₂ = k₂} {k₃ = k₃} {r = r} e b) =
-      let q = p .side (eq-eqb (h .tag) 8 e) (b .both) in
-      let n : Plain h = at-tag Plain h 8 e (refl, refl) in
+      let q = p .side (eq-eqb (h .tag) Tag.ForOf e) (b .both) in
+      let n : Plain h = at-tag Plain h Tag.ForOf e (refl, refl) in
       changed (wrap-opens ys h h₁ k₁ h₂ k₂ h₃ k₃ r st (b .uses) (b .identifier) (q .0) (q .2)) n n (rw e)
 
   pub enters : (cur hoist : ℕ) (h : Head) (k : Forest) (st : Store) → Fit h k

@@ -6,6 +6,8 @@ use mathlib.Core.List.{List, [], _∷_}
 use Prim.Native.Nat.{ℕ}
 use lib.Dec.{eqb}
 use borrow.Author.Tests.{eqb-true}
+use Rattle.meaning.specs.Numbers.Tag
+use Rattle.meaning.specs.Numbers.Form
 use Rattle.meaning.specs.Tree.{if_then_else_, Head, hd, Forest, none, more, one, Node, node, single, _&_}
 use Rattle.meaning.specs.Scoping.{
   Store,
@@ -96,10 +98,10 @@ for-fits cur hoist h k st o u p =
     try-fits (s .0) (takeUpFor (c .0) (one h k)) (c .0) cur (c .0) cur (anyAwaitUsing (forList (one h k))) (s .1) (l .1)
     (loop-fits (one h k) (c .0) (o .label) u (o, p, tt))
 
-switch-fits : (cur a b d : ℕ) (k : Forest) (st : Store) → Fits k → Fits ((transformSwitchStatement cur (hd 9 a b d) k st) .0 .children)
+switch-fits : (cur a b d : ℕ) (k : Forest) (st : Store) → Fits k → Fits ((transformSwitchStatement cur (hd Tag.Switch a b d) k st) .0 .children)
 unfolding transformSwitchStatement
 switch-fits cur a b d k st p =
-    let h = hd 9 a b d in
+    let h = hd Tag.Switch a b d in
     let c = makeContext cur st in
     let s = createChildScope cur 0 (c .1) in
     let q = changeScopeParent (h .a) (s .0) (s .1) in
@@ -109,8 +111,8 @@ switch-fits cur a b d k st p =
 
 -- ---- the parts of a Try
 
-block-part : (u : Bool) (cur hoist a b c : ℕ) (k r : Forest) (st : Store) → Fit (hd 2 a b c) k → Fits k → Fits r
-    → Fits (single (((if u then transformTryBlock cur hoist (hd 2 a b c) k else return (node (hd 2 a b c) k)) st) .0) & r)
+block-part : (u : Bool) (cur hoist a b c : ℕ) (k r : Forest) (st : Store) → Fit (hd Tag.Block a b c) k → Fits k → Fits r
+    → Fits (single (((if u then transformTryBlock cur hoist (hd Tag.Block a b c) k else return (node (hd Tag.Block a b c) k)) st) .0) & r)
 unfolding transformTryBlock transformStatements createTryStmt _&_
 block-part true cur hoist a b d k r st o p q =
     let c = makeContext a st in
@@ -127,17 +129,17 @@ block-part true cur hoist a b d k r st o p q =
 block-part false cur hoist a b c k r st o p q = (o, p, q)
 
 -- A part that is no Catch does not become one.
-part-lacks : (u : Bool) (cur hoist : ℕ) (h : Head) (k r : Forest) (st : Store) → eqb (h .tag) 12 ≡ false → Lacks 12 r
-    → Lacks 12 (single (((if u then transformTryBlock cur hoist h k else return (node h k)) st) .0) & r)
+part-lacks : (u : Bool) (cur hoist : ℕ) (h : Head) (k r : Forest) (st : Store) → eqb (h .tag) Tag.Catch ≡ false → Lacks Tag.Catch r
+    → Lacks Tag.Catch (single (((if u then transformTryBlock cur hoist h k else return (node h k)) st) .0) & r)
 unfolding transformTryBlock _&_
 part-lacks true cur hoist h k r st e q = (refl, q)
 part-lacks false cur hoist h k r st e q = (e, q)
 
-parts-lack : (f : Forest) (cur hoist : ℕ) (st : Store) → Lacks 12 f → Lacks 12 ((transformTryParts cur hoist f st) .0)
+parts-lack : (f : Forest) (cur hoist : ℕ) (st : Store) → Lacks Tag.Catch f → Lacks Tag.Catch ((transformTryParts cur hoist f st) .0)
 unfolding transformTryParts
 parts-lack none cur hoist st p = tt
 parts-lack (more h k r) cur hoist st p =
-    rw (p .0) (part-lacks (eqb (h .tag) 2 && anyUsing k) cur hoist h k _ st (p .0) (parts-lack r cur hoist _ (p .1)))
+    rw (p .0) (part-lacks (eqb (h .tag) Tag.Block && anyUsing k) cur hoist h k _ st (p .0) (parts-lack r cur hoist _ (p .1)))
 
 -- neither a Catch nor a Block
 other-part : (x y u : Bool) (h : Head) (k r : Forest) (catches blocks : Change Node) (st : Store) → x ≡ false → y ≡ false → Fits (more h k r)
@@ -147,13 +149,13 @@ other-part true y u h k r catches blocks st e d p = absurd (clash e refl)
 other-part false true u h k r catches blocks st e d p = absurd (clash d refl)
 other-part false false u h k r catches blocks st e d p = p
 
-one-part : {t : ℕ} (cur hoist a b c : ℕ) (k r : Forest) (inside : Change Forest) (st : Store) → Seen (12 ∷ 2 ∷ []) t → Fit (hd t a b c) k → Fits k
-    → (Lacks 12 k → Lacks 12 ((inside st) .0)) → Fits ((inside st) .0) → Fits r
+one-part : {t : ℕ} (cur hoist a b c : ℕ) (k r : Forest) (inside : Change Forest) (st : Store) → Seen (Tag.Catch ∷ Tag.Block ∷ []) t → Fit (hd t a b c) k → Fits k
+    → (Lacks Tag.Catch k → Lacks Tag.Catch ((inside st) .0)) → Fits ((inside st) .0) → Fits r
     → let h = hd t a b c in
     Fits
     (single
-    (((if eqb t 12 then transformHandler h k inside
-    else if eqb t 2 && anyUsing k then transformTryBlock cur hoist h k
+    (((if eqb t Tag.Catch then transformHandler h k inside
+    else if eqb t Tag.Block && anyUsing k then transformTryBlock cur hoist h k
     else return (node h k))
     st) .0)
     & r)
@@ -162,13 +164,13 @@ one-part cur hoist a b c k r inside st here o p l i q = (catch-fit (l (o .handle
 one-part cur hoist a b c k r inside st (there e₁₂ here) o p l i q = block-part (anyUsing k) cur hoist a b c k r st o p q
 one-part {t} cur hoist a b c k r inside st (there e₁₂ (there e₂ other)) o p l i q =
     let h = hd t a b c in
-    other-part (eqb t 12) (eqb t 2) (anyUsing k) h k r (transformHandler h k inside) (transformTryBlock cur hoist h k) st e₁₂ e₂ (o, p, q)
+    other-part (eqb t Tag.Catch) (eqb t Tag.Block) (anyUsing k) h k r (transformHandler h k inside) (transformTryBlock cur hoist h k) st e₁₂ e₂ (o, p, q)
 
 parts-fit : (f : Forest) (cur hoist : ℕ) (st : Store) → Fits f → Fits ((transformTryParts cur hoist f st) .0)
 unfolding transformTryParts
 parts-fit none cur hoist st p = tt
 parts-fit (more h k r) cur hoist st p =
-    one-part cur hoist (h .a) (h .b) (h .c) k _ (transformTryParts cur hoist k) st (seen (12 ∷ 2 ∷ []) (h .tag)) (p .0) (p .1)
+    one-part cur hoist (h .a) (h .b) (h .c) k _ (transformTryParts cur hoist k) st (seen (Tag.Catch ∷ Tag.Block ∷ []) (h .tag)) (p .0) (p .1)
     (parts-lack k cur hoist st)
     (parts-fit k cur hoist st (p .1))
     (parts-fit r cur hoist _ (p .2))
@@ -180,14 +182,14 @@ unfolding rebind bindsIdentifier
 rebind-fits y none e p = tt
 rebind-fits y (more h none r) e p = p
 rebind-fits y (more h (more h₁ k₁ r₁) r) e p =
-    let six = eqb-true (h .tag) 6 (and-left (eqb (h .tag) 6) (eqb (h .a) 0) e) in
+    let six = eqb-true (h .tag) Tag.Declarator (and-left (eqb (h .tag) Tag.Declarator) (eqb (h .a) 0) e) in
     (easy (rw six), (easy refl, p .1 .1, p .1 .2), p .2)
 
 module _ (h h₁ : Head) (k₁ : Forest) (h₂ : Head) (k₂ : Forest) (h₃ : Head) (k₃ r : Forest) (st : Store) (b : bindsIdentifier k₁ ≡ true) where
   abbrev sides : Forest
   sides = more h₁ k₁ (more h₂ k₂ (more h₃ k₃ r))
 
-  insert-fits : h₃ .tag ≡ 2 → Fits sides → Fits ((enterForOfStatement false h sides st) .0 .children)
+  insert-fits : h₃ .tag ≡ Tag.Block → Fits sides → Fits ((enterForOfStatement false h sides st) .0 .children)
   unfolding enterForOfStatement insertUsing _&_
   insert-fits e p =
       let t = (createSymbol (symbolIn st (boundSymbol k₁) .name) 6 (h .a) 1 st) .0 in
@@ -238,7 +240,7 @@ unfolding specifiers
 specifiers-fit st [] = tt
 specifiers-fit st (y ∷ names) = (easy refl, tt, specifiers-fit st names)
 
-expression-fits : (b : Bool) (h : Head) (k : Forest) → Fit h k → Fit (if b then hd 15 1 (h .b) (h .c) else h) k
+expression-fits : (b : Bool) (h : Head) (k : Forest) → Fit h k → Fit (if b then hd Tag.Class Form.Expression (h .b) (h .c) else h) k
 expression-fits true h k o = easy refl
 expression-fits false h k o = o
 
@@ -253,7 +255,7 @@ item-fits st o p (as-exported-class {k = k} anything) = ((easy refl, (easy refl,
 item-fits st o p (as-default-class {k = k} named anything) = ((easy refl, (easy refl, tt, tt), tt), class-fits _ k st (p .1))
 item-fits st o p (as-default-value {h = h} {k = k} e d anything) = (
   (easy refl, (easy refl, tt, tt), tt),
-  (easy refl, (easy refl, (easy refl, tt, (expression-fits (eqb (h .tag) 15) h k (p .0), p .1, tt)), tt), tt),
+  (easy refl, (easy refl, (easy refl, tt, (expression-fits (eqb (h .tag) Tag.Class) h k (p .0), p .1, tt)), tt), tt),
 )
 
 items-fit : (f : Forest) (st : Store) → Fits f → FitSplit (programItems f st)

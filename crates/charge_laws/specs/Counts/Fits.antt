@@ -6,6 +6,8 @@ use mathlib.Core.List.{[], _∷_}
 use Prim.Native.Nat.{ℕ, zero, suc}
 use lib.Dec.{eqb}
 use borrow.Author.Tests.{eqb-true}
+use Rattle.meaning.specs.Numbers.Tag
+use Rattle.meaning.specs.Numbers.Kind
 use Rattle.meaning.specs.Tree.{if_then_else_, oneOf, Head, hd, Forest, none, more, one, _&_}
 use Rattle.meaning.specs.Scoping.{Store, createChildScope, createSymbol}
 use Rattle.meaning.specs.Shapes.{declaration}
@@ -36,7 +38,7 @@ Fits none = Unit {0}
 Fits (more h k r) = Fit h k × Fits k × Fits r
 
 -- a record that is no Program, no ForOf, no Label and no Catch
-pub easy : {h : Head} {k : Forest} → oneOf (1 ∷ 8 ∷ 4 ∷ 12 ∷ []) (h .tag) ≡ false → Fit h k
+pub easy : {h : Head} {k : Forest} → oneOf (Tag.Program ∷ Tag.ForOf ∷ Tag.Label ∷ Tag.Catch ∷ []) (h .tag) ≡ false → Fit h k
 easy {h} p =
     let t = h .tag in
     record {
@@ -46,7 +48,7 @@ easy {h} p =
       handler = λ e. absurd (clash p (rw (eqb-true t 12 e)));
     }
 
-label-fit : {a b c : ℕ} {k : Forest} → Labelled k → Fit (hd 4 a b c) k
+label-fit : {a b c : ℕ} {k : Forest} → Labelled k → Fit (hd Tag.Label a b c) k
 label-fit p =
     record {
       items = λ e. absurd (clash refl e);
@@ -55,7 +57,7 @@ label-fit p =
       handler = λ e. absurd (clash refl e);
     }
 
-pub catch-fit : {a b c : ℕ} {k : Forest} → Lacks 12 k → Fit (hd 12 a b c) k
+pub catch-fit : {a b c : ℕ} {k : Forest} → Lacks Tag.Catch k → Fit (hd Tag.Catch a b c) k
 catch-fit p =
     record {
       items = λ e. absurd (clash refl e);
@@ -77,8 +79,8 @@ initializer-fits none letter ctx m p = tt
 initializer-fits (more h k r) letter ctx zero p = (easy refl, (p .0, p .1, tt), p .2)
 initializer-fits (more h k r) letter ctx (suc m) p = (p .0, p .1, initializer-fits r letter ctx m (p .2))
 
-declarator-fits : {t : ℕ} (a b c : ℕ) (k r : Forest) (letter ctx : ℕ) → Seen (6 ∷ []) t → Fit (hd t a b c) k → Fits k → Fits r
-    → Fits (more (hd t a b c) (if eqb t 6 then wrapInitializer letter ctx b k else k) r)
+declarator-fits : {t : ℕ} (a b c : ℕ) (k r : Forest) (letter ctx : ℕ) → Seen (Tag.Declarator ∷ []) t → Fit (hd t a b c) k → Fits k → Fits r
+    → Fits (more (hd t a b c) (if eqb t Tag.Declarator then wrapInitializer letter ctx b k else k) r)
 declarator-fits a b c k r letter ctx here o p q = (easy refl, initializer-fits k letter ctx b p, q)
 declarator-fits a b c k r letter ctx (there e other) o p q = rw e (o, p, q)
 
@@ -86,7 +88,7 @@ initializers-fit : (f : Forest) (letter ctx : ℕ) → Fits f → Fits (wrapInit
 unfolding wrapInitializers
 initializers-fit none letter ctx p = tt
 initializers-fit (more h k r) letter ctx p =
-    declarator-fits (h .a) (h .b) (h .c) k (wrapInitializers letter ctx r) letter ctx (seen (6 ∷ []) (h .tag)) (p .0) (p .1)
+    declarator-fits (h .a) (h .b) (h .c) k (wrapInitializers letter ctx r) letter ctx (seen (Tag.Declarator ∷ []) (h .tag)) (p .0) (p .1)
     (initializers-fit r letter ctx (p .2))
 
 using-fits : (u : Bool) (h : Head) (k r : Forest) (letter ctx : ℕ) → Fit h k → Fits k → Fits r
@@ -103,8 +105,8 @@ list-fits (more h k r) running ctx needsAwait p =
     using-fits (isUsing h) h k (takeUp running ctx (running && awaits) r) (letterIf awaits) ctx (p .0) (p .1)
     (list-fits r running ctx (running && awaits) (p .2))
 
-case-fits : {t : ℕ} (a b c : ℕ) (k k′ r r′ : Forest) → Seen (10 ∷ []) t → Fit (hd t a b c) k → Fits k → Fits k′ → Fits r → Fits r′
-    → Fits (if eqb t 10 then more (hd t a b c) k′ r else more (hd t a b c) k r′)
+case-fits : {t : ℕ} (a b c : ℕ) (k k′ r r′ : Forest) → Seen (Tag.Case ∷ []) t → Fit (hd t a b c) k → Fits k → Fits k′ → Fits r → Fits r′
+    → Fits (if eqb t Tag.Case then more (hd t a b c) k′ r else more (hd t a b c) k r′)
 case-fits a b c k k′ r r′ here o p p′ q q′ = (easy refl, p′, q)
 case-fits a b c k k′ r r′ (there e other) o p p′ q q′ = rw e (o, p, q′)
 
@@ -112,7 +114,7 @@ pub cases-fit : (f : Forest) (ctx : ℕ) (needsAwait : Bool) → Fits f → Fits
 unfolding takeUpCases
 cases-fit none ctx needsAwait p = tt
 cases-fit (more h k r) ctx needsAwait p =
-    case-fits (h .a) (h .b) (h .c) k (takeUp true ctx needsAwait k) _ _ (seen (10 ∷ []) (h .tag)) (p .0) (p .1)
+    case-fits (h .a) (h .b) (h .c) k (takeUp true ctx needsAwait k) _ _ (seen (Tag.Case ∷ []) (h .tag)) (p .0) (p .1)
     (list-fits k true ctx needsAwait (p .1))
     (cases-fit r ctx (needsAwait || anyAwaitUsing k) (p .2))
     (cases-fit r ctx needsAwait (p .2))
@@ -125,11 +127,11 @@ labelled-taken : (f : Forest) (ctx : ℕ) → Labelled f → Labelled (takeUpFor
 unfolding takeUpFor
 labelled-taken none ctx a = absurd a
 labelled-taken (more h k none) ctx a =
-    λ e. labelled-if (eqb (h .tag) 4) (takeUpFor ctx k) (takeUp false ctx false k) (labelled-taken k ctx (a e)) e
+    λ e. labelled-if (eqb (h .tag) Tag.Label) (takeUpFor ctx k) (takeUp false ctx false k) (labelled-taken k ctx (a e)) e
 labelled-taken (more h k (more h₁ k₁ r₁)) ctx a = absurd a
 
-loop-one : {t : ℕ} (a b c : ℕ) (k : Forest) (ctx : ℕ) → Seen (4 ∷ 7 ∷ []) t → anyUsing (forList (one (hd t a b c) k)) ≡ true
-    → (eqb t 4 ≡ true → Labelled k) → Fits k → (eqb t 4 ≡ true → anyUsing (forList k) ≡ true → Fits (takeUpFor ctx k))
+loop-one : {t : ℕ} (a b c : ℕ) (k : Forest) (ctx : ℕ) → Seen (Tag.Label ∷ Tag.For ∷ []) t → anyUsing (forList (one (hd t a b c) k)) ≡ true
+    → (eqb t Tag.Label ≡ true → Labelled k) → Fits k → (eqb t Tag.Label ≡ true → anyUsing (forList k) ≡ true → Fits (takeUpFor ctx k))
     → Fits (takeUpFor ctx (one (hd t a b c) k))
 unfolding takeUpFor forList anyUsing
 loop-one a b c k ctx here u l p i = (label-fit (labelled-taken k ctx (l refl)), i refl u, tt)
@@ -140,7 +142,7 @@ pub loop-fits : (f : Forest) (ctx : ℕ) → Labelled f → anyUsing (forList f)
 unfolding takeUpFor
 loop-fits none ctx a u p = absurd a
 loop-fits (more h k none) ctx a u p =
-    loop-one (h .a) (h .b) (h .c) k ctx (seen (4 ∷ 7 ∷ []) (h .tag)) u a (p .1) (λ e v. loop-fits k ctx (a e) v (p .1))
+    loop-one (h .a) (h .b) (h .c) k ctx (seen (Tag.Label ∷ Tag.For ∷ []) (h .tag)) u a (p .1) (λ e v. loop-fits k ctx (a e) v (p .1))
 loop-fits (more h k (more h₁ k₁ r₁)) ctx a u p = absurd a
 
 -- ---- the Try that a context makes
@@ -155,7 +157,7 @@ load-if true cur st = (easy refl, tt, tt)
 load-if false cur st = (easy refl, tt, tt)
 
 pub try-fits : (scope : ℕ) (list : Forest) (ctx cur ctx′ parent : ℕ) (needsAwait : Bool) (st st′ : Store) → Fits list
-    → Fits ((createTryStmt scope (declaration 0 ctx ((helperLoad cur st) .0) & list) ctx′ parent needsAwait st′) .0 .children)
+    → Fits ((createTryStmt scope (declaration Kind.Var ctx ((helperLoad cur st) .0) & list) ctx′ parent needsAwait st′) .0 .children)
 unfolding createTryStmt createCatchClause createFinallyBlock createChildScope createSymbol helperLoad _&_
 try-fits scope list ctx cur ctx′ parent needsAwait st st′ p = (
   easy refl,

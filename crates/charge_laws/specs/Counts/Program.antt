@@ -8,6 +8,9 @@ use native.Mathlib.Omega.{arith}
 use lib.ListN.{length}
 use lib.Dec.{eqb}
 use borrow.Author.Tests.{eqb-true}
+use Rattle.meaning.specs.Numbers.Tag
+use Rattle.meaning.specs.Numbers.Kind
+use Rattle.meaning.specs.Numbers.Form
 use Rattle.meaning.specs.Tree.{if_then_else_, oneOf, Head, hd, Forest, none, more, one, _&_}
 use Rattle.meaning.specs.File.{Symbol}
 use Rattle.meaning.specs.Scoping.{Store, createSymbol, setFlagsOf, insertScopeBelow}
@@ -47,7 +50,7 @@ use Rattle.charge_laws.specs.Counts.ForOf.{standing-at}
 -- the usings of a list have their own kind, none being recorded
 abbrev pub Kinds : Forest → Type 0
 Kinds none = Unit {0}
-Kinds (more h k r) = (isUsing h ≡ true → oneOf (3 ∷ 4 ∷ []) (h .a) ≡ true) × Kinds r
+Kinds (more h k r) = (isUsing h ≡ true → oneOf (Kind.Using ∷ Kind.AwaitUsing ∷ []) (h .a) ≡ true) × Kinds r
 
 module _ (ys : List Symbol) where
   -- what an item leaves, before others
@@ -64,27 +67,27 @@ module _ (ys : List Symbol) where
 
   -- a made Declaration with one record as its initializer
   declared-moved : (y : ℕ) (h : Head) (k g : Forest)
-      → visitsIn ys (declaration 0 y (one h k) & g) takenUp ≡ free 3 ++ (visitsIn ys (one h k) standing ++ visitsIn ys g takenUp)
+      → visitsIn ys (declaration Kind.Var y (one h k) & g) takenUp ≡ free 3 ++ (visitsIn ys (one h k) standing ++ visitsIn ys g takenUp)
   unfolding visitsIn visitsOf visitsTakenUp visitsStanding visitsAs actOf next isUsing _&_
   declared-moved y h k g =
       ap (λ (v : List (List Line)). free 3 ++ (v ++ visitsIn ys g takenUp)) (++-nil (visitsIn ys (one h k) standing))
 
   -- a Class as an expression is visited as it was
-  class-same : (h : Head) (k : Forest) (a b c : ℕ) → h .tag ≡ 15 → visitsIn ys (one (hd 15 a b c) k) standing ≡ visitsIn ys (one h k) standing
+  class-same : (h : Head) (k : Forest) (a b c : ℕ) → h .tag ≡ Tag.Class → visitsIn ys (one (hd Tag.Class a b c) k) standing ≡ visitsIn ys (one h k) standing
   unfolding visitsIn visitsOf visitsStanding visitsAs actOf next
   class-same h k a b c e = ap (λ (v : Visits). spread ys v k []) (sym (standing-at ys h k 15 e))
 
-  class-moved : (h : Head) (k : Forest) (st : Store) (g : Forest) → h .tag ≡ 15
+  class-moved : (h : Head) (k : Forest) (st : Store) (g : Forest) → h .tag ≡ Tag.Class
       → visitsIn ys ((transformClassDecl h k st) .0 & g) takenUp ≡ free 3 ++ (visitsIn ys (one h k) standing ++ visitsIn ys g takenUp)
   unfolding transformClassDecl
   class-moved h k st g e =
       let y = (preserveClassExpressionName h st) .0 in
-      declared-moved (h .c) (hd 15 1 (h .b) y) k g
+      declared-moved (h .c) (hd Tag.Class Form.Expression (h .b) y) k g
       ∙ ap (λ (v : List (List Line)). free 3 ++ (v ++ visitsIn ys g takenUp)) (class-same h k 1 (h .b) y e)
 
-  expression-same : (b : Bool) (h : Head) (k : Forest) → eqb (h .tag) 15 ≡ b
-      → visitsIn ys (one (if b then hd 15 1 (h .b) (h .c) else h) k) standing ≡ visitsIn ys (one h k) standing
-  expression-same true h k e = class-same h k 1 (h .b) (h .c) (eqb-true (h .tag) 15 e)
+  expression-same : (b : Bool) (h : Head) (k : Forest) → eqb (h .tag) Tag.Class ≡ b
+      → visitsIn ys (one (if b then hd Tag.Class Form.Expression (h .b) (h .c) else h) k) standing ≡ visitsIn ys (one h k) standing
+  expression-same true h k e = class-same h k 1 (h .b) (h .c) (eqb-true (h .tag) Tag.Class e)
   expression-same false h k e = refl
 
   -- ---- an item
@@ -97,12 +100,12 @@ module _ (ys : List Symbol) where
   one-more : (n : ℕ) (xs : List (List Line)) → [] ∷ (free n ++ xs) ≡ free (1 + n) ++ xs
   one-more n xs = let e : suc n ≡ 1 + n = omega arith in ap (λ (m : ℕ). free m ++ xs) e
 
-  recorded : (u : Bool) (a : ℕ) → (u ≡ true → oneOf (3 ∷ 4 ∷ []) a ≡ true) → isUsing (hd 5 0 (if u then a else 0) 0) ≡ u
+  recorded : (u : Bool) (a : ℕ) → (u ≡ true → oneOf (3 ∷ 4 ∷ []) a ≡ true) → isUsing (hd Tag.Declaration Kind.Var (if u then a else 0) 0) ≡ u
   unfolding isUsing
   recorded true a e = e refl
   recorded false a e = refl
 
-  as-it-is : (h : Head) (k : Forest) → visitsKept ys h k ≡ visitsStanding ys h k → visitsMoved ys h k ≡ around [] skipped [] → eqb (h .tag) 5 ≡ false
+  as-it-is : (h : Head) (k : Forest) → visitsKept ys h k ≡ visitsStanding ys h k → visitsMoved ys h k ≡ around [] skipped [] → eqb (h .tag) Tag.Declaration ≡ false
       → Item h k (split (one h k) none)
   unfolding visitsIn visitsOf next isUsing _&_
   as-it-is h k e d t = rw (e, d, t) ((λ g. refl), (λ g. only 0 k (visitsIn ys g takenUp)), (λ g. refl), (λ g. omega arith))
@@ -116,7 +119,7 @@ module _ (ys : List Symbol) where
   stays {h} {k} no-export = as-it-is h k refl refl refl
   stays {h} {k} (export-other e₁₅ e₅ alone) = as-it-is h k (rw (e₁₅, e₅)) (rw (e₁₅, e₅)) refl
 
-  program-item : {x : ItemAct} {h : Head} {k : Forest} (st : Store) → (isUsing h ≡ true → oneOf (3 ∷ 4 ∷ []) (h .a) ≡ true)
+  program-item : {x : ItemAct} {h : Head} {k : Forest} (st : Store) → (isUsing h ≡ true → oneOf (Kind.Using ∷ Kind.AwaitUsing ∷ []) (h .a) ≡ true)
       → ChosenItem Alone x h k → Item h k ((itemAs x h k st) .0)
   unfolding itemAs topLevelClass topLevelDeclaration exportedDeclaration exportedClass defaultClass defaultValue transformClassDecl asExpression visitsIn visitsOf visitsKept visitsMoved visitsDefault visitsMovedDefault visitsExport visitsMovedExport visitsTakenUp visitsStanding visitsAs actOf next anyUsing isUsing wraps keepsDefault _&_
   program-item st u (as-kept s) = stays s
@@ -149,13 +152,13 @@ module _ (ys : List Symbol) where
       )
   program-item {k = k} st u (as-exported-class {x = x} {y = y} {z = z} {k = k₁} alone) = (
     (λ g. only 2 k (visitsIn ys g standing)),
-    (λ g. class-moved (hd 15 x y z) k₁ st g refl),
+    (λ g. class-moved (hd Tag.Class x y z) k₁ st g refl),
     (λ g. refl),
     (λ g. omega arith),
   )
   program-item {k = k} st u (as-default-class {y = y} {z = z} {k = k₁} named alone) = (
     (λ g. only 2 k (visitsIn ys g standing)),
-    (λ g. class-moved (hd 15 0 y z) k₁ st g refl),
+    (λ g. class-moved (hd Tag.Class Form.Declaration y z) k₁ st g refl),
     (λ g. refl),
     (λ g. omega arith),
   )
@@ -164,7 +167,7 @@ module _ (ys : List Symbol) where
         (λ g. only 2 k (visitsIn ys g standing)),
         (λ g.
             declared-moved ((createSymbol 4 1 1 0 st) .0) (asExpression h₁) k₁ g
-            ∙ ap (λ (v : List (List Line)). free 3 ++ (v ++ visitsIn ys g takenUp)) (expression-same (eqb (h₁ .tag) 15) h₁ k₁ refl)),
+            ∙ ap (λ (v : List (List Line)). free 3 ++ (v ++ visitsIn ys g takenUp)) (expression-same (eqb (h₁ .tag) Tag.Class) h₁ k₁ refl)),
         (λ g. refl),
         (λ g. omega arith),
       )
@@ -198,7 +201,7 @@ module _ (ys : List Symbol) where
 
   -- its Block, by the test of the moved items
   block-visits : (u : Bool) (scope : ℕ) (list : Forest) → anyUsing list ≡ u → u ≡ true
-      → spread ys (visitsAs (actIf u block) (hd 2 scope 0 0) list) list []
+      → spread ys (visitsAs (actIf u block) (hd Tag.Block scope 0 0) list) list []
       ≡ (context ofBlock ∷ wrapped (wraps list) ∷ []) ∷ (free 5 ++ (visitsIn ys list takenUp ++ free 6))
   unfolding visitsAs enterLines contextLines
   block-visits true scope list e d = rw e
@@ -216,7 +219,7 @@ module _ (ys : List Symbol) where
       (block-last (visitsIn ys k kept) (l ∷ free 5) (visitsIn ys k moved) (free 6) xs
       ∙ ap (λ (v : List (List Line)). v ++ xs)
       (sym
-      (visits-& ys (s .0 .kept) (one (hd 2 scope 0 0) (s .0 .moved))
+      (visits-& ys (s .0 .kept) (one (hd Tag.Block scope 0 0) (s .0 .moved))
       ∙ ap₂ (λ (v w : List (List Line)). v ++ w) (i .0)
       (block-visits (anyUsing (s .0 .moved)) scope (s .0 .moved) refl (i .2 ∙ u)
       ∙ ap₂ (λ (n : ℕ) (v : List (List Line)). (context ofBlock ∷ wrapped n ∷ []) ∷ (free 5 ++ (v ++ free 6))) (i .3) (i .1))))))

@@ -5,6 +5,8 @@ use mathlib.Core.Bool.{Bool, true, false, _||_, _&&_}
 use mathlib.Core.List.{List, [], _∷_, _++_}
 use Prim.Native.Nat.{ℕ, zero, suc}
 use lib.Dec.{eqb}
+use Rattle.meaning.specs.Numbers.Tag
+use Rattle.meaning.specs.Numbers.Kind
 use Rattle.meaning.specs.Tree.{if_then_else_, Head, hd, Forest, none, more, one, _&_}
 use Rattle.meaning.specs.File.{Symbol}
 use Rattle.meaning.specs.Scoping.{Store}
@@ -36,7 +38,7 @@ pub using-gone : (b : Bool) (h : Head) (k k′ r : Forest) → isUsing h ≡ b �
 unfolding anyUsing isUsing asTakenUp
 using-gone true h k k′ r u e = const-plain (eqb (h .b) 0) r e
   where
-    const-plain : (c : Bool) (r : Forest) → anyUsing r ≡ false → anyUsing (more (hd 5 (if c then 2 else 0) 0 0) none r) ≡ false
+    const-plain : (c : Bool) (r : Forest) → anyUsing r ≡ false → anyUsing (more (hd Tag.Declaration (if c then Kind.Const else Kind.Var) 0 0) none r) ≡ false
     const-plain true r e = e
     const-plain false r e = e
 using-gone false h k k′ r u e = rw u e
@@ -49,7 +51,7 @@ none-left (more h k r) running ctx needsAwait =
     using-gone (isUsing h) h k (wrapInitializers (letterIf awaits) ctx k) (takeUp running ctx (running && awaits) r) refl
     (none-left r running ctx (running && awaits))
 
-case-gone : (b : Bool) (h : Head) (k k′ r r′ : Forest) → eqb (h .tag) 10 ≡ b → anyUsing k′ ≡ false → anyCaseUsing r ≡ false → anyCaseUsing r′ ≡ false
+case-gone : (b : Bool) (h : Head) (k k′ r r′ : Forest) → eqb (h .tag) Tag.Case ≡ b → anyUsing k′ ≡ false → anyCaseUsing r ≡ false → anyCaseUsing r′ ≡ false
     → anyCaseUsing (if b then more h k′ r else more h k r′) ≡ false
 unfolding anyCaseUsing
 case-gone true h k k′ r r′ t e i j = rw (t, e) i
@@ -59,7 +61,7 @@ pub no-case-left : (f : Forest) (ctx : ℕ) (needsAwait : Bool) → anyCaseUsing
 unfolding takeUpCases anyCaseUsing
 no-case-left none ctx needsAwait = refl
 no-case-left (more h k r) ctx needsAwait =
-    case-gone (eqb (h .tag) 10) h k (takeUp true ctx needsAwait k) (takeUpCases ctx (needsAwait || anyAwaitUsing k) r) (takeUpCases ctx needsAwait r) refl
+    case-gone (eqb (h .tag) Tag.Case) h k (takeUp true ctx needsAwait k) (takeUpCases ctx (needsAwait || anyAwaitUsing k) r) (takeUpCases ctx needsAwait r) refl
     (none-left k true ctx needsAwait)
     (no-case-left r ctx (needsAwait || anyAwaitUsing k))
     (no-case-left r ctx needsAwait)
@@ -75,7 +77,7 @@ loop-gone false false ctx k i = refl
 no-loop-left : (f : Forest) (ctx : ℕ) → anyUsing (forList (takeUpFor ctx f)) ≡ false
 unfolding takeUpFor forList anyUsing
 no-loop-left none ctx = refl
-no-loop-left (more h k r) ctx = loop-gone (eqb (h .tag) 4) (eqb (h .tag) 7) ctx k (no-loop-left k ctx)
+no-loop-left (more h k r) ctx = loop-gone (eqb (h .tag) Tag.Label) (eqb (h .tag) Tag.For) ctx k (no-loop-left k ctx)
 
 or-none : (b c : Bool) → b ≡ false → ((true && b) || (false && c) || false) ≡ false
 or-none b c e = rw e
@@ -91,7 +93,7 @@ no-part-left scope list ctx parent needsAwait st e = or-none (anyUsing list) tru
 -- one record; below a Label, one again
 abbrev pub Labelled : Forest → Type 0
 Labelled none = ⊥
-Labelled (more h k none) = eqb (h .tag) 4 ≡ true → Labelled k
+Labelled (more h k none) = eqb (h .tag) Tag.Label ≡ true → Labelled k
 Labelled (more h k (more h₁ k₁ r₁)) = ⊥
 
 module _ (ys : List Symbol) where
@@ -102,9 +104,9 @@ module _ (ys : List Symbol) where
   initializer-visits (more h k r) letter ctx (suc m) =
       ap (λ (v : List (List Line)). spread ys (visitsStanding ys h k) k v) (initializer-visits r letter ctx m)
 
-  declarator-visits : {t : ℕ} (a b c : ℕ) (k r r′ : Forest) (letter ctx : ℕ) → Seen (6 ∷ []) t
+  declarator-visits : {t : ℕ} (a b c : ℕ) (k r r′ : Forest) (letter ctx : ℕ) → Seen (Tag.Declarator ∷ []) t
       → visitsIn ys r′ standing ≡ visitsIn ys r declarators
-      → visitsIn ys (more (hd t a b c) (if eqb t 6 then wrapInitializer letter ctx b k else k) r′) standing
+      → visitsIn ys (more (hd t a b c) (if eqb t Tag.Declarator then wrapInitializer letter ctx b k else k) r′) standing
       ≡ visitsIn ys (more (hd t a b c) k r) declarators
   unfolding visitsIn visitsOf visitsStanding visitsAs actOf next
   declarator-visits a b c k r r′ letter ctx here i =
@@ -116,7 +118,7 @@ module _ (ys : List Symbol) where
   unfolding wrapInitializers visitsIn
   declarators-visits none letter ctx = refl
   declarators-visits (more h k r) letter ctx =
-      declarator-visits (h .a) (h .b) (h .c) k r (wrapInitializers letter ctx r) letter ctx (seen (6 ∷ []) (h .tag))
+      declarator-visits (h .a) (h .b) (h .c) k r (wrapInitializers letter ctx r) letter ctx (seen (Tag.Declarator ∷ []) (h .tag))
       (declarators-visits r letter ctx)
 
   using-visits : (u : Bool) (h : Head) (k r r′ : Forest) (letter ctx : ℕ)
@@ -138,9 +140,9 @@ module _ (ys : List Symbol) where
       using-visits (isUsing h) h k r (takeUp running ctx (running && awaits) r) (letterIf awaits) ctx
       (list-visits r running ctx (running && awaits))
 
-  case-visits : {t : ℕ} (a b c : ℕ) (k r r₁ r₂ : Forest) (ctx : ℕ) (needsAwait : Bool) → Seen (10 ∷ []) t
+  case-visits : {t : ℕ} (a b c : ℕ) (k r r₁ r₂ : Forest) (ctx : ℕ) (needsAwait : Bool) → Seen (Tag.Case ∷ []) t
       → visitsIn ys r₁ standing ≡ visitsIn ys r cases → visitsIn ys r₂ standing ≡ visitsIn ys r cases
-      → visitsIn ys (if eqb t 10 then more (hd t a b c) (takeUp true ctx needsAwait k) r₁ else more (hd t a b c) k r₂) standing
+      → visitsIn ys (if eqb t Tag.Case then more (hd t a b c) (takeUp true ctx needsAwait k) r₁ else more (hd t a b c) k r₂) standing
       ≡ visitsIn ys (more (hd t a b c) k r) cases
   unfolding visitsIn visitsOf visitsStanding visitsAs actOf next
   case-visits a b c k r r₁ r₂ ctx needsAwait here i j =
@@ -153,19 +155,19 @@ module _ (ys : List Symbol) where
   cases-visits none ctx needsAwait = refl
   cases-visits (more h k r) ctx needsAwait =
       case-visits (h .a) (h .b) (h .c) k r (takeUpCases ctx (needsAwait || anyAwaitUsing k) r) (takeUpCases ctx needsAwait r) ctx needsAwait
-      (seen (10 ∷ []) (h .tag))
+      (seen (Tag.Case ∷ []) (h .tag))
       (cases-visits r ctx (needsAwait || anyAwaitUsing k))
       (cases-visits r ctx needsAwait)
 
-  loop-one : {t : ℕ} (a b c : ℕ) (k : Forest) (ctx : ℕ) → Seen (4 ∷ 7 ∷ []) t → anyUsing (forList (one (hd t a b c) k)) ≡ true
-      → (eqb t 4 ≡ true → anyUsing (forList k) ≡ true → visitsIn ys (takeUpFor ctx k) standing ≡ visitsIn ys k loop)
+  loop-one : {t : ℕ} (a b c : ℕ) (k : Forest) (ctx : ℕ) → Seen (Tag.Label ∷ Tag.For ∷ []) t → anyUsing (forList (one (hd t a b c) k)) ≡ true
+      → (eqb t Tag.Label ≡ true → anyUsing (forList k) ≡ true → visitsIn ys (takeUpFor ctx k) standing ≡ visitsIn ys k loop)
       → visitsIn ys (takeUpFor ctx (one (hd t a b c) k)) standing ≡ visitsIn ys (one (hd t a b c) k) loop
   unfolding visitsIn visitsOf visitsStanding visitsAs actOf takeUpFor forList anyUsing
   loop-one a b c k ctx here u i =
-      kept-if ys (anyUsing (forList (takeUpFor ctx k))) forLoop (hd 4 a b c) (takeUpFor ctx k) [] (no-loop-left k ctx)
+      kept-if ys (anyUsing (forList (takeUpFor ctx k))) forLoop (hd Tag.Label a b c) (takeUpFor ctx k) [] (no-loop-left k ctx)
       ∙ ap (λ (v : List (List Line)). [] ∷ (v ++ [])) (i refl u)
   loop-one a b c k ctx (there e₄ here) u i =
-      kept-if ys (anyUsing (takeUp false ctx false k)) forLoop (hd 7 a b c) (takeUp false ctx false k) [] (none-left k false ctx false)
+      kept-if ys (anyUsing (takeUp false ctx false k)) forLoop (hd Tag.For a b c) (takeUp false ctx false k) [] (none-left k false ctx false)
       ∙ ap (λ (v : List (List Line)). [] ∷ (v ++ [])) (list-visits k false ctx false)
   loop-one a b c k ctx (there e₄ (there e₇ other)) u i = absurd (clash (rw (e₄, e₇)) u)
 
@@ -174,5 +176,5 @@ module _ (ys : List Symbol) where
   unfolding takeUpFor visitsIn
   loop-visits none ctx a u = absurd a
   loop-visits (more h k none) ctx a u =
-      loop-one (h .a) (h .b) (h .c) k ctx (seen (4 ∷ 7 ∷ []) (h .tag)) u (λ e v. loop-visits k ctx (a e) v)
+      loop-one (h .a) (h .b) (h .c) k ctx (seen (Tag.Label ∷ Tag.For ∷ []) (h .tag)) u (λ e v. loop-visits k ctx (a e) v)
   loop-visits (more h k (more h₁ k₁ r₁)) ctx a u = absurd a

@@ -5,6 +5,9 @@ use mathlib.Core.Bool.{Bool, true, false, _||_, _&&_}
 use mathlib.Core.List.{List, [], _∷_, _++_, append-assoc}
 use Prim.Native.Nat.{ℕ}
 use lib.Dec.{eqb}
+use Rattle.meaning.specs.Numbers.Tag
+use Rattle.meaning.specs.Numbers.Kind
+use Rattle.meaning.specs.Numbers.Parts
 use Rattle.meaning.specs.Tree.{if_then_else_, Head, hd, Forest, none, more, one, Node, node, single, _&_}
 use Rattle.meaning.specs.File.{Symbol}
 use Rattle.meaning.specs.Scoping.{
@@ -63,7 +66,7 @@ regroup a m b xs e = rw e (simp append-assoc)
 module _ (ys : List Symbol) where
   -- the context's declaration before a list
   declared-if : (b : Bool) (ctx cur : ℕ) (st : Store) (list : Forest)
-      → visitsIn ys (declaration 0 ctx (((if b then loadRuntime else loadExternal cur) st) .0) & list) standing
+      → visitsIn ys (declaration Kind.Var ctx (((if b then loadRuntime else loadExternal cur) st) .0) & list) standing
       ≡ free 4 ++ visitsIn ys list standing
   unfolding loadRuntime loadExternal visitsIn visitsOf visitsStanding visitsAs actOf next _&_
   declared-if true ctx cur st list = refl
@@ -72,14 +75,14 @@ module _ (ys : List Symbol) where
   -- the parts of the Try around a list without usings
   abbrev tried : ℕ → Forest → ℕ → ℕ → ℕ → Bool → Store → Store → Node
   tried scope list ctx cur parent needsAwait st st′ =
-      (createTryStmt scope (declaration 0 ctx ((helperLoad cur st) .0) & list) ctx parent needsAwait st′) .0
+      (createTryStmt scope (declaration Kind.Var ctx ((helperLoad cur st) .0) & list) ctx parent needsAwait st′) .0
 
   try-visits : (scope : ℕ) (list : Forest) (ctx cur parent : ℕ) (needsAwait : Bool) (st st′ : Store) → anyUsing list ≡ false
       → visitsIn ys ((tried scope list ctx cur parent needsAwait st st′) .children) standing
       ≡ free 5 ++ (visitsIn ys list standing ++ free 6)
   unfolding createTryStmt createCatchClause createFinallyBlock helperLoad visitsIn visitsOf visitsStanding visitsAs actOf next anyUsing isUsing _&_
   try-visits scope list ctx cur parent needsAwait st st′ e =
-      kept-if ys (anyUsing list) block (hd 2 scope 0 0) (declaration 0 ctx ((helperLoad cur st) .0) & list) (free 6) e
+      kept-if ys (anyUsing list) block (hd Tag.Block scope 0 0) (declaration Kind.Var ctx ((helperLoad cur st) .0) & list) (free 6) e
       ∙ ap (λ (v : List (List Line)). [] ∷ (v ++ free 6)) (declared-if (eqb (st .mode) 0) ctx cur st list)
 
   -- the Try itself, as it stands
@@ -89,8 +92,8 @@ module _ (ys : List Symbol) where
   unfolding visitsIn visitsOf visitsStanding visitsAs actOf next createTryStmt anyUsing isUsing _&_
   made-visits scope list ctx cur parent needsAwait st st′ e =
       let kids = (tried scope list ctx cur parent needsAwait st st′) .children in
-      kept-if ys (anyPartUsing kids) tryParts (hd 11 3 0 0) kids []
-      (no-part-left scope (declaration 0 ctx ((helperLoad cur st) .0) & list) ctx parent needsAwait st′ e)
+      kept-if ys (anyPartUsing kids) tryParts (hd Tag.Try Parts.Both 0 0) kids []
+      (no-part-left scope (declaration Kind.Var ctx ((helperLoad cur st) .0) & list) ctx parent needsAwait st′ e)
       ∙ ap (_∷_ []) (++-nil (visitsIn ys kids standing) ∙ try-visits scope list ctx cur parent needsAwait st st′ e)
 
   -- ---- what is entered
@@ -133,7 +136,7 @@ module _ (ys : List Symbol) where
       let c = makeContext hoist st in
       let s = insertScopeBelow cur (one h k) (c .1) in
       let l = helperLoad cur (s .1) in
-      let m = (if eqb (h .tag) 4 then loop else takenUp) in
+      let m = (if eqb (h .tag) Tag.Label then loop else takenUp) in
       ap (_∷_ (enterLines forLoop h k))
       (regroup (free 6) (visitsIn ys k m) (free 6) xs
       (try-visits (s .0) (takeUpFor (c .0) (one h k)) (c .0) cur cur (anyAwaitUsing (forList (one h k))) (s .1) (l .1) (rw p)
@@ -141,10 +144,10 @@ module _ (ys : List Symbol) where
       ∙ in-one (visitsIn ys k m)))
 
   pub switch-opens : (cur a b d : ℕ) (k : Forest) (st : Store)
-      → Opens switch (hd 9 a b d) k (transformSwitchStatement cur (hd 9 a b d) k st)
+      → Opens switch (hd Tag.Switch a b d) k (transformSwitchStatement cur (hd Tag.Switch a b d) k st)
   unfolding transformSwitchStatement visitsAs visitsIn visitsOf visitsStanding actOf anyUsing isUsing
   switch-opens cur a b d k st xs =
-      let h = hd 9 a b d in
+      let h = hd Tag.Switch a b d in
       let c = makeContext cur st in
       let s = createChildScope cur 0 (c .1) in
       let p = changeScopeParent (h .a) (s .0) (s .1) in
@@ -161,8 +164,8 @@ module _ (ys : List Symbol) where
 
   block-part : (u : Bool) (cur hoist a b c : ℕ) (k r r′ : Forest) (st : Store)
       → visitsIn ys r′ standing ≡ visitsIn ys r parts
-      → visitsIn ys (single (((if u then transformTryBlock cur hoist (hd 2 a b c) k else return (node (hd 2 a b c) k)) st) .0) & r′) standing
-      ≡ spread ys (if u then inTry (free 2) takenUp else visitsStanding ys (hd 2 a b c) k) k (visitsIn ys r parts)
+      → visitsIn ys (single (((if u then transformTryBlock cur hoist (hd Tag.Block a b c) k else return (node (hd Tag.Block a b c) k)) st) .0) & r′) standing
+      ≡ spread ys (if u then inTry (free 2) takenUp else visitsStanding ys (hd Tag.Block a b c) k) k (visitsIn ys r parts)
   unfolding transformTryBlock transformStatements visitsIn visitsOf visitsStanding visitsAs actOf next anyUsing isUsing _&_ createTryStmt
   block-part true cur hoist a b d k r r′ st i =
       let c = makeContext a st in
@@ -174,7 +177,7 @@ module _ (ys : List Symbol) where
       ∙ ap (λ (v : List (List Line)). free 6 ++ (v ++ free 6)) (list-visits ys k false (c .0) false)))
       ∙ ap (λ (v : List (List Line)). free 6 ++ (visitsIn ys k takenUp ++ (free 6 ++ v))) i)
   block-part false cur hoist a b c k r r′ st i =
-      ap (λ (v : List (List Line)). spread ys (visitsStanding ys (hd 2 a b c) k) k v) i
+      ap (λ (v : List (List Line)). spread ys (visitsStanding ys (hd Tag.Block a b c) k) k v) i
 
   -- neither a Catch nor a Block
   other-part : (p q u : Bool) (h : Head) (k r r′ : Forest) (catches blocks : Change Node) (v w : Visits) (st : Store) → p ≡ false → q ≡ false
@@ -187,14 +190,14 @@ module _ (ys : List Symbol) where
   other-part false false u h k r r′ catches blocks v w st e d i =
       ap (λ (x : List (List Line)). spread ys (visitsStanding ys h k) k x) i
 
-  one-part : {t : ℕ} (cur hoist a b c : ℕ) (k r r′ : Forest) (inside : Change Forest) (st : Store) → Seen (12 ∷ 2 ∷ []) t
+  one-part : {t : ℕ} (cur hoist a b c : ℕ) (k r r′ : Forest) (inside : Change Forest) (st : Store) → Seen (Tag.Catch ∷ Tag.Block ∷ []) t
       → visitsIn ys ((inside st) .0) standing ≡ visitsIn ys k parts
       → visitsIn ys r′ standing ≡ visitsIn ys r parts
       → let h = hd t a b c in
       visitsIn ys
       (single
-      (((if eqb t 12 then transformHandler h k inside
-      else if eqb t 2 && anyUsing k then transformTryBlock cur hoist h k
+      (((if eqb t Tag.Catch then transformHandler h k inside
+      else if eqb t Tag.Block && anyUsing k then transformTryBlock cur hoist h k
       else return (node h k))
       st) .0)
       & r′) standing
@@ -204,14 +207,14 @@ module _ (ys : List Symbol) where
   one-part cur hoist a b c k r r′ inside st (there e₁₂ here) i j = block-part (anyUsing k) cur hoist a b c k r r′ st j
   one-part {t} cur hoist a b c k r r′ inside st (there e₁₂ (there e₂ other)) i j =
       let h = hd t a b c in
-      other-part (eqb t 12) (eqb t 2) (anyUsing k) h k r r′ (transformHandler h k inside) (transformTryBlock cur hoist h k)
+      other-part (eqb t Tag.Catch) (eqb t Tag.Block) (anyUsing k) h k r r′ (transformHandler h k inside) (transformTryBlock cur hoist h k)
       (around (free 1) parts []) (inTry (free 2) takenUp) st e₁₂ e₂ j
 
   parts-visits : (f : Forest) (cur hoist : ℕ) (st : Store) → visitsIn ys ((transformTryParts cur hoist f st) .0) standing ≡ visitsIn ys f parts
   unfolding transformTryParts visitsIn
   parts-visits none cur hoist st = refl
   parts-visits (more h k r) cur hoist st =
-      one-part cur hoist (h .a) (h .b) (h .c) k r _ (transformTryParts cur hoist k) st (seen (12 ∷ 2 ∷ []) (h .tag))
+      one-part cur hoist (h .a) (h .b) (h .c) k r _ (transformTryParts cur hoist k) st (seen (Tag.Catch ∷ Tag.Block ∷ []) (h .tag))
       (parts-visits k cur hoist st)
       (parts-visits r cur hoist _)
 

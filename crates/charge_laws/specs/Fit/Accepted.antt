@@ -8,6 +8,8 @@ use native.Mathlib.Omega.{arith}
 use lib.ListN.{take}
 use lib.Dec.{eqb}
 use borrow.Author.Tests.{eqb-true}
+use Rattle.meaning.specs.Numbers.Tag
+use Rattle.meaning.specs.Numbers.Kind
 use Rattle.meaning.specs.Tree.{oneOf, Head, Forest, none, more, count}
 use Rattle.meaning.specs.File.{File, numbersOf, hasChildren, ownNumbers}
 use Rattle.meaning.specs.Grammar.{tagsOf, allowed, is, declaratorRight, right, childrenOf, placeOf, headOf}
@@ -39,7 +41,7 @@ use Rattle.spec_laws.specs.Bools.{or-false}
 
 module _ (p : Place) (syms : ℕ) where
   -- a Declarator with pattern 0 has a Name
-  module _ (x : Field) (t : x .tag ≡ 6) (z : x .a ≡ 0) (e : right p syms x ≡ true) where
+  module _ (x : Field) (t : x .tag ≡ Tag.Declarator) (z : x .a ≡ 0) (e : right p syms x ≡ true) where
     one-name : x .b ≡ 1
     unfolding right declaratorRight
     one-name = eqb-true (x .b) 1 (and-left (eqb (x .b) 1) _ (rw (t, z) at e))
@@ -55,9 +57,9 @@ module _ (p : Place) (syms : ℕ) where
         clash refl (and-right (not (is p ForOfDeclarator)) false (rw (t, z, one-name, ← c) at e))
 
 -- a Declaration's only number is its kind
-own-kind : {t : ℕ} (a b c d next : ℕ) → Seen (5 ∷ []) t
+own-kind : {t : ℕ} (a b c d next : ℕ) → Seen (Tag.Declaration ∷ []) t
     → let h = headOf (record { tag = t; a = a; b = b; c = c; d = d; next = next }) in
-    isUsing h ≡ true → oneOf (3 ∷ 4 ∷ []) (h .a) ≡ true
+    isUsing h ≡ true → oneOf (Kind.Using ∷ Kind.AwaitUsing ∷ []) (h .a) ≡ true
 unfolding isUsing headOf ownNumbers hasChildren numbersOf
 own-kind a b c d next here u = or-false (oneOf (3 ∷ 4 ∷ []) a) u
 own-kind a b c d next (there e other) u = absurd (clash (rw e) u)
@@ -65,28 +67,28 @@ own-kind a b c d next (there e other) u = absurd (clash (rw e) u)
 -- ---- a record read
 
 module _ {syms : ℕ} {p : Place} {x : Field} {h : Head} {k : Forest} (q : ReadAs syms p x h k) where
-  has-one : oneOf (4 ∷ 18 ∷ 19 ∷ []) (h .tag) ≡ true → count k ≡ 1
+  has-one : oneOf (Tag.Label ∷ Tag.DefaultExport ∷ Tag.ExportedDeclaration ∷ []) (h .tag) ≡ true → count k ≡ 1
   has-one e = q .children ∙ one-child p syms x (rw (same-tag q) at e) (q .numbers)
 
-  using-kind : isUsing h ≡ true → oneOf (3 ∷ 4 ∷ []) (h .a) ≡ true
+  using-kind : isUsing h ≡ true → oneOf (Kind.Using ∷ Kind.AwaitUsing ∷ []) (h .a) ≡ true
   using-kind u =
-      let k = own-kind (x .a) (x .b) (x .c) (x .d) (x .next) (seen (5 ∷ []) (x .tag)) in
+      let k = own-kind (x .a) (x .b) (x .c) (x .d) (x .next) (seen (Tag.Declaration ∷ []) (x .tag)) in
       rw (q .head) (k (rw (q .head) at u))
 
   -- a Declarator with pattern 0, as a field
-  of-identifier : (eqb (h .tag) 6 && eqb (h .a) 0) ≡ true → (x .tag ≡ 6) × (x .a ≡ 0)
+  of-identifier : (eqb (h .tag) Tag.Declarator && eqb (h .a) 0) ≡ true → (x .tag ≡ Tag.Declarator) × (x .a ≡ 0)
   unfolding headOf ownNumbers hasChildren numbersOf
   of-identifier e =
-      let t : x .tag ≡ 6 = sym (same-tag q) ∙ eqb-true (h .tag) 6 (and-left (eqb (h .tag) 6) (eqb (h .a) 0) e) in
+      let t : x .tag ≡ Tag.Declarator = sym (same-tag q) ∙ eqb-true (h .tag) Tag.Declarator (and-left (eqb (h .tag) Tag.Declarator) (eqb (h .a) 0) e) in
       let a : h .a ≡ x .a = ap (λ (v : Head). v .a) (q .head) ∙ rw t in
-      (t, sym a ∙ eqb-true (h .a) 0 (and-right (eqb (h .tag) 6) (eqb (h .a) 0) e))
+      (t, sym a ∙ eqb-true (h .a) 0 (and-right (eqb (h .tag) Tag.Declarator) (eqb (h .a) 0) e))
 
 -- ---- lists
 
 module _ (syms : ℕ) where
   exports : (f : Forest) (place : ℕ → Place) (i : ℕ) → Placed syms place i f → Exports f
   exports none place i q = tt
-  exports (more h k r) place i q = ((λ e. has-one (q .1) (rw e (or-true (eqb (h .tag) 4)))), exports r place (suc i) (q .3))
+  exports (more h k r) place i q = ((λ e. has-one (q .1) (rw e (or-true (eqb (h .tag) Tag.Label)))), exports r place (suc i) (q .3))
 
   kinds : (f : Forest) (place : ℕ → Place) (i : ℕ) → Placed syms place i f → Kinds f
   kinds none place i q = tt
@@ -112,12 +114,12 @@ module _ (syms : ℕ) where
         tt,
       )
 
-  body : (f : Forest) (place : ℕ → Place) (i : ℕ) → Bars 5 (place (suc i)) → Placed syms place i f → Body f
+  body : (f : Forest) (place : ℕ → Place) (i : ℕ) → Bars Tag.Declaration (place (suc i)) → Placed syms place i f → Body f
   body none place i bars q = tt
   body (more h k none) place i bars q = tt
   body (more h₂ k₂ (more h₃ k₃ r)) place i bars q = barred 5 bars (q .3 .1)
 
-  left : (f : Forest) (place : ℕ → Place) → Bars 5 (place 2) → Placed syms place 0 f → Left f
+  left : (f : Forest) (place : ℕ → Place) → Bars Tag.Declaration (place 2) → Placed syms place 0 f → Left f
   left none place bars q = tt
   left (more h k r) place bars q =
       λ e.
@@ -130,9 +132,9 @@ module _ (syms : ℕ) where
       let inside = placeOf (place i) (q .0) in (
         record {
           items = λ e u. (exports k inside 0 (q .2), kinds k inside 0 (q .2));
-          side = λ e. left k inside (body-bars-5 (place i) (q .0) (eqb-true (q .0 .tag) 8 (rw (same-tag (q .1)) at e))) (q .2);
+          side = λ e. left k inside (body-bars-5 (place i) (q .0) (eqb-true (q .0 .tag) Tag.ForOf (rw (same-tag (q .1)) at e))) (q .2);
           label = λ e. labelled k inside 0 (q .2) (has-one (q .1) (rw e));
-          handler = λ e. no-catch (q .1) (q .2) (rw (eqb-true (h .tag) 12 e));
+          handler = λ e. no-catch (q .1) (q .2) (rw (eqb-true (h .tag) Tag.Catch e));
         },
         fits k inside 0 (q .2),
         fits r place (suc i) (q .3),

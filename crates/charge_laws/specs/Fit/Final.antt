@@ -14,7 +14,7 @@ use Rattle.meaning.specs.File.{File}
 use Rattle.meaning.specs.Reading.{accepted, readFile}
 use Rattle.meaning.specs.Walk.{isOver, start, visits}
 use Rattle.meaning.specs.Charges.{
-  Kind,
+  ContextKind,
   ofBlock,
   ofBody,
   ofStaticBlock,
@@ -109,7 +109,7 @@ agree-or true b m n p q = omega arith
 agree-or false true m n p q = omega arith
 agree-or false false m n p q = omega arith
 
-kind-agrees : (k : Kind) → 0 < contextCharge k .contexts
+kind-agrees : (k : ContextKind) → 0 < contextCharge k .contexts
 unfolding contextCharge
 kind-agrees ofBlock = omega arith
 kind-agrees ofBody = omega arith

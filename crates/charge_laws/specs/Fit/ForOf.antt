@@ -5,6 +5,7 @@ use mathlib.Core.Bool.{Bool, true, false}
 use mathlib.Core.List.{List, [], _∷_}
 use Prim.Native.Nat.{ℕ, _+_}
 use native.Mathlib.Omega.{arith}
+use Rattle.meaning.specs.Numbers.Tag
 use Rattle.meaning.specs.Tree.{if_then_else_, Head, hd, Forest, none, more, one}
 use Rattle.meaning.specs.File.{Symbol}
 use Rattle.meaning.specs.Statements.{isUsing, anyUsing}
@@ -28,13 +29,13 @@ no-wraps (more h k r) e =
 module _ (w : Line → ℕ) (linear : Linear w) (ys : List Symbol) where
   -- the body Block that takes the using, by whether its list has one
   insert-if : (u : Bool) (a b c : ℕ) (k : Forest) → anyUsing k ≡ u
-      → costOf w ys (visitsBody ys insert (hd 2 a b c) k) k
-      ≡ w (wrapped 1) + cost w (if u then [] else context ofBlock ∷ []) + costOf w ys (visitsAs (actIf u block) (hd 2 a b c) k) k
+      → costOf w ys (visitsBody ys insert (hd Tag.Block a b c) k) k
+      ≡ w (wrapped 1) + cost w (if u then [] else context ofBlock ∷ []) + costOf w ys (visitsAs (actIf u block) (hd Tag.Block a b c) k) k
   unfolding visitsBody visitsAs enterLines contextLines costs cost
   insert-if true a b c k u = rw u (omega (arith, linear (wraps k), taken-up-same w ys k))
   insert-if false a b c k u = rw (no-wraps k u) (omega (arith, taken-up-same w ys k))
 
-  insert-body : (h : Head) (k : Forest) → h .tag ≡ 2
+  insert-body : (h : Head) (k : Forest) → h .tag ≡ Tag.Block
       → costOf w ys (visitsBody ys insert h k) k
       ≡ w (wrapped 1) + cost w (if anyUsing k then [] else context ofBlock ∷ []) + costOf w ys (visitsStanding ys h k) k
   unfolding visitsStanding actOf visitsBody
@@ -54,7 +55,7 @@ module _ (w : Line → ℕ) (linear : Linear w) (ys : List Symbol) where
     abbrev sides : Forest
     sides = more h₁ k₁ (more h₂ k₂ (more h₃ k₃ r))
 
-    pub insert-same : h₃ .tag ≡ 2
+    pub insert-same : h₃ .tag ≡ Tag.Block
         → visited w ys sides (left insert) ≡ w (wrapped 1) + cost w (bodyLines sides) + visited w ys sides standing
     unfolding visitsOf next bodyLines
     insert-same e =

@@ -6,6 +6,7 @@ use mathlib.Core.List.{List, [], _∷_, _++_}
 use Prim.Native.Nat.{ℕ, zero, suc, _+_}
 use native.Mathlib.Omega.{arith}
 use lib.ListN.{length}
+use Rattle.meaning.specs.Numbers.Tag
 use Rattle.meaning.specs.Tree.{if_then_else_, Head, hd, Forest, none, more}
 use Rattle.meaning.specs.File.{Symbol}
 use Rattle.meaning.specs.Statements.{isUsing, anyUsing}
@@ -15,7 +16,7 @@ use Rattle.meaning.specs.Walk.{actOf}
 use Rattle.meaning.specs.Charges.{Line, wrapped, ofFor, contextLines}
 use Rattle.meaning.specs.Due.{enterLines}
 use Rattle.charge_laws.specs.Growth.Items.{Anything, anything, function, module-line, no-default, default-function, no-export, export-other, ChosenItem, as-kept, as-moved, as-class, as-declaration, as-exported-declaration, as-exported-class, as-default-class, as-default-value, chosen-item}
-use Rattle.charge_laws.specs.VisitCharges.{Mode, standing, takenUp, declarators, initializer, loop, cases, kept, moved, skipped, next, Visits, around, free, visitsAs, visitsStanding, visitsTakenUp, visitsExport, visitsDefault, visitsKept, visitsMovedExport, visitsMovedDefault, visitsMoved, visitsOf, programVisits, visitsIn}
+use Rattle.charge_laws.specs.VisitCharges.{Treatment, standing, takenUp, declarators, initializer, loop, cases, kept, moved, skipped, next, Visits, around, free, visitsAs, visitsStanding, visitsTakenUp, visitsExport, visitsDefault, visitsKept, visitsMovedExport, visitsMovedDefault, visitsMoved, visitsOf, programVisits, visitsIn}
 use Rattle.spec_laws.specs.Tags.{Seen, other, here, there, seen, clash}
 use Rattle.charge_laws.specs.Growth.Trees.{using-tag}
 use Rattle.charge_laws.specs.Counts.Visits.{none-skipped}
@@ -47,7 +48,7 @@ costs-++ w (x ∷ xs) ys = omega (arith, costs-++ w xs ys)
 
 module _ (w : Line → ℕ) (ys : List Symbol) where
   -- the visits to some records in a mode
-  abbrev pub visited : Forest → Mode → ℕ
+  abbrev pub visited : Forest → Treatment → ℕ
   visited f m = costs w (visitsIn ys f m)
 
   -- those to one record and below it
@@ -58,7 +59,7 @@ module _ (w : Line → ℕ) (ys : List Symbol) where
       + (costs w (programVisits ys (v .again) k (λ _. visitsIn ys k moved))
       + costs w (v .behind)))
 
-  pub one-visited : (m : Mode) (h : Head) (k r : Forest) → visited (more h k r) m ≡ costOf (visitsOf ys m h k) k + visited r (next m)
+  pub one-visited : (m : Treatment) (h : Head) (k r : Forest) → visited (more h k r) m ≡ costOf (visitsOf ys m h k) k + visited r (next m)
   unfolding visitsIn
   one-visited m h k r =
       let v = visitsOf ys m h k in
@@ -81,7 +82,7 @@ module _ (w : Line → ℕ) (ys : List Symbol) where
   initializer-same (more h k r) (suc m) =
       omega (arith, one-visited (initializer (suc m)) h k r, one-visited standing h k r, initializer-same r m)
 
-  declarator-same : {t : ℕ} (a b c : ℕ) (k : Forest) → Seen (6 ∷ []) t
+  declarator-same : {t : ℕ} (a b c : ℕ) (k : Forest) → Seen (Tag.Declarator ∷ []) t
       → costOf (visitsOf ys declarators (hd t a b c) k) k ≡ costOf (visitsStanding ys (hd t a b c) k) k
   unfolding visitsOf visitsStanding visitsAs actOf costs cost
   declarator-same a b c k here = omega (arith, initializer-same k b)
@@ -95,7 +96,7 @@ module _ (w : Line → ℕ) (ys : List Symbol) where
         arith,
         one-visited declarators h k r,
         one-visited standing h k r,
-        declarator-same (h .a) (h .b) (h .c) k (seen (6 ∷ []) (h .tag)),
+        declarator-same (h .a) (h .b) (h .c) k (seen (Tag.Declarator ∷ []) (h .tag)),
         declarators-same r,
       )
 
@@ -111,7 +112,7 @@ module _ (w : Line → ℕ) (ys : List Symbol) where
   taken-up-same (more h k r) =
       omega (arith, one-visited takenUp h k r, one-visited standing h k r, using-same (isUsing h) h k refl, taken-up-same r)
 
-  case-same : {t : ℕ} (a b c : ℕ) (k : Forest) → Seen (10 ∷ []) t
+  case-same : {t : ℕ} (a b c : ℕ) (k : Forest) → Seen (Tag.Case ∷ []) t
       → costOf (visitsOf ys cases (hd t a b c) k) k ≡ costOf (visitsStanding ys (hd t a b c) k) k
   unfolding visitsOf visitsStanding visitsAs actOf costs cost
   case-same a b c k here = omega (arith, taken-up-same k)
@@ -125,13 +126,13 @@ module _ (w : Line → ℕ) (ys : List Symbol) where
         arith,
         one-visited cases h k r,
         one-visited standing h k r,
-        case-same (h .a) (h .b) (h .c) k (seen (10 ∷ []) (h .tag)),
+        case-same (h .a) (h .b) (h .c) k (seen (Tag.Case ∷ []) (h .tag)),
         cases-same r,
       )
 
   -- ---- a For with its Labels
 
-  loop-one : {t : ℕ} (a b c : ℕ) (k r : Forest) → Seen (4 ∷ 7 ∷ []) t
+  loop-one : {t : ℕ} (a b c : ℕ) (k r : Forest) → Seen (Tag.Label ∷ Tag.For ∷ []) t
       → let h = hd t a b c in
       anyUsing (forList (more h k r)) ≡ true
       → costOf (visitsOf ys loop h k) k + cost w (contextLines ofFor (forList (more h k r))) ≡ costOf (visitsStanding ys h k) k
@@ -148,7 +149,7 @@ module _ (w : Line → ℕ) (ys : List Symbol) where
         arith,
         one-visited loop h k r,
         one-visited standing h k r,
-        loop-one (h .a) (h .b) (h .c) k r (seen (4 ∷ 7 ∷ []) (h .tag)) u,
+        loop-one (h .a) (h .b) (h .c) k r (seen (Tag.Label ∷ Tag.For ∷ []) (h .tag)) u,
       )
 
   -- ---- Program's items: what stays and what moves, together

@@ -8,6 +8,7 @@ use native.Mathlib.Nat.{zero-add}
 use native.Mathlib.Omega.{arith}
 use lib.Dec.{eqb}
 use borrow.Author.Tests.{eqb-true}
+use Rattle.meaning.specs.Numbers.Tag
 use Rattle.meaning.specs.Tree.{if_then_else_, Head, hd, Forest, none, more, one}
 use Rattle.meaning.specs.File.{Symbol}
 use Rattle.meaning.specs.Statements.{isUsing, anyUsing}
@@ -86,37 +87,37 @@ module _ (w : Line → ℕ) (linear : Linear w) (ys : List Symbol) where
   Found a h k = costOf w ys (visitsAs a h k) k ≡ cost w (ownLines ys 0 h k) + found (h .tag) k
 
   module _ (a b c : ℕ) (k : Forest) where
-    program-found : (u : Bool) → anyUsing k ≡ u → visited w ys k standing ≡ found 1 k → Found (actIf u program) (hd 1 a b c) k
+    program-found : (u : Bool) → anyUsing k ≡ u → visited w ys k standing ≡ found Tag.Program k → Found (actIf u program) (hd Tag.Program a b c) k
     unfolding ownLines visitsAs enterLines contextLines costs cost
     program-found true u s = rw u (omega (arith, items-same w ys k))
     program-found false u s = rw u (omega arith)
 
-    block-found : (u : Bool) → anyUsing k ≡ u → visited w ys k standing ≡ found 2 k → Found (actIf u block) (hd 2 a b c) k
+    block-found : (u : Bool) → anyUsing k ≡ u → visited w ys k standing ≡ found Tag.Block k → Found (actIf u block) (hd Tag.Block a b c) k
     unfolding ownLines visitsAs enterLines contextLines costs cost
     block-found true u s = rw u (omega (arith, taken-up-same w ys k))
     block-found false u s = rw u (omega arith)
 
-    label-found : (u : Bool) → anyUsing (forList k) ≡ u → visited w ys k standing ≡ found 4 k → Found (actIf u forLoop) (hd 4 a b c) k
+    label-found : (u : Bool) → anyUsing (forList k) ≡ u → visited w ys k standing ≡ found Tag.Label k → Found (actIf u forLoop) (hd Tag.Label a b c) k
     unfolding ownLines visitsAs enterLines forList costs cost
     label-found true u s = omega (arith, loop-same w ys k u)
     label-found false u s = omega arith
 
-    for-found : (u : Bool) → anyUsing k ≡ u → visited w ys k standing ≡ found 7 k → Found (actIf u forLoop) (hd 7 a b c) k
+    for-found : (u : Bool) → anyUsing k ≡ u → visited w ys k standing ≡ found Tag.For k → Found (actIf u forLoop) (hd Tag.For a b c) k
     unfolding ownLines visitsAs enterLines forList contextLines costs cost
     for-found true u s = omega (arith, taken-up-same w ys k)
     for-found false u s = rw u (omega arith)
 
-    switch-found : (u : Bool) → anyCaseUsing k ≡ u → visited w ys k standing ≡ found 9 k → Found (actIf u switch) (hd 9 a b c) k
+    switch-found : (u : Bool) → anyCaseUsing k ≡ u → visited w ys k standing ≡ found Tag.Switch k → Found (actIf u switch) (hd Tag.Switch a b c) k
     unfolding ownLines visitsAs enterLines costs cost
     switch-found true u s = rw u (omega (arith, cases-same w ys k))
     switch-found false u s = rw u (omega arith)
 
-    body-found : (u : Bool) → anyUsing k ≡ u → visited w ys k standing ≡ found 14 k → Found (actIf u functionBody) (hd 14 a b c) k
+    body-found : (u : Bool) → anyUsing k ≡ u → visited w ys k standing ≡ found Tag.Body k → Found (actIf u functionBody) (hd Tag.Body a b c) k
     unfolding ownLines visitsAs enterLines contextLines costs cost
     body-found true u s = rw u (omega (arith, taken-up-same w ys k))
     body-found false u s = rw u (omega arith)
 
-    static-found : visited w ys k standing ≡ found 16 k → Found keep (hd 16 a b c) k
+    static-found : visited w ys k standing ≡ found Tag.StaticBlock k → Found keep (hd Tag.StaticBlock a b c) k
     unfolding ownLines visitsAs costs cost
     static-found s = omega arith
 
@@ -124,17 +125,17 @@ module _ (w : Line → ℕ) (linear : Linear w) (ys : List Symbol) where
 
   module _ (a b c : ℕ) where
     abbrev FoundAs : Forest → ForOfAct → Type 0
-    FoundAs k x = costOf w ys (visitsAs (ofForOf x) (hd 8 a b c) k) k ≡ cost w (forOfLines x k) + found 8 k
+    FoundAs k x = costOf w ys (visitsAs (ofForOf x) (hd Tag.ForOf a b c) k) k ≡ cost w (forOfLines x k) + found Tag.ForOf k
 
     found-if : (k : Forest) (e : Bool) (x y : ForOfAct) → (e ≡ true → FoundAs k x) → FoundAs k y → FoundAs k (if e then x else y)
     found-if k true x y p q = p refl
     found-if k false x y p q = q
 
-    plain-found : (k : Forest) → visited w ys k standing ≡ found 8 k → FoundAs k asIs
+    plain-found : (k : Forest) → visited w ys k standing ≡ found Tag.ForOf k → FoundAs k asIs
     unfolding visitsAs forOfLines costs cost
     plain-found k s = omega arith
 
-    for-of-found : (k : Forest) → PlainBody k → visited w ys k standing ≡ found 8 k → Found (ofForOf (forOfAct ys k)) (hd 8 a b c) k
+    for-of-found : (k : Forest) → PlainBody k → visited w ys k standing ≡ found Tag.ForOf k → Found (ofForOf (forOfAct ys k)) (hd Tag.ForOf a b c) k
     unfolding ownLines forOfAct visitsAs enterLines forOfLines costs cost
     for-of-found none p s = plain-found none s
     for-of-found (more h₁ k₁ none) p s = plain-found (one h₁ k₁) s
@@ -142,10 +143,10 @@ module _ (w : Line → ℕ) (linear : Linear w) (ys : List Symbol) where
     for-of-found (more h₁ k₁ (more h₂ k₂ (more h₃ k₃ r))) p s =
         let k = more h₁ k₁ (more h₂ k₂ (more h₃ k₃ r)) in
         let unbound = not (bindsName ys (h₃ .a) (boundSymbol k₁)) in
-        let two : Bool = eqb (h₃ .tag) 2 && unbound in
+        let two : Bool = eqb (h₃ .tag) Tag.Block && unbound in
         found-if k (isUsing h₁ && bindsIdentifier k₁) (if two then insert else wrap) asIs
         (λ _. found-if k two insert wrap
-        (λ e. omega (arith, insert-same w linear ys h₁ k₁ h₂ k₂ h₃ k₃ r (eqb-true (h₃ .tag) 2 (and-left (eqb (h₃ .tag) 2) unbound e))))
+        (λ e. omega (arith, insert-same w linear ys h₁ k₁ h₂ k₂ h₃ k₃ r (eqb-true (h₃ .tag) Tag.Block (and-left (eqb (h₃ .tag) Tag.Block) unbound e))))
         (omega (arith, wrap-same w linear ys h₁ k₁ h₂ k₂ h₃ k₃ r p)))
         (plain-found k s)
 
@@ -153,10 +154,10 @@ module _ (w : Line → ℕ) (linear : Linear w) (ys : List Symbol) where
 
   -- what its visit is charged for one of its parts
   abbrev ownPart : ℕ → Forest → List Line
-  ownPart t k = if eqb t 12 then partLines k else if eqb t 2 then contextLines ofTryPart k else []
+  ownPart t k = if eqb t Tag.Catch then partLines k else if eqb t Tag.Block then contextLines ofTryPart k else []
 
   -- without a using its parts stand as they are
-  part-same : {t : ℕ} (a b c : ℕ) (k r : Forest) → Seen (12 ∷ 2 ∷ []) t
+  part-same : {t : ℕ} (a b c : ℕ) (k r : Forest) → Seen (Tag.Catch ∷ Tag.Block ∷ []) t
       → let h = hd t a b c in
       anyPartUsing (more h k r) ≡ false
       → (anyPartUsing k ≡ false → (visited w ys k parts ≡ visited w ys k standing) × (cost w (partLines k) ≡ 0))
@@ -176,22 +177,22 @@ module _ (w : Line → ℕ) (linear : Linear w) (ys : List Symbol) where
   unfolding visitsIn visitsOf next partLines cost
   parts-same none e = (refl, refl)
   parts-same (more h k r) e =
-      let p = part-same (h .a) (h .b) (h .c) k r (seen (12 ∷ 2 ∷ []) (h .tag)) e (parts-same k) in
+      let p = part-same (h .a) (h .b) (h .c) k r (seen (Tag.Catch ∷ Tag.Block ∷ []) (h .tag)) e (parts-same k) in
       let q = parts-same r (p .2) in
       omega (arith, one-visited w ys parts h k r, one-visited w ys standing h k r, cost-++ w (ownPart (h .tag) k) (partLines r))
 
-  try-found : (u : Bool) (a b c : ℕ) (k : Forest) → anyPartUsing k ≡ u → cost w (partLines k) + visited w ys k parts ≡ found 11 k
-      → Found (actIf u tryParts) (hd 11 a b c) k
+  try-found : (u : Bool) (a b c : ℕ) (k : Forest) → anyPartUsing k ≡ u → cost w (partLines k) + visited w ys k parts ≡ found Tag.Try k
+      → Found (actIf u tryParts) (hd Tag.Try a b c) k
   unfolding ownLines visitsAs enterLines costs cost
   try-found true a b c k u s = omega arith
   try-found false a b c k u s = omega (arith, parts-same k u)
 
   -- ---- any record
 
-  record-found : {t : ℕ} (a b c : ℕ) (k : Forest) → Seen (1 ∷ 2 ∷ 4 ∷ 7 ∷ 8 ∷ 9 ∷ 11 ∷ 14 ∷ 16 ∷ []) t → eqb t 12 ≡ false
-      → (eqb t 8 ≡ true → PlainBody k)
+  record-found : {t : ℕ} (a b c : ℕ) (k : Forest) → Seen (Tag.Program ∷ Tag.Block ∷ Tag.Label ∷ Tag.For ∷ Tag.ForOf ∷ Tag.Switch ∷ Tag.Try ∷ Tag.Body ∷ Tag.StaticBlock ∷ []) t → eqb t Tag.Catch ≡ false
+      → (eqb t Tag.ForOf ≡ true → PlainBody k)
       → (isTry t ≡ false → visited w ys k standing ≡ found t k)
-      → cost w (partLines k) + visited w ys k parts ≡ found 11 k
+      → cost w (partLines k) + visited w ys k parts ≡ found Tag.Try k
       → Found (actOf ys (hd t a b c) k) (hd t a b c) k
   unfolding actOf forList ownLines visitsAs costs cost
   record-found a b c k here n p s q = program-found a b c k (anyUsing k) refl (s refl)
@@ -211,18 +212,18 @@ module _ (w : Line → ℕ) (linear : Linear w) (ys : List Symbol) where
       let i = s (rw (e₁₁, n)) in
       rw (e₁, e₂, e₄, e₇, e₈, e₉, e₁₁, e₁₄, e₁₆) (omega arith)
 
-  block-part : (u : Bool) (a b c : ℕ) (k : Forest) → anyUsing k ≡ u → visited w ys k standing ≡ found 2 k
-      → cost w (contextLines ofTryPart k) + costOf w ys (if u then inTry (free 2) takenUp else visitsStanding ys (hd 2 a b c) k) k
-      ≡ cost w (contextLines ofTryPart k) + found 2 k
+  block-part : (u : Bool) (a b c : ℕ) (k : Forest) → anyUsing k ≡ u → visited w ys k standing ≡ found Tag.Block k
+      → cost w (contextLines ofTryPart k) + costOf w ys (if u then inTry (free 2) takenUp else visitsStanding ys (hd Tag.Block a b c) k) k
+      ≡ cost w (contextLines ofTryPart k) + found Tag.Block k
   unfolding visitsStanding visitsAs actOf costs cost
   block-part true a b c k u s = omega (arith, taken-up-same w ys k)
   block-part false a b c k u s = rw u (omega arith)
 
   -- a part of a Try or a Catch; any other record there as it stands
-  part-found : {t : ℕ} (a b c : ℕ) (k : Forest) → Seen (12 ∷ 2 ∷ []) t
-      → (eqb t 12 ≡ false → costOf w ys (visitsStanding ys (hd t a b c) k) k ≡ cost w (ownLines ys 0 (hd t a b c) k) + found t k)
+  part-found : {t : ℕ} (a b c : ℕ) (k : Forest) → Seen (Tag.Catch ∷ Tag.Block ∷ []) t
+      → (eqb t Tag.Catch ≡ false → costOf w ys (visitsStanding ys (hd t a b c) k) k ≡ cost w (ownLines ys 0 (hd t a b c) k) + found t k)
       → (isTry t ≡ false → visited w ys k standing ≡ found t k)
-      → cost w (partLines k) + visited w ys k parts ≡ found 11 k
+      → cost w (partLines k) + visited w ys k parts ≡ found Tag.Try k
       → cost w (ownPart t k) + costOf w ys (visitsOf ys parts (hd t a b c) k) k
       ≡ cost w (ownLines ys 11 (hd t a b c) k) + found t k
   unfolding visitsOf ownLines costs cost
@@ -234,7 +235,7 @@ module _ (w : Line → ℕ) (linear : Linear w) (ys : List Symbol) where
 
   -- where they stand, and as the parts of a Try with its visit
   pub sums : (f : Forest) → Orderly f
-      → (Lacks 12 f → visited w ys f standing ≡ found 0 f) × (cost w (partLines f) + visited w ys f parts ≡ found 11 f)
+      → (Lacks Tag.Catch f → visited w ys f standing ≡ found 0 f) × (cost w (partLines f) + visited w ys f parts ≡ found Tag.Try f)
   unfolding visitsIn visitsOf visitsStanding next partLines treeLines costs cost
   sums none o = ((λ _. refl), refl)
   sums (more h k r) o =
@@ -242,15 +243,15 @@ module _ (w : Line → ℕ) (linear : Linear w) (ys : List Symbol) where
       let i = sums k (o .2) in
       let j = sums r (o .3) in
       let stands : isTry t ≡ false → visited w ys k standing ≡ found t k = λ e. i .0 (o .0 e) ∙ found-same k 0 t (sym e) in
-      let own : eqb t 12 ≡ false → Found (actOf ys h k) h k =
-      λ e. record-found (h .a) (h .b) (h .c) k (seen (1 ∷ 2 ∷ 4 ∷ 7 ∷ 8 ∷ 9 ∷ 11 ∷ 14 ∷ 16 ∷ []) t) e (o .1) stands (i .1) in (
+      let own : eqb t Tag.Catch ≡ false → Found (actOf ys h k) h k =
+      λ e. record-found (h .a) (h .b) (h .c) k (seen (Tag.Program ∷ Tag.Block ∷ Tag.Label ∷ Tag.For ∷ Tag.ForOf ∷ Tag.Switch ∷ Tag.Try ∷ Tag.Body ∷ Tag.StaticBlock ∷ []) t) e (o .1) stands (i .1) in (
         (λ l. omega (arith, one-visited w ys standing h k r, one-found 0 h k r, own (l .0), j .0 (l .1))),
         omega (
           arith,
           one-visited w ys parts h k r,
           one-found 11 h k r,
           cost-++ w (ownPart t k) (partLines r),
-          part-found (h .a) (h .b) (h .c) k (seen (12 ∷ 2 ∷ []) t) own stands (i .1),
+          part-found (h .a) (h .b) (h .c) k (seen (Tag.Catch ∷ Tag.Block ∷ []) t) own stands (i .1),
           j .1,
         ),
       )

@@ -5,6 +5,8 @@ use mathlib.Core.Bool.{true, false}
 use mathlib.Core.List.{[], _∷_}
 use Prim.Native.Nat.{ℕ, _+_, _*_}
 use native.Mathlib.Omega.{arith}
+use Rattle.meaning.specs.Numbers.Tag
+use Rattle.meaning.specs.Numbers.Kind
 use Rattle.meaning.specs.Tree.{Head, hd, Forest, one, single, size, _&_}
 use Rattle.meaning.specs.Scoping.{
   Store,
@@ -79,7 +81,7 @@ block-grows : (cur hoist : ℕ) (h : Head) (k : Forest) (st : Store)
 unfolding transformBlockStatement
 block-grows cur hoist h k st = both (statements-grow cur hoist k st) (try-grows (h .a) _ _ cur _ _)
 
-block-more : (cur hoist : ℕ) (h : Head) (k : Forest) (st : Store) → h .tag ≡ 2
+block-more : (cur hoist : ℕ) (h : Head) (k : Forest) (st : Store) → h .tag ≡ Tag.Block
     → More (11 + wraps k) (83 + 9 * wraps k) (one h k) (single ((transformBlockStatement cur hoist h k st) .0))
 unfolding transformBlockStatement size recordBytes
 block-more cur hoist h k st e =
@@ -91,7 +93,7 @@ block-more cur hoist h k st e =
       try-more (h .a) (t .0 .statements) (t .0 .usingCtx) cur (t .0 .needsAwait) (t .1),
     )
 
-pub block-pays : (cur hoist : ℕ) (h : Head) (k : Forest) (st : Store) → h .tag ≡ 2 → anyUsing k ≡ true
+pub block-pays : (cur hoist : ℕ) (h : Head) (k : Forest) (st : Store) → h .tag ≡ Tag.Block → anyUsing k ≡ true
     → PaysFor (contextLines ofBlock k) (one h k) st (transformBlockStatement cur hoist h k st)
 unfolding contextCharge
 block-pays cur hoist h k st e u =
@@ -104,7 +106,7 @@ unfolding enterFunctionBody
 body-grows cur hoist k st =
     both (both (both (statements-grow cur hoist k st) (scope-below cur k _)) (bindings-moved _ _ _)) (try-grows _ _ _ cur _ _)
 
-body-more : (cur hoist : ℕ) (h : Head) (k : Forest) (st : Store) → h .tag ≡ 14
+body-more : (cur hoist : ℕ) (h : Head) (k : Forest) (st : Store) → h .tag ≡ Tag.Body
     → More (12 + wraps k) (90 + 9 * wraps k) (one h k) (single ((enterFunctionBody cur hoist k st) .0))
 unfolding enterFunctionBody size recordBytes
 body-more cur hoist h k st e =
@@ -114,12 +116,12 @@ body-more cur hoist h k st e =
     omega (
       arith,
       body-bytes h e,
-      body-bytes (hd 14 0 0 0) refl,
+      body-bytes (hd Tag.Body 0 0 0) refl,
       statements-more cur hoist k st,
       try-more (s .0) (t .0 .statements) (t .0 .usingCtx) cur (t .0 .needsAwait) (m .1),
     )
 
-pub body-pays : (cur hoist : ℕ) (h : Head) (k : Forest) (st : Store) → h .tag ≡ 14 → anyUsing k ≡ true
+pub body-pays : (cur hoist : ℕ) (h : Head) (k : Forest) (st : Store) → h .tag ≡ Tag.Body → anyUsing k ≡ true
     → PaysFor (contextLines ofBody k) (one h k) st (enterFunctionBody cur hoist k st)
 unfolding contextCharge
 body-pays cur hoist h k st e u =
@@ -134,7 +136,7 @@ static-grows h k st =
     (both (both (both (statements-grow (h .a) (h .a) k st) (scope-between (h .a) 4 _)) (binding-moved _ _ _)) (scope-flags (h .a) 1 _))
     (try-grows (h .a) _ _ _ _ _)
 
-static-more : (h : Head) (k : Forest) (st : Store) → h .tag ≡ 16
+static-more : (h : Head) (k : Forest) (st : Store) → h .tag ≡ Tag.StaticBlock
     → More (12 + wraps k) (90 + 9 * wraps k) (one h k) (single ((exitStaticBlock h k st) .0))
 unfolding exitStaticBlock size recordBytes
 static-more h k st e =
@@ -145,12 +147,12 @@ static-more h k st e =
     omega (
       arith,
       static-bytes h e,
-      static-bytes (hd 16 (s .0) 0 0) refl,
+      static-bytes (hd Tag.StaticBlock (s .0) 0 0) refl,
       statements-more (h .a) (h .a) k st,
       try-more (h .a) (t .0 .statements) (t .0 .usingCtx) (s .0) (t .0 .needsAwait) (g .1),
     )
 
-pub static-pays : (h : Head) (k : Forest) (st : Store) → h .tag ≡ 16 → anyUsing k ≡ true
+pub static-pays : (h : Head) (k : Forest) (st : Store) → h .tag ≡ Tag.StaticBlock → anyUsing k ≡ true
     → PaysFor (contextLines ofStaticBlock k) (one h k) st (exitStaticBlock h k st)
 unfolding contextCharge
 static-pays h k st e u =
@@ -176,7 +178,7 @@ for-more cur hoist h k st u =
       arith,
       for-taken (one h k) (c .0) u,
       declared (c .0) cur (s .1) taken,
-      try-more (s .0) (declaration 0 (c .0) (l .0) & taken) (c .0) cur (anyAwaitUsing (forList (one h k))) (l .1),
+      try-more (s .0) (declaration Kind.Var (c .0) (l .0) & taken) (c .0) cur (anyAwaitUsing (forList (one h k))) (l .1),
     )
 
 pub for-pays : (cur hoist : ℕ) (h : Head) (k : Forest) (st : Store) → anyUsing (forList (one h k)) ≡ true
@@ -207,7 +209,7 @@ switch-more cur h k st =
       arith,
       cases-taken k (c .0) false,
       declared (c .0) cur (p .1) taken,
-      try-more (s .0) (declaration 0 (c .0) (l .0) & taken) (c .0) cur (anyCaseAwaitUsing k) (l .1),
+      try-more (s .0) (declaration Kind.Var (c .0) (l .0) & taken) (c .0) cur (anyCaseAwaitUsing k) (l .1),
     )
 
 pub switch-pays : (cur : ℕ) (h : Head) (k : Forest) (st : Store)

@@ -5,6 +5,7 @@ use mathlib.Core.Bool.{Bool, true, false, _&&_}
 use Prim.Native.Nat.{ℕ}
 use lib.Dec.{eqb}
 use borrow.Author.Tests.{eqb-true, eq-eqb}
+use Rattle.meaning.specs.Numbers.Tag
 use Rattle.meaning.specs.Tree.{if_then_else_, Head, Forest, none, more, one, single, node}
 use Rattle.meaning.specs.Scoping.{Store, return}
 use Rattle.meaning.specs.Statements.{isUsing, anyUsing}
@@ -31,7 +32,7 @@ NamedLeft (more h k r) = (isUsing h && bindsIdentifier k) ≡ true → Named k
 
 -- The exports of a Program with a using have one child each, and the using of a ForOf begins with a Name.
 abbrev pub Proper : Head → Forest → Type 0
-Proper h k = (eqb (h .tag) 1 ≡ true → anyUsing k ≡ true → Exports k) × (eqb (h .tag) 8 ≡ true → NamedLeft k)
+Proper h k = (eqb (h .tag) Tag.Program ≡ true → anyUsing k ≡ true → Exports k) × (eqb (h .tag) Tag.ForOf ≡ true → NamedLeft k)
 
 -- ---- visits
 
@@ -39,23 +40,23 @@ act-pays : {a : Act} {h : Head} {k : Forest} (cur hoist : ℕ) (st : Store) → 
     → PaysFor (enterLines a h k) (one h k) st (enterAs a cur hoist h k st)
 unfolding enterLines enterAs
 act-pays {h = h} {k = k} cur hoist st p (kept i) = pays-nothing (one h k) st
-act-pays {h = h} {k = k} cur hoist st p (as-program e u) = program-pays h k st (p .0 (eq-eqb (h .tag) 1 e) u)
+act-pays {h = h} {k = k} cur hoist st p (as-program e u) = program-pays h k st (p .0 (eq-eqb (h .tag) Tag.Program e) u)
 act-pays {h = h} {k = k} cur hoist st p (as-block e u) = block-pays cur hoist h k st e u
 act-pays {h = h} {k = k} cur hoist st p (as-body e u) = body-pays cur hoist h k st e u
 act-pays {h = h} {k = k} cur hoist st p (as-try e u) = try-pays cur hoist h k st
 act-pays {h = h} {k = k} cur hoist st p (as-for e u) = for-pays cur hoist h k st u
 act-pays {h = h} {k = k} cur hoist st p (as-switch e u) = switch-pays cur h k st
 act-pays {h = h} cur hoist st p (as-insert {h₁ = h₁} {h₂ = h₂} {h₃ = h₃} {k₁ = k₁} {k₂ = k₂} {k₃ = k₃} {r = r} e b two) =
-    insert-pays h h₁ k₁ h₂ k₂ h₃ k₃ r st (b .uses) (p .1 (eq-eqb (h .tag) 8 e) (b .both))
+    insert-pays h h₁ k₁ h₂ k₂ h₃ k₃ r st (b .uses) (p .1 (eq-eqb (h .tag) Tag.ForOf e) (b .both))
 act-pays {h = h} cur hoist st p (as-wrap {h₁ = h₁} {h₂ = h₂} {h₃ = h₃} {k₁ = k₁} {k₂ = k₂} {k₃ = k₃} {r = r} e b) =
-    wrap-pays h h₁ k₁ h₂ k₂ h₃ k₃ r st (b .uses) (p .1 (eq-eqb (h .tag) 8 e) (b .both))
+    wrap-pays h h₁ k₁ h₂ k₂ h₃ k₃ r st (b .uses) (p .1 (eq-eqb (h .tag) Tag.ForOf e) (b .both))
 
 pub entered : (cur hoist : ℕ) (h : Head) (k : Forest) (st : Store) → Proper h k
     → Visited (enterLines (actOf (st .asRead) h k) h k) (one h k) st (enter cur hoist h k st)
 unfolding enter
 entered cur hoist h k st p = visited (act-pays cur hoist st p (chosen (st .asRead) h k))
 
-leave-pays : (b : Bool) (h : Head) (k : Forest) (st : Store) → anyUsing k ≡ b → h .tag ≡ 16
+leave-pays : (b : Bool) (h : Head) (k : Forest) (st : Store) → anyUsing k ≡ b → h .tag ≡ Tag.StaticBlock
     → PaysFor (contextLines ofStaticBlock k) (one h k) st ((if b then exitStaticBlock h k else return (node h k)) st)
 unfolding contextLines
 leave-pays true h k st u e = static-pays h k st e u
@@ -64,7 +65,7 @@ leave-pays false h k st u e = rw u (pays-nothing (one h k) st)
 pub left : (h : Head) (k : Forest) (st : Store) → isStaticBlock h ≡ true
     → Visited (contextLines ofStaticBlock k) (one h k) st (leave h k st)
 unfolding leave
-left h k st e = visited (leave-pays (anyUsing k) h k st refl (eqb-true (h .tag) 16 e))
+left h k st e = visited (leave-pays (anyUsing k) h k st refl (eqb-true (h .tag) Tag.StaticBlock e))
 
 -- ---- the figures
 

@@ -5,6 +5,7 @@ use mathlib.Core.Bool.{true, false}
 use mathlib.Core.List.{[], _∷_}
 use Prim.Native.Nat.{ℕ}
 use native.Mathlib.Omega.{arith}
+use Rattle.meaning.specs.Numbers.Tag
 use Rattle.meaning.specs.Tree.{Head, hd, Forest, none, more, one, single, size, _&_}
 use Rattle.meaning.specs.File.{fieldBytes, numbersOf}
 use Rattle.meaning.specs.Scoping.{Store, symbolIn, createSymbol, insertScopeBelow}
@@ -21,7 +22,7 @@ use Rattle.charge_laws.specs.Growth.Charged.{PaysFor, pays}
 abbrev pub Named : Forest → Type 0
 Named none = Unit {0}
 Named (more h none r) = Unit {0}
-Named (more h (more h₁ k₁ r₁) r) = h₁ .tag ≡ 26
+Named (more h (more h₁ k₁ r₁) r) = h₁ .tag ≡ Tag.Name
 
 rebind-more : (y : ℕ) (k : Forest) → Named k → More 0 0 k (rebind y k)
 unfolding rebind size recordBytes
@@ -64,7 +65,7 @@ module _ (h h₁ : Head) (k₁ : Forest) (h₂ : Head) (k₂ : Forest) (h₃ : H
       omega (
         arith,
         ap fieldBytes (using-tag h₁ e),
-        block-bytes (hd 2 (s .0) 0 0) refl,
+        block-bytes (hd Tag.Block (s .0) 0 0) refl,
         rebind-more (t .0) k₁ n,
         held-more (h₁ .a) (boundSymbol k₁) (t .0) (one h₃ k₃),
       )

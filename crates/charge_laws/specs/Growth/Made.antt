@@ -6,6 +6,7 @@ use mathlib.Core.Bool.{Bool, true, false}
 use Prim.Native.Nat.{ℕ, _+_, _*_}
 use native.Mathlib.Omega.{arith}
 use lib.ListN.{length-append}
+use Rattle.meaning.specs.Numbers.Kind
 use Rattle.meaning.specs.Tree.{Forest, single, size, _&_}
 use Rattle.meaning.specs.File.{fieldBytes, numbersOf}
 use Rattle.meaning.specs.Scoping.{Store, createChildScope, createSymbol}
@@ -21,7 +22,7 @@ use Rattle.meaning.specs.Statements.{
   createTryStmt,
 }
 use Rattle.meaning.specs.Charges.{
-  Kind,
+  ContextKind,
   context,
   wrapped,
   charge,
@@ -44,7 +45,7 @@ unfolding makeContext createSymbol
 context-grows scope st = grown (omega arith, simp length-append, omega arith, refl, refl, refl, refl)
 
 -- the context's declaration before a list
-pub declared : (ctx cur : ℕ) (st : Store) (f : Forest) → More 4 28 f (declaration 0 ctx ((helperLoad cur st) .0) & f)
+pub declared : (ctx cur : ℕ) (st : Store) (f : Forest) → More 4 28 f (declaration Kind.Var ctx ((helperLoad cur st) .0) & f)
 unfolding _&_ size recordBytes fieldBytes numbersOf
 declared ctx cur st f = omega (arith, load-sized cur st)
 
@@ -74,7 +75,7 @@ try-more scope list ctx parent needsAwait st = omega arith
 
 -- ---- the lines of a context
 
-pub context-pays : {f f′ : Forest} {st st′ : Store} (n s b : ℕ) (kind : Kind) (list : Forest)
+pub context-pays : {f f′ : Forest} {st st′ : Store} (n s b : ℕ) (kind : ContextKind) (list : Forest)
     → Same (contextCharge kind) (charge n s 2 1 b) → anyUsing list ≡ true
     → Grown true s 2 1 st st′ → More (n + wraps list) (b + 9 * wraps list) f f′ → Pays (contextLines kind list) f f′ st st′
 unfolding contextLines total lineCharge anyContext isContext

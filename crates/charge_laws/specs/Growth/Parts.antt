@@ -7,6 +7,7 @@ use Prim.Native.Nat.{ℕ, _+_, _*_}
 use native.Mathlib.Omega.{arith}
 use lib.Dec.{eqb}
 use borrow.Author.Tests.{eqb-true}
+use Rattle.meaning.specs.Numbers.Tag
 use Rattle.meaning.specs.Tree.{if_then_else_, Head, hd, Forest, none, more, one, node, single, size, _&_}
 use Rattle.meaning.specs.Scoping.{Store, Change, return, insertScopeBetween, moveBindings}
 use Rattle.meaning.specs.Statements.{anyUsing, transformStatements}
@@ -34,7 +35,7 @@ unfolding transformTryBlock
 part-grows cur hoist h k st =
     both (both (both (statements-grow cur (h .a) k st) (scope-between (h .a) 0 _)) (try-grows (h .a) _ _ _ _ _)) (binding-moved _ hoist _)
 
-part-more : (cur hoist : ℕ) (h : Head) (k : Forest) (st : Store) → h .tag ≡ 2
+part-more : (cur hoist : ℕ) (h : Head) (k : Forest) (st : Store) → h .tag ≡ Tag.Block
     → More (12 + wraps k) (90 + 9 * wraps k) (one h k) (single ((transformTryBlock cur hoist h k st) .0))
 unfolding transformTryBlock size recordBytes
 part-more cur hoist h k st e =
@@ -43,12 +44,12 @@ part-more cur hoist h k st e =
     omega (
       arith,
       block-bytes h e,
-      block-bytes (hd 2 (s .0) 0 0) refl,
+      block-bytes (hd Tag.Block (s .0) 0 0) refl,
       statements-more cur (h .a) k st,
       try-more (h .a) (t .0 .statements) (t .0 .usingCtx) (s .0) (t .0 .needsAwait) (s .1),
     )
 
-part-pays : (cur hoist : ℕ) (h : Head) (k : Forest) (st : Store) → h .tag ≡ 2 → anyUsing k ≡ true
+part-pays : (cur hoist : ℕ) (h : Head) (k : Forest) (st : Store) → h .tag ≡ Tag.Block → anyUsing k ≡ true
     → PaysFor (contextLines ofTryPart k) (one h k) st (transformTryBlock cur hoist h k st)
 unfolding contextCharge
 part-pays cur hoist h k st e u =
@@ -69,7 +70,7 @@ handler-pays h k inside st i =
 
 -- by the tests of tag and list
 one-part : (a b u : Bool) (cur hoist : ℕ) (h : Head) (k : Forest) (inside : Change Forest) (st : Store)
-    → (b ≡ true → h .tag ≡ 2) → anyUsing k ≡ u → Pays (partLines k) k ((inside st) .0) st ((inside st) .1)
+    → (b ≡ true → h .tag ≡ Tag.Block) → anyUsing k ≡ u → Pays (partLines k) k ((inside st) .0) st ((inside st) .1)
     → PaysFor (if a then partLines k else if b then contextLines ofTryPart k else []) (one h k) st
     ((if a then transformHandler h k inside else if b && u then transformTryBlock cur hoist h k else return (node h k)) st)
 unfolding contextLines
@@ -86,8 +87,8 @@ unfolding partLines transformTryParts _&_
 parts-pay none cur hoist st = pays-nothing none st
 parts-pay (more h k r) cur hoist st =
     pays-both
-    (one-part (eqb (h .tag) 12) (eqb (h .tag) 2) (anyUsing k) cur hoist h k (transformTryParts cur hoist k) st
-    (eqb-true (h .tag) 2)
+    (one-part (eqb (h .tag) Tag.Catch) (eqb (h .tag) Tag.Block) (anyUsing k) cur hoist h k (transformTryParts cur hoist k) st
+    (eqb-true (h .tag) Tag.Block)
     refl
     (parts-pay k cur hoist st))
     (parts-pay r cur hoist _)

@@ -7,6 +7,9 @@ use Prim.Native.Nat.{ℕ, _+_, _*_}
 use native.Mathlib.Omega.{arith}
 use lib.ListN.{length}
 use lib.Dec.{eqb}
+use Rattle.meaning.specs.Numbers.Tag
+use Rattle.meaning.specs.Numbers.Kind
+use Rattle.meaning.specs.Numbers.Form
 use Rattle.meaning.specs.Tree.{Head, hd, Forest, none, more, one, size, _&_}
 use Rattle.meaning.specs.File.{fieldBytes, numbersOf}
 use Rattle.meaning.specs.Scoping.{Store, symbolIn, createSymbol, setFlagsOf}
@@ -83,18 +86,18 @@ class-grows : (h : Head) (k : Forest) (st : Store) → Grown false 0 1 0 st ((tr
 unfolding transformClassDecl
 class-grows h k st = name-grows h st
 
-class-bytes : (h : Head) → h .tag ≡ 15 → fieldBytes (h .tag) ≡ 11
+class-bytes : (h : Head) → h .tag ≡ Tag.Class → fieldBytes (h .tag) ≡ 11
 unfolding fieldBytes numbersOf
 class-bytes h e = ap fieldBytes e
 
-class-more : (h : Head) (k : Forest) (st : Store) → h .tag ≡ 15 → More 3 21 (one h k) ((transformClassDecl h k st) .0)
+class-more : (h : Head) (k : Forest) (st : Store) → h .tag ≡ Tag.Class → More 3 21 (one h k) ((transformClassDecl h k st) .0)
 unfolding transformClassDecl size recordBytes
 class-more h k st e =
     let y = (preserveClassExpressionName h st) .0 in
     omega (
       arith,
       class-bytes h e,
-      class-bytes (hd 15 1 (h .b) y) refl,
+      class-bytes (hd Tag.Class Form.Expression (h .b) y) refl,
       declaration-more 0 (h .c) (classExpression (h .b) y k),
     )
 
@@ -102,7 +105,7 @@ class-more h k st e =
 
 expression-bytes : (h : Head) → fieldBytes ((asExpression h) .tag) ≡ fieldBytes (h .tag)
 unfolding asExpression
-expression-bytes h = ap fieldBytes (expression-tag (eqb (h .tag) 15) h refl)
+expression-bytes h = ap fieldBytes (expression-tag (eqb (h .tag) Tag.Class) h refl)
 
 export-bytes : (fieldBytes 18 ≡ 5) × (fieldBytes 19 ≡ 5)
 unfolding fieldBytes numbersOf
@@ -119,18 +122,18 @@ item-pays st (as-exported-declaration {k = k} alone) =
     let ys = boundNames k in
     let n = length ys in
     pays n (4 + 7 * n) (exportedNames n ∷ []) refl (omega arith) (flags-of ys 1 st)
-    (omega (arith, export-bytes, names-more ((setFlagsOf ys 1 st) .1) ys (one (hd 5 0 0 0) k)))
+    (omega (arith, export-bytes, names-more ((setFlagsOf ys 1 st) .1) ys (one (hd Tag.Declaration Kind.Var 0 0) k)))
 item-pays st (as-exported-class {x = x} {y = y} {z = z} {k = k} alone) =
-    let h = hd 15 x y z in
+    let h = hd Tag.Class x y z in
     pays 4 32 (exportedClass ∷ []) refl (omega arith) (class-grows h k st)
     (omega (arith, export-bytes, class-more h k st refl, export-more z (symbolIn st z .name) ((transformClassDecl h k st) .0)))
 item-pays st (as-default-class {y = y} {z = z} {k = k} named alone) =
-    let h = hd 15 0 y z in
+    let h = hd Tag.Class Form.Declaration y z in
     pays 4 32 (defaultExport ∷ []) refl (omega arith) (class-grows h k st)
     (omega (arith, export-bytes, class-more h k st refl, export-more z 3 ((transformClassDecl h k st) .0)))
 item-pays st (as-default-value {h = h} {k = k} e d alone) =
     let y = (createSymbol 4 1 1 0 st) .0 in
-    let var = declaration 0 y (one (asExpression h) k) in
+    let var = declaration Kind.Var y (one (asExpression h) k) in
     pays 4 32 (defaultExport ∷ []) refl (omega arith) (symbol-made 4 1 1 0 st)
     (omega (arith, export-bytes, expression-bytes h, declaration-more 0 y (one (asExpression h) k), export-more y 3 var))
 
@@ -156,7 +159,7 @@ items-pay (more h k r) st x =
 
 wrapped-more : (s : ℕ) (f g : Forest) → More 1 7 (f & g) (f & block s g)
 unfolding size recordBytes
-wrapped-more s f g = omega (arith, more-& f g, more-& f (block s g), block-bytes (hd 2 s 0 0) refl)
+wrapped-more s f g = omega (arith, more-& f g, more-& f (block s g), block-bytes (hd Tag.Block s 0 0) refl)
 
 pub program-pays : (h : Head) (k : Forest) (st : Store) → Exports k
     → PaysFor (programBlock ∷ itemLines k) (one h k) st (enterProgram h k st)

@@ -7,6 +7,8 @@ use Prim.Native.Nat.{ℕ, zero, suc, _+_, _*_}
 use native.Mathlib.Omega.{arith}
 use lib.Dec.{eqb, ltb, leb·zero, leb·suc-zero, leb·suc-suc}
 use borrow.Author.Tests.{eqb-true}
+use Rattle.meaning.specs.Numbers.Tag
+use Rattle.meaning.specs.Numbers.Kind
 use Rattle.meaning.specs.Tree.{if_then_else_, oneOf, Head, Forest, none, more, count, size, _&_}
 use Rattle.meaning.specs.File.{fieldBytes, numbersOf}
 use Rattle.meaning.specs.Statements.{
@@ -40,24 +42,24 @@ more-& (more h k r) g = omega (arith, more-& r g)
 
 -- ---- bytes of the records that are replaced
 
-pub block-bytes : (h : Head) → h .tag ≡ 2 → fieldBytes (h .tag) ≡ 7
+pub block-bytes : (h : Head) → h .tag ≡ Tag.Block → fieldBytes (h .tag) ≡ 7
 unfolding fieldBytes numbersOf
 block-bytes h e = ap fieldBytes e
 
-pub body-bytes : (h : Head) → h .tag ≡ 14 → fieldBytes (h .tag) ≡ 5
+pub body-bytes : (h : Head) → h .tag ≡ Tag.Body → fieldBytes (h .tag) ≡ 5
 unfolding fieldBytes numbersOf
 body-bytes h e = ap fieldBytes e
 
-pub static-bytes : (h : Head) → h .tag ≡ 16 → fieldBytes (h .tag) ≡ 7
+pub static-bytes : (h : Head) → h .tag ≡ Tag.StaticBlock → fieldBytes (h .tag) ≡ 7
 unfolding fieldBytes numbersOf
 static-bytes h e = ap fieldBytes e
 
 -- ---- a using's tag
 
-pub using-tag : (h : Head) → isUsing h ≡ true → h .tag ≡ 5
+pub using-tag : (h : Head) → isUsing h ≡ true → h .tag ≡ Tag.Declaration
 unfolding isUsing
 using-tag h e =
-    eqb-true (h .tag) 5 (and-left (eqb (h .tag) 5) (oneOf (3 ∷ 4 ∷ []) (h .a) || oneOf (3 ∷ 4 ∷ []) (h .b)) e)
+    eqb-true (h .tag) Tag.Declaration (and-left (eqb (h .tag) Tag.Declaration) (oneOf (Kind.Using ∷ Kind.AwaitUsing ∷ []) (h .a) || oneOf (3 ∷ 4 ∷ []) (h .b)) e)
 
 -- ---- initializers
 
@@ -82,7 +84,7 @@ initializers-wrapped : (f : Forest) (letter ctx : ℕ) → Wrapped (initializers
 unfolding wrapInitializers size recordBytes initializers
 initializers-wrapped none letter ctx = omega arith
 initializers-wrapped (more h k r) letter ctx =
-    omega (arith, declarator-wrapped (eqb (h .tag) 6) k letter ctx (h .b), initializers-wrapped r letter ctx)
+    omega (arith, declarator-wrapped (eqb (h .tag) Tag.Declarator) k letter ctx (h .b), initializers-wrapped r letter ctx)
 
 -- ---- lists
 
@@ -117,7 +119,7 @@ loop-taken false false h k r ctx i e = absurd (clash refl e)
 pub for-taken : (f : Forest) (ctx : ℕ) → anyUsing (forList f) ≡ true → Wrapped (wraps (forList f)) f (takeUpFor ctx f)
 unfolding forList takeUpFor anyUsing
 for-taken none ctx e = absurd (clash refl e)
-for-taken (more h k r) ctx e = loop-taken (eqb (h .tag) 4) (eqb (h .tag) 7) h k r ctx (for-taken k ctx) e
+for-taken (more h k r) ctx e = loop-taken (eqb (h .tag) Tag.Label) (eqb (h .tag) Tag.For) h k r ctx (for-taken k ctx) e
 
 case-taken : (b : Bool) (h : Head) (k r r₁ r₂ : Forest) (ctx : ℕ) (needsAwait : Bool)
     → Wrapped (caseWraps r) r r₁ → Wrapped (caseWraps r) r r₂
@@ -131,6 +133,6 @@ pub cases-taken : (f : Forest) (ctx : ℕ) (needsAwait : Bool) → Wrapped (case
 unfolding takeUpCases caseWraps size recordBytes
 cases-taken none ctx needsAwait = omega arith
 cases-taken (more h k r) ctx needsAwait =
-    case-taken (eqb (h .tag) 10) h k r (takeUpCases ctx (needsAwait || anyAwaitUsing k) r) (takeUpCases ctx needsAwait r) ctx needsAwait
+    case-taken (eqb (h .tag) Tag.Case) h k r (takeUpCases ctx (needsAwait || anyAwaitUsing k) r) (takeUpCases ctx needsAwait r) ctx needsAwait
     (cases-taken r ctx (needsAwait || anyAwaitUsing k))
     (cases-taken r ctx needsAwait)

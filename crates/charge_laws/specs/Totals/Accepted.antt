@@ -7,6 +7,7 @@ use Prim.Native.Nat.{ℕ, _≤_, min}
 use native.Mathlib.Omega.{arith}
 use lib.Dec.{eqb}
 use borrow.Author.Tests.{eqb-true}
+use Rattle.meaning.specs.Numbers.Tag
 use Rattle.meaning.specs.Tree.{if_then_else_, oneOf, Head, Forest, size}
 use Rattle.meaning.specs.File.{File, numbersOf, hasChildren, ownNumbers}
 use Rattle.meaning.specs.Grammar.{fieldOf, right, childrenOf}
@@ -29,7 +30,7 @@ use Rattle.charge_laws.specs.Totals.Roles.{Lacks, LacksBelow, Regular}
 -- ---- children
 
 -- Labels and exports have one child
-one-child-of : {t : ℕ} (p : Place) (syms a b c d next : ℕ) → Seen (4 ∷ 18 ∷ 19 ∷ []) t → oneOf (4 ∷ 18 ∷ 19 ∷ []) t ≡ true
+one-child-of : {t : ℕ} (p : Place) (syms a b c d next : ℕ) → Seen (Tag.Label ∷ Tag.DefaultExport ∷ Tag.ExportedDeclaration ∷ []) t → oneOf (Tag.Label ∷ Tag.DefaultExport ∷ Tag.ExportedDeclaration ∷ []) t ≡ true
     → let x : Field = record { tag = t; a = a; b = b; c = c; d = d; next = next } in
     right p syms x ≡ true → childrenOf x ≡ 1
 unfolding right childrenOf ownNumbers hasChildren numbersOf
@@ -38,8 +39,8 @@ one-child-of p syms a b c d next (there e₄ here) s e = eqb-true a 1 e
 one-child-of p syms a b c d next (there e₄ (there e₁₈ here)) s e = eqb-true a 1 e
 one-child-of p syms a b c d next (there e₄ (there e₁₈ (there e₁₉ other))) s e = absurd (clash (rw (e₄, e₁₈, e₁₉)) s)
 
-pub one-child : (p : Place) (syms : ℕ) (x : Field) → oneOf (4 ∷ 18 ∷ 19 ∷ []) (x .tag) ≡ true → right p syms x ≡ true → childrenOf x ≡ 1
-one-child p syms x = one-child-of p syms (x .a) (x .b) (x .c) (x .d) (x .next) (seen (4 ∷ 18 ∷ 19 ∷ []) (x .tag))
+pub one-child : (p : Place) (syms : ℕ) (x : Field) → oneOf (Tag.Label ∷ Tag.DefaultExport ∷ Tag.ExportedDeclaration ∷ []) (x .tag) ≡ true → right p syms x ≡ true → childrenOf x ≡ 1
+one-child p syms x = one-child-of p syms (x .a) (x .b) (x .c) (x .d) (x .next) (seen (Tag.Label ∷ Tag.DefaultExport ∷ Tag.ExportedDeclaration ∷ []) (x .tag))
 
 -- ---- what is read
 
@@ -53,8 +54,8 @@ module _ {f : List ℕ} {syms : ℕ} where
   lacks n bars parsed-none = tt
   lacks {i = i} n bars (parsed-more y k r) = (barred n (bars i) y, lacks n bars r)
 
-  lacks-program : {place : ℕ → Place} {i cur at next : ℕ} {m o : List ℕ} {t : Forest} → ((j : ℕ) → Bars 1 (place j))
-      → Parsed f syms place i cur at m t next o → LacksBelow 1 t
+  lacks-program : {place : ℕ → Place} {i cur at next : ℕ} {m o : List ℕ} {t : Forest} → ((j : ℕ) → Bars Tag.Program (place j))
+      → Parsed f syms place i cur at m t next o → LacksBelow Tag.Program t
   lacks-program bars parsed-none = tt
   lacks-program {i = i} bars (parsed-more y k r) =
       (barred 1 (bars i) y, lacks-program (below-bars-1 _ _) k, lacks-program bars r)
@@ -62,7 +63,7 @@ module _ {f : List ℕ} {syms : ℕ} where
   exports : {place : ℕ → Place} {i cur at next : ℕ} {m o : List ℕ} {t : Forest} → Parsed f syms place i cur at m t next o → Exports t
   exports parsed-none = tt
   exports {place} {i} {at = at} (parsed-more {h = h} y k r) = (
-    λ e. y .children ∙ one-child (place i) syms (fieldOf f at) (rw (← same-tag y, e) (or-true (eqb (h .tag) 4))) (y .numbers),
+    λ e. y .children ∙ one-child (place i) syms (fieldOf f at) (rw (← same-tag y, e) (or-true (eqb (h .tag) Tag.Label))) (y .numbers),
     exports r,
   )
 

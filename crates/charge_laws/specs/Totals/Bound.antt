@@ -6,6 +6,7 @@ use mathlib.Core.List.{List, [], _∷_}
 use Prim.Native.Nat.{ℕ, suc, _+_, _*_, _≤_}
 use native.Mathlib.Omega.{arith}
 use lib.Dec.{eqb, ltb}
+use Rattle.meaning.specs.Numbers.Tag
 use Rattle.meaning.specs.Tree.{if_then_else_, Head, Forest, none, more, count, size}
 use Rattle.meaning.specs.File.{Symbol, fieldBytes}
 use Rattle.meaning.specs.Statements.{isUsing}
@@ -40,7 +41,7 @@ one-most false = omega arith
 
 pub kept-most : (t usings n : ℕ) → itemsKept t usings n ≤ n
 unfolding itemsKept
-kept-most t usings n = go (eqb t 1 && eqb usings 0)
+kept-most t usings n = go (eqb t Tag.Program && eqb usings 0)
   where
     go : (b : Bool) → (if b then 0 else n) ≤ n
     go true = omega arith
@@ -71,11 +72,11 @@ pub record Small (n : ℕ) (t : Tally) : Type 0 where
   pub usings : t .usings ≤ n
   pub caseUsings : t .«case_usings» ≤ n
 
-wraps-small : {t : ℕ} (kids : Tally) → Seen (5 ∷ 9 ∷ 10 ∷ []) t
+wraps-small : {t : ℕ} (kids : Tally) → Seen (Tag.Declaration ∷ Tag.Switch ∷ Tag.Case ∷ []) t
     → (if takesUp t (kids .usings) then kids .wraps else 0)
     + (if takesUpCases t (kids .«case_usings») then kids .«case_wraps» else 0)
-    + (if eqb t 5 then kids .wraps else 0)
-    + (if eqb t 10 then kids .wraps else 0)
+    + (if eqb t Tag.Declaration then kids .wraps else 0)
+    + (if eqb t Tag.Case then kids .wraps else 0)
     ≤ kids .wraps + kids .«case_wraps»
 unfolding takesUp takesUpCases
 wraps-small kids here = omega arith
@@ -97,19 +98,19 @@ own-small u inserts h n m kids s =
       wrapped =
           omega (
             arith,
-            wraps-small kids (seen (5 ∷ 9 ∷ 10 ∷ []) t),
+            wraps-small kids (seen (Tag.Declaration ∷ Tag.Switch ∷ Tag.Case ∷ []) t),
             one-most (isBody u),
-            one-most (isRole u Held && eqb t 6 && ltb (h .b) n),
+            one-most (isRole u Held && eqb t Tag.Declarator && ltb (h .b) n),
           );
       forOfs = omega (arith, one-most (isBody u && inserts));
       forOfBlocks = omega (arith, one-most (isBody u && not inserts));
-      programs = omega (arith, one-most (takes && eqb t 1));
-      classes = omega (arith, kept-most t (kids .usings) (kids .classes), one-most (isRole u Item && eqb t 15));
+      programs = omega (arith, one-most (takes && eqb t Tag.Program));
+      classes = omega (arith, kept-most t (kids .usings) (kids .classes), one-most (isRole u Item && eqb t Tag.Class));
       exports = omega (arith, kept-most t (kids .usings) (kids .exports), one-most (isExport u h));
-      declarations = omega (arith, kept-most t (kids .usings) (kids .declarations), one-most (isRole u Exported && eqb t 5));
-      names = omega (arith, kept-most t (kids .usings) (kids .names), one-most (isRole u ExportedName && eqb t 26));
+      declarations = omega (arith, kept-most t (kids .usings) (kids .declarations), one-most (isRole u Exported && eqb t Tag.Declaration));
+      names = omega (arith, kept-most t (kids .usings) (kids .names), one-most (isRole u ExportedName && eqb t Tag.Name));
       usings = omega (arith, one-most (isUsing h));
-      caseUsings = omega (arith, if-most (eqb t 10) (kids .usings));
+      caseUsings = omega (arith, if-most (eqb t Tag.Case) (kids .usings));
     }
 
 sum-small : (m n : ℕ) (s t : Tally) → Small (suc m) s → Small n t → Small (suc (m + n)) (s ⊞ t)

@@ -8,6 +8,8 @@ use native.Mathlib.Omega.{arith}
 use lib.ListN.{length}
 use lib.Dec.{eqb, leb, ltb, eqb·suc-zero}
 use borrow.Author.Tests.{eqb-true, ne-eqb, leb-true}
+use Rattle.meaning.specs.Numbers.Tag
+use Rattle.meaning.specs.Numbers.Kind
 use Rattle.meaning.specs.Tree.{if_then_else_, oneOf, Head, Forest, none, more, count}
 use Rattle.meaning.specs.File.{Symbol, File, numbersOf, hasChildren, ownNumbers, fieldBytes}
 use Rattle.meaning.specs.Grammar.{tagsOf, is, allowed, fieldOf, declarationRight, right, childrenOf, placeOf}
@@ -55,12 +57,12 @@ use Rattle.spec_laws.specs.Bools.{or-false}
 -- the Declarators of a list
 unfoldable pub declarators : Forest → ℕ
 declarators none = 0
-declarators (more h k r) = oneIf (eqb (h .tag) 6) + declarators r
+declarators (more h k r) = oneIf (eqb (h .tag) Tag.Declarator) + declarators r
 
 -- a Declaration has a Declarator, and 18 one child
 abbrev pub Sound : Forest → Type 0
 Sound none = Unit {0}
-Sound (more h k r) = (oneIf (eqb (h .tag) 5) ≤ declarators k) × (eqb (h .tag) 18 ≡ true → count k ≡ 1) × Sound k × Sound r
+Sound (more h k r) = (oneIf (eqb (h .tag) Tag.Declaration) ≤ declarators k) × (eqb (h .tag) Tag.DefaultExport ≡ true → count k ≡ 1) × Sound k × Sound r
 
 -- what a record is charged that the one around it pays: at a ForOf's body, and below 18
 owed : Role → ℕ
@@ -124,14 +126,14 @@ module _ (asRead : List Symbol) (u : Role) (held : Bool) where
         no-debt r (roleOf u 8 held body) 3 (λ j l. rw (ne-eqb j 2 (λ e. omega arith))),
       )
 
-  no-owed : (t : ℕ) (body : Role) (i : ℕ) → eqb t 8 ≡ false → eqb t 18 ≡ false → owed (roleOf u t held body i) ≡ 0
+  no-owed : (t : ℕ) (body : Role) (i : ℕ) → eqb t Tag.ForOf ≡ false → eqb t Tag.DefaultExport ≡ false → owed (roleOf u t held body i) ≡ 0
   unfolding owed
   no-owed t body i e₈ e₁₈ =
       roleOf-all (λ (x : Role). owed x ≡ 0) u t held body i refl refl (λ _. refl) (λ _. refl) (λ d. absurd (clash e₈ d)) (λ _ _. refl)
       (λ _ _. refl) (λ d _. absurd (clash e₁₈ d)) (λ _ _. refl)
 
-  debt-below : {t : ℕ} (k : Forest) → (eqb t 18 ≡ true → count k ≡ 1) → Seen (8 ∷ 18 ∷ []) t
-      → debt (roleOf u t held (bodyOf k)) 0 k ≤ 12 * (if eqb t 8 then usingsBelow t k else 0) + 5 * oneIf (eqb t 8) + 4 * oneIf (eqb t 18)
+  debt-below : {t : ℕ} (k : Forest) → (eqb t Tag.DefaultExport ≡ true → count k ≡ 1) → Seen (Tag.ForOf ∷ Tag.DefaultExport ∷ []) t
+      → debt (roleOf u t held (bodyOf k)) 0 k ≤ 12 * (if eqb t Tag.ForOf then usingsBelow t k else 0) + 5 * oneIf (eqb t Tag.ForOf) + 4 * oneIf (eqb t Tag.DefaultExport)
   unfolding roleOf
   debt-below k n here = omega (arith, for-of-debt k)
   debt-below k n (there e₈ here) = omega (arith, one-debt k (roleOf u 18 held (bodyOf k)) (default-owed (isRole u Item)) (n refl))
@@ -148,9 +150,9 @@ one-last : (b c : Bool) → oneIf (b && c) ≤ oneIf c
 one-last true c = omega arith
 one-last false c = omega arith
 
-using-tag : (h : Head) → oneIf (isUsing h) ≤ oneIf (eqb (h .tag) 5)
+using-tag : (h : Head) → oneIf (isUsing h) ≤ oneIf (eqb (h .tag) Tag.Declaration)
 unfolding isUsing
-using-tag h = one-first (eqb (h .tag) 5) (oneOf (3 ∷ 4 ∷ []) (h .a) || oneOf (3 ∷ 4 ∷ []) (h .b))
+using-tag h = one-first (eqb (h .tag) Tag.Declaration) (oneOf (Kind.Using ∷ Kind.AwaitUsing ∷ []) (h .a) || oneOf (3 ∷ 4 ∷ []) (h .b))
 
 held-tag : (held declarator initializer : Bool) → oneIf (held && declarator && initializer) ≤ oneIf declarator
 held-tag true declarator initializer = one-first declarator initializer
@@ -165,7 +167,7 @@ body-cost false any = omega arith
 role-paid : (u : Role) (inserts : Bool) (h : Head) (usings : ℕ)
     → 11 * oneIf (getsContext u inserts usings) + oneIf (isBody u) + 4 * oneIf (isBody u && inserts) + 5 * oneIf (isBody u && not inserts)
     + 4 * oneIf (isExport u h)
-    ≤ owed u + 4 * oneIf (eqb (h .tag) 15)
+    ≤ owed u + 4 * oneIf (eqb (h .tag) Tag.Class)
 unfolding owed roleIndex getsContext isExport
 role-paid Plain inserts h usings = omega arith
 role-paid Part inserts h usings = omega arith
@@ -178,9 +180,9 @@ role-paid Held inserts h usings = omega arith
 role-paid (Body y) inserts h usings = omega (arith, body-cost inserts (eqb usings 0))
 
 -- its tag: its bytes pay, and those of a Declaration's Declarator
-tag-paid : {t : ℕ} → Seen (5 ∷ 6 ∷ 8 ∷ 15 ∷ 18 ∷ 26 ∷ []) t
-    → 1 + 12 * oneIf (eqb t 5) + 7 * oneIf (eqb t 6) + 5 * oneIf (eqb t 8) + 7 * oneIf (eqb t 15) + 4 * oneIf (eqb t 18) + oneIf (eqb t 26)
-    ≤ fieldBytes t + 6 * oneIf (eqb t 5)
+tag-paid : {t : ℕ} → Seen (Tag.Declaration ∷ Tag.Declarator ∷ Tag.ForOf ∷ Tag.Class ∷ Tag.DefaultExport ∷ Tag.Name ∷ []) t
+    → 1 + 12 * oneIf (eqb t Tag.Declaration) + 7 * oneIf (eqb t Tag.Declarator) + 5 * oneIf (eqb t Tag.ForOf) + 7 * oneIf (eqb t Tag.Class) + 4 * oneIf (eqb t Tag.DefaultExport) + oneIf (eqb t Tag.Name)
+    ≤ fieldBytes t + 6 * oneIf (eqb t Tag.Declaration)
 unfolding fieldBytes numbersOf
 tag-paid here = omega arith
 tag-paid (there e₅ here) = omega arith
@@ -217,12 +219,12 @@ module _ (u : Role) (kids : Tally) where
       let cases = takesUpCases t (kids .«case_usings») in
       11 * oneIf (takes && isBlock u t) + 12 * oneIf (takes && not (isBlock u t)) + 12 * oneIf cases + (if takes then kids .wraps else 0)
       + (if cases then kids .«case_wraps» else 0)
-      + oneIf (takes && eqb t 1)
+      + oneIf (takes && eqb t Tag.Program)
 
-  list-paid : {t : ℕ} → Seen (1 ∷ 2 ∷ 5 ∷ 7 ∷ 8 ∷ 9 ∷ 10 ∷ 14 ∷ 16 ∷ []) t
-      → listCost t + (if eqb t 5 then kids .wraps else 0) + 12 * (if eqb t 8 then kids .usings else 0)
-      + 12 * (if eqb t 10 then kids .usings else 0)
-      + (if eqb t 10 then kids .wraps else 0)
+  list-paid : {t : ℕ} → Seen (Tag.Program ∷ Tag.Block ∷ Tag.Declaration ∷ Tag.For ∷ Tag.ForOf ∷ Tag.Switch ∷ Tag.Case ∷ Tag.Body ∷ Tag.StaticBlock ∷ []) t
+      → listCost t + (if eqb t Tag.Declaration then kids .wraps else 0) + 12 * (if eqb t Tag.ForOf then kids .usings else 0)
+      + 12 * (if eqb t Tag.Case then kids .usings else 0)
+      + (if eqb t Tag.Case then kids .wraps else 0)
       ≤ 12 * kids .usings + kids .wraps + 12 * kids .«case_usings» + kids .«case_wraps»
   unfolding takesUp takesUpCases isBlock
   list-paid here = omega (arith, program-cost (not (eqb (kids .usings) 0)) (kids .usings) (kids .wraps) (any-most (kids .usings)))
@@ -246,21 +248,21 @@ module _ (u : Role) (kids : Tally) where
       rw (e₁, e₂, e₅, e₇, e₈, e₉, e₁₀, e₁₄, e₁₆) (omega arith)
 
 -- what a record is charged, and what it hands on, is paid by its bytes, by what its children handed on, and by the record around it
-own-paid : (u : Role) (inserts : Bool) (h : Head) (n : ℕ) (kids : Tally) (d due : ℕ) → oneIf (eqb (h .tag) 5) ≤ d
-    → due ≤ 12 * (if eqb (h .tag) 8 then kids .usings else 0) + 5 * oneIf (eqb (h .tag) 8) + 4 * oneIf (eqb (h .tag) 18)
-    → spent (own u inserts h n kids) + 6 * oneIf (eqb (h .tag) 6) + due ≤ spent kids + 6 * d + fieldBytes (h .tag) + owed u
+own-paid : (u : Role) (inserts : Bool) (h : Head) (n : ℕ) (kids : Tally) (d due : ℕ) → oneIf (eqb (h .tag) Tag.Declaration) ≤ d
+    → due ≤ 12 * (if eqb (h .tag) Tag.ForOf then kids .usings else 0) + 5 * oneIf (eqb (h .tag) Tag.ForOf) + 4 * oneIf (eqb (h .tag) Tag.DefaultExport)
+    → spent (own u inserts h n kids) + 6 * oneIf (eqb (h .tag) Tag.Declarator) + due ≤ spent kids + 6 * d + fieldBytes (h .tag) + owed u
 unfolding own tallyFigures
 own-paid u inserts h n kids d due l m =
     let t = h .tag in
     omega (
       arith,
       role-paid u inserts h (kids .usings),
-      tag-paid (seen (5 ∷ 6 ∷ 8 ∷ 15 ∷ 18 ∷ 26 ∷ []) t),
-      list-paid u kids (seen (1 ∷ 2 ∷ 5 ∷ 7 ∷ 8 ∷ 9 ∷ 10 ∷ 14 ∷ 16 ∷ []) t),
+      tag-paid (seen (Tag.Declaration ∷ Tag.Declarator ∷ Tag.ForOf ∷ Tag.Class ∷ Tag.DefaultExport ∷ Tag.Name ∷ []) t),
+      list-paid u kids (seen (Tag.Program ∷ Tag.Block ∷ Tag.Declaration ∷ Tag.For ∷ Tag.ForOf ∷ Tag.Switch ∷ Tag.Case ∷ Tag.Body ∷ Tag.StaticBlock ∷ []) t),
       using-tag h,
-      held-tag (isRole u Held) (eqb t 6) (ltb (h .b) n),
-      one-last (isRole u Item) (eqb t 15),
-      one-last (isRole u ExportedName) (eqb t 26),
+      held-tag (isRole u Held) (eqb t Tag.Declarator) (ltb (h .b) n),
+      one-last (isRole u Item) (eqb t Tag.Class),
+      one-last (isRole u ExportedName) (eqb t Tag.Name),
       kept-most t (kids .usings) (kids .classes),
       kept-most t (kids .usings) (kids .exports),
       kept-most t (kids .usings) (kids .names),
@@ -278,7 +280,7 @@ all-paid asRead (more h k r) ups i s =
     omega (
       arith,
       own-paid u (insertsIn asRead u h) h (count k) (tallyOf asRead below 0 k) (declarators k) (debt below 0 k) (s .0)
-          (debt-below asRead u (isUsing h) k (s .1) (seen (8 ∷ 18 ∷ []) t)),
+          (debt-below asRead u (isUsing h) k (s .1) (seen (Tag.ForOf ∷ Tag.DefaultExport ∷ []) t)),
       all-paid asRead k below 0 (s .2),
       all-paid asRead r ups (suc i) (s .3),
     )
@@ -289,10 +291,10 @@ all-paid asRead (more h k r) ups i s =
 Only : ℕ → Place → Type 0
 Only n p = (t : ℕ) → allowed p t ≡ true → eqb t n ≡ true
 
-below-declaration : (p : Place) (x : Field) → x .tag ≡ 5 → (k : ℕ) → Only 6 (placeOf p x k)
+below-declaration : (p : Place) (x : Field) → x .tag ≡ Tag.Declaration → (k : ℕ) → Only 6 (placeOf p x k)
 unfolding Only placeOf allowed tagsOf
 below-declaration p x e k =
-    rw e (either (Only 6) (is p ForOfLeft) (λ t. or-false (eqb t 6)) (λ t. or-false (eqb t 6)))
+    rw e (either (Only 6) (is p ForOfLeft) (λ t. or-false (eqb t Tag.Declarator)) (λ t. or-false (eqb t Tag.Declarator)))
 
 -- ---- the numbers of children
 
@@ -301,20 +303,20 @@ some-children true true n e = omega (arith, eqb-true n 1 e)
 some-children true false n e = leb-true 1 n e
 some-children false c n e = absurd (clash refl e)
 
-declaration-children : (p : Place) (syms : ℕ) (x : Field) → x .tag ≡ 5 → right p syms x ≡ true → 1 ≤ childrenOf x
+declaration-children : (p : Place) (syms : ℕ) (x : Field) → x .tag ≡ Tag.Declaration → right p syms x ≡ true → 1 ≤ childrenOf x
 unfolding right declarationRight childrenOf ownNumbers hasChildren numbersOf
 declaration-children p syms x e r = rw e (some-children (leb (x .a) 4) (is p ForOfLeft) (x .b) (rw e at r))
 
-default-child : (p : Place) (syms : ℕ) (x : Field) → x .tag ≡ 18 → right p syms x ≡ true → childrenOf x ≡ 1
+default-child : (p : Place) (syms : ℕ) (x : Field) → x .tag ≡ Tag.DefaultExport → right p syms x ≡ true → childrenOf x ≡ 1
 unfolding right childrenOf ownNumbers hasChildren numbersOf
 default-child p syms x e r = rw e (eqb-true (x .a) 1 (rw e at r))
 
 -- ---- what is read
 
-a-declarator : (b : Bool) (p : Place) (x : Field) (syms d : ℕ) → eqb (x .tag) 5 ≡ b → right p syms x ≡ true
+a-declarator : (b : Bool) (p : Place) (x : Field) (syms d : ℕ) → eqb (x .tag) Tag.Declaration ≡ b → right p syms x ≡ true
     → (((k : ℕ) → Only 6 (placeOf p x k)) → d ≡ childrenOf x) → oneIf b ≤ d
 a-declarator true p x syms d e r g =
-    let t = eqb-true (x .tag) 5 e in
+    let t = eqb-true (x .tag) Tag.Declaration e in
     omega (arith, g (below-declaration p x t), declaration-children p syms x t r)
 a-declarator false p x syms d e r g = omega arith
 
@@ -332,8 +334,8 @@ module _ {f : List ℕ} {syms : ℕ} where
       let p = place i in
       let x = fieldOf f at in (
         rw (same-tag y)
-            (a-declarator (eqb (x .tag) 5) p x syms (declarators kids) refl (y .numbers) (λ only. all-declarators only k ∙ y .children)),
-        λ e. y .children ∙ default-child p syms x (eqb-true (x .tag) 18 (rw (same-tag y) at e)) (y .numbers),
+            (a-declarator (eqb (x .tag) Tag.Declaration) p x syms (declarators kids) refl (y .numbers) (λ only. all-declarators only k ∙ y .children)),
+        λ e. y .children ∙ default-child p syms x (eqb-true (x .tag) Tag.DefaultExport (rw (same-tag y) at e)) (y .numbers),
         sound k,
         sound r,
       )

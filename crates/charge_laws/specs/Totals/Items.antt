@@ -7,6 +7,8 @@ use Prim.Native.Nat.{ℕ, suc, _+_}
 use native.Mathlib.Omega.{arith}
 use lib.ListN.{length, length-append}
 use lib.Dec.{eqb}
+use Rattle.meaning.specs.Numbers.Tag
+use Rattle.meaning.specs.Numbers.Form
 use Rattle.meaning.specs.Tree.{if_then_else_, Head, hd, Forest, none, more, count}
 use Rattle.meaning.specs.File.{Symbol}
 use Rattle.meaning.specs.Statements.{isUsing, anyUsing}
@@ -44,8 +46,8 @@ pub data Apart : Role → Type 0 where
 -- below such a record all roles are apart
 abbrev Ends : Role → ℕ → Type 0
 Ends u t =
-    (eqb t 1 ≡ false) × ((isRole u Exported && eqb t 5) ≡ false) × ((isRole u ExportedDeclarator && eqb t 6) ≡ false)
-    × ((isRole u Item && eqb t 18) ≡ false) × ((isRole u Item && eqb t 19) ≡ false)
+    (eqb t Tag.Program ≡ false) × ((isRole u Exported && eqb t Tag.Declaration) ≡ false) × ((isRole u ExportedDeclarator && eqb t Tag.Declarator) ≡ false)
+    × ((isRole u Item && eqb t Tag.DefaultExport) ≡ false) × ((isRole u Item && eqb t Tag.ExportedDeclaration) ≡ false)
 
 ends-below : (u : Role) (t : ℕ) (kept : Bool) (k : Forest) → Ends u t → (i : ℕ) → Apart (roleOf u t kept (bodyOf k) i)
 ends-below u t kept k e i =
@@ -53,7 +55,7 @@ ends-below u t kept k e i =
     (λ d x. absurd (clash (e .1) (rw (x, d)))) (λ d x. absurd (clash (e .2) (rw (x, d))))
     (λ d x. absurd (clash (e .3) (rw (x, d)))) (λ d x. absurd (clash (e .4) (rw (x, d))))
 
-apart-ends : {u : Role} → Apart u → (t : ℕ) → eqb t 1 ≡ false → Ends u t
+apart-ends : {u : Role} → Apart u → (t : ℕ) → eqb t Tag.Program ≡ false → Ends u t
 unfolding roleIndex
 apart-ends plain t e = (e, refl, refl, refl, refl)
 apart-ends part t e = (e, refl, refl, refl, refl)
@@ -63,8 +65,8 @@ apart-ends body t e = (e, refl, refl, refl, refl)
 -- what `own` adds by the role
 abbrev roleItems : Role → Head → Figures
 roleItems u h =
-    itemFigures (oneIf (isRole u Item && eqb (h .tag) 15)) (oneIf (isExport u h)) (oneIf (isRole u Exported && eqb (h .tag) 5))
-    (oneIf (isRole u ExportedName && eqb (h .tag) 26))
+    itemFigures (oneIf (isRole u Item && eqb (h .tag) Tag.Class)) (oneIf (isExport u h)) (oneIf (isRole u Exported && eqb (h .tag) Tag.Declaration))
+    (oneIf (isRole u ExportedName && eqb (h .tag) Tag.Name))
 
 apart-items : {u : Role} → Apart u → (h : Head) → Same (roleItems u h) (itemFigures 0 0 0 0)
 unfolding roleIndex isExport
@@ -89,7 +91,7 @@ unfolding total
 kept-items true kids items e = e
 kept-items false kids items e = omega arith
 
-no-programs : (f : Forest) → LacksBelow 1 f → programLines f ≡ []
+no-programs : (f : Forest) → LacksBelow Tag.Program f → programLines f ≡ []
 unfolding programLines programOwn
 no-programs none l = refl
 no-programs (more h k r) l = rw (l .0, no-programs k (l .1), no-programs r (l .2))
@@ -104,13 +106,13 @@ module _ (asRead : List Symbol) where
   abbrev recordTally : Role → Head → Forest → Tally
   recordTally u h k = own u (insertsIn asRead u h) h (count k) (below u h k)
 
-  own-items : (u : Role) (h : Head) (k : Forest) → eqb (h .tag) 1 ≡ false
+  own-items : (u : Role) (h : Head) (k : Forest) → eqb (h .tag) Tag.Program ≡ false
       → Same (itemsOf (recordTally u h k)) (itemsOf (below u h k) ⊕ roleItems u h)
   unfolding own itemsKept
   own-items u h k e = rw e (omega arith)
 
   -- nothing is charged where all roles are apart
-  no-items : (f : Forest) (ups : ℕ → Role) (i : ℕ) → LacksBelow 1 f → ((j : ℕ) → Apart (ups j))
+  no-items : (f : Forest) (ups : ℕ → Role) (i : ℕ) → LacksBelow Tag.Program f → ((j : ℕ) → Apart (ups j))
       → Same (itemsOf (tallyOf asRead ups i f)) (itemFigures 0 0 0 0)
   unfolding tallyOf
   no-items none ups i l a = omega arith
@@ -125,7 +127,7 @@ module _ (asRead : List Symbol) where
         no-items r ups (suc i) (l .2) a,
       )
 
-  ends-items : (u : Role) (h : Head) (k : Forest) → LacksBelow 1 k → Ends u (h .tag)
+  ends-items : (u : Role) (h : Head) (k : Forest) → LacksBelow Tag.Program k → Ends u (h .tag)
       → Same (itemsOf (recordTally u h k)) (roleItems u h)
   ends-items u h k l e =
       omega (
@@ -135,7 +137,7 @@ module _ (asRead : List Symbol) where
       )
 
   -- the Names of an exported Declaration, in its Declarators
-  names-are : (f : Forest) (i : ℕ) → LacksBelow 1 f
+  names-are : (f : Forest) (i : ℕ) → LacksBelow Tag.Program f
       → Same (itemsOf (tallyOf asRead (λ _. ExportedName) i f)) (itemFigures 0 0 0 (length (namesIn f)))
   unfolding tallyOf namesIn roleIndex isExport
   names-are none i l = omega arith
@@ -143,39 +145,39 @@ module _ (asRead : List Symbol) where
       omega (
         arith,
         ends-items ExportedName h k (l .1) (l .0, refl, refl, refl, refl),
-        length-if (eqb (h .tag) 26) (h .a) (namesIn r),
+        length-if (eqb (h .tag) Tag.Name) (h .a) (namesIn r),
         names-are r (suc i) (l .2),
       )
 
-  declarator-names : {t : ℕ} (a b c : ℕ) (k : Forest) → LacksBelow 1 k → eqb t 1 ≡ false → Seen (6 ∷ []) t
-      → Same (itemsOf (recordTally ExportedDeclarator (hd t a b c) k)) (itemFigures 0 0 0 (length (if eqb t 6 then namesIn k else [])))
+  declarator-names : {t : ℕ} (a b c : ℕ) (k : Forest) → LacksBelow Tag.Program k → eqb t Tag.Program ≡ false → Seen (Tag.Declarator ∷ []) t
+      → Same (itemsOf (recordTally ExportedDeclarator (hd t a b c) k)) (itemFigures 0 0 0 (length (if eqb t Tag.Declarator then namesIn k else [])))
   unfolding roleIndex isExport roleOf
   declarator-names a b c k l e here =
-      omega (arith, own-items ExportedDeclarator (hd 6 a b c) k e, names-are k 0 l)
+      omega (arith, own-items ExportedDeclarator (hd Tag.Declarator a b c) k e, names-are k 0 l)
   declarator-names {t} a b c k l e (there e₆ other) =
       rw e₆ (omega (arith, ends-items ExportedDeclarator (hd t a b c) k l (e, refl, e₆, refl, refl)))
 
-  bound-are : (f : Forest) (i : ℕ) → LacksBelow 1 f
+  bound-are : (f : Forest) (i : ℕ) → LacksBelow Tag.Program f
       → Same (itemsOf (tallyOf asRead (λ _. ExportedDeclarator) i f)) (itemFigures 0 0 0 (length (boundNames f)))
   unfolding tallyOf boundNames
   bound-are none i l = omega arith
   bound-are (more h k r) i l =
       omega (
         arith,
-        declarator-names (h .a) (h .b) (h .c) k (l .1) (l .0) (seen (6 ∷ []) (h .tag)),
-        length-append (if eqb (h .tag) 6 then namesIn k else []) (boundNames r),
+        declarator-names (h .a) (h .b) (h .c) k (l .1) (l .0) (seen (Tag.Declarator ∷ []) (h .tag)),
+        length-append (if eqb (h .tag) Tag.Declarator then namesIn k else []) (boundNames r),
         bound-are r (suc i) (l .2),
       )
 
   -- Program's items
-  program-item : {x : ItemAct} {h : Head} {k : Forest} → LacksBelow 1 k → eqb (h .tag) 1 ≡ false → ChosenItem Alone x h k
+  program-item : {x : ItemAct} {h : Head} {k : Forest} → LacksBelow Tag.Program k → eqb (h .tag) Tag.Program ≡ false → ChosenItem Alone x h k
       → Same (itemsOf (recordTally Item h k)) (total (actLines x))
   unfolding roleIndex isExport roleOf tallyOf keepsDefault actLines total lineCharge
   program-item {h = h} {k = k} l e (as-kept function) = omega (arith, ends-items Item h k l (refl, refl, refl, refl, refl))
   program-item {h = h} {k = k} l e (as-kept module-line) = omega (arith, ends-items Item h k l (refl, refl, refl, refl, refl))
   program-item {h = h} {k = k} l e (as-kept no-default) = omega (arith, own-items Item h k e)
   program-item {h = h} {k = k} l e (as-kept (default-function {y = y} {z = z} {k = k₁} alone)) =
-      omega (arith, own-items Item h k e, ends-items Default (hd 13 0 y z) k₁ (l .1) (refl, refl, refl, refl, refl))
+      omega (arith, own-items Item h k e, ends-items Default (hd Tag.Function Form.Declaration y z) k₁ (l .1) (refl, refl, refl, refl, refl))
   program-item {h = h} {k = k} l e (as-kept no-export) = omega (arith, own-items Item h k e)
   program-item {h = h} {k = k} l e (as-kept (export-other {h = h₁} {k = k₁} e₁₅ e₅ alone)) =
       omega (arith, own-items Item h k e, rw (e₁₅, e₅) at (ends-items Exported h₁ k₁ (l .1) (l .0, e₅, refl, refl, refl)))
@@ -183,15 +185,15 @@ module _ (asRead : List Symbol) where
   program-item {h = h} {k = k} l e as-class = omega (arith, ends-items Item h k l (refl, refl, refl, refl, refl))
   program-item {h = h} {k = k} l e as-declaration = omega (arith, ends-items Item h k l (refl, refl, refl, refl, refl))
   program-item {h = h} {k = k} l e (as-exported-declaration {x = x} {y = y} {z = z} {k = k₁} alone) =
-      omega (arith, own-items Item h k e, own-items Exported (hd 5 x y z) k₁ refl, bound-are k₁ 0 (l .1))
+      omega (arith, own-items Item h k e, own-items Exported (hd Tag.Declaration x y z) k₁ refl, bound-are k₁ 0 (l .1))
   program-item {h = h} {k = k} l e (as-exported-class {x = x} {y = y} {z = z} {k = k₁} alone) =
-      omega (arith, own-items Item h k e, ends-items Exported (hd 15 x y z) k₁ (l .1) (refl, refl, refl, refl, refl))
+      omega (arith, own-items Item h k e, ends-items Exported (hd Tag.Class x y z) k₁ (l .1) (refl, refl, refl, refl, refl))
   program-item {h = h} {k = k} l e (as-default-class {y = y} {z = z} {k = k₁} named alone) =
-      omega (arith, own-items Item h k e, ends-items Default (hd 15 0 y z) k₁ (l .1) (refl, refl, refl, refl, refl))
+      omega (arith, own-items Item h k e, ends-items Default (hd Tag.Class Form.Declaration y z) k₁ (l .1) (refl, refl, refl, refl, refl))
   program-item {h = h} {k = k} l e (as-default-value {h = h₁} {k = k₁} d c alone) =
       omega (arith, own-items Item h k e, rw d at (ends-items Default h₁ k₁ (l .1) (l .0, refl, refl, refl, refl)))
 
-  item-lines-are : (f : Forest) (i : ℕ) → LacksBelow 1 f → Exports f → Same (itemsOf (tallyOf asRead (λ _. Item) i f)) (total (itemLines f))
+  item-lines-are : (f : Forest) (i : ℕ) → LacksBelow Tag.Program f → Exports f → Same (itemsOf (tallyOf asRead (λ _. Item) i f)) (total (itemLines f))
   unfolding tallyOf itemLines total
   item-lines-are none i l x = omega arith
   item-lines-are (more h k r) i l x =
@@ -203,18 +205,18 @@ module _ (asRead : List Symbol) where
       )
 
   -- a Program, and any record
-  program-items : {u : Role} → Apart u → (a b c : ℕ) (k : Forest) → LacksBelow 1 k × Exports k
-      → Same (itemsOf (recordTally u (hd 1 a b c) k)) (total (programOwn 1 k))
+  program-items : {u : Role} → Apart u → (a b c : ℕ) (k : Forest) → LacksBelow Tag.Program k × Exports k
+      → Same (itemsOf (recordTally u (hd Tag.Program a b c) k)) (total (programOwn 1 k))
   unfolding own itemsKept programOwn roleOf
   program-items {u} x a b c k l =
       rw (usings-are asRead k (λ _. Item) 0)
       (omega (
         arith,
-        apart-items x (hd 1 a b c),
+        apart-items x (hd Tag.Program a b c),
         kept-items (anyUsing k) (tallyOf asRead (λ _. Item) 0 k) (itemLines k) (item-lines-are k 0 (l .0) (l .1)),
       ))
 
-  record-items : {u : Role} → Apart u → {t : ℕ} (a b c : ℕ) (k : Forest) → (eqb t 1 ≡ true → LacksBelow 1 k × Exports k) → Seen (1 ∷ []) t
+  record-items : {u : Role} → Apart u → {t : ℕ} (a b c : ℕ) (k : Forest) → (eqb t Tag.Program ≡ true → LacksBelow Tag.Program k × Exports k) → Seen (Tag.Program ∷ []) t
       → (((j : ℕ) → Apart (roleOf u t (isUsing (hd t a b c)) (bodyOf k) j)) → Same (itemsOf (below u (hd t a b c) k)) (total (programLines k)))
       → Same (itemsOf (recordTally u (hd t a b c) k)) (total (programOwn t k) ⊕ total (programLines k))
   unfolding total
@@ -235,7 +237,7 @@ module _ (asRead : List Symbol) where
   items-are (more h k r) ups i s a =
       omega (
         arith,
-        record-items (a i) (h .a) (h .b) (h .c) k (s .1) (seen (1 ∷ []) (h .tag))
+        record-items (a i) (h .a) (h .b) (h .c) k (s .1) (seen (Tag.Program ∷ []) (h .tag))
             (items-are k (roleOf (ups i) (h .tag) (isUsing h) (bodyOf k)) 0 (s .2)),
         items-are r ups (suc i) (s .3) a,
         total-three (programOwn (h .tag) k) (programLines k) (programLines r),

@@ -8,6 +8,8 @@ use native.Mathlib.Omega.{arith}
 use native.Mathlib.Nat.{zero-add, suc-add}
 use lib.Dec.{eqb, eqb·suc-zero}
 use borrow.Author.Tests.{eqb-true}
+use Rattle.meaning.specs.Numbers.Tag
+use Rattle.meaning.specs.Numbers.Kind
 use Rattle.meaning.specs.Tree.{if_then_else_, oneOf, Head, Forest, none, more}
 use Rattle.meaning.specs.File.{Symbol}
 use Rattle.meaning.specs.Statements.{isUsing, anyUsing}
@@ -50,8 +52,8 @@ module _ (asRead : List Symbol) where
   unfolding tallyOf own anyCaseUsing
   case-usings-are none ups i = refl
   case-usings-are (more h k r) ups i =
-      any-sum (if eqb (h .tag) 10 then _ else 0) _ (eqb (h .tag) 10 && anyUsing k) (anyCaseUsing r)
-      (any-if (eqb (h .tag) 10) (anyUsing k) _ (usings-are k (roleOf (ups i) (h .tag) (isUsing h) (bodyOf k)) 0))
+      any-sum (if eqb (h .tag) Tag.Case then _ else 0) _ (eqb (h .tag) Tag.Case && anyUsing k) (anyCaseUsing r)
+      (any-if (eqb (h .tag) Tag.Case) (anyUsing k) _ (usings-are k (roleOf (ups i) (h .tag) (isUsing h) (bodyOf k)) 0))
       (case-usings-are r ups (suc i))
 
 -- ---- wrapped initializers
@@ -60,30 +62,30 @@ twice-and : (b c : Bool) → (b && (b && c)) ≡ (b && c)
 twice-and true c = refl
 twice-and false c = refl
 
-using-tag : (h : Head) → (eqb (h .tag) 5 && isUsing h) ≡ isUsing h
+using-tag : (h : Head) → (eqb (h .tag) Tag.Declaration && isUsing h) ≡ isUsing h
 unfolding isUsing
-using-tag h = twice-and (eqb (h .tag) 5) (oneOf (3 ∷ 4 ∷ []) (h .a) || oneOf (3 ∷ 4 ∷ []) (h .b))
+using-tag h = twice-and (eqb (h .tag) Tag.Declaration) (oneOf (Kind.Using ∷ Kind.AwaitUsing ∷ []) (h .a) || oneOf (3 ∷ 4 ∷ []) (h .b))
 
 module _ (asRead : List Symbol) where
   -- a list of Declarators: of a using, and of another Declaration
-  held-wraps : (f : Forest) (i : ℕ) → Lacks 5 f → (tallyOf asRead (λ _. Held) i f) .wraps ≡ initializers f
+  held-wraps : (f : Forest) (i : ℕ) → Lacks Tag.Declaration f → (tallyOf asRead (λ _. Held) i f) .wraps ≡ initializers f
   unfolding tallyOf own initializers roleIndex
   held-wraps none i l = refl
   held-wraps (more h k r) i l = rw (l .0) (omega (arith, held-wraps r (suc i) (l .1)))
 
-  no-wraps : (f : Forest) (i : ℕ) → Lacks 5 f → (tallyOf asRead (λ _. Plain) i f) .wraps ≡ 0
+  no-wraps : (f : Forest) (i : ℕ) → Lacks Tag.Declaration f → (tallyOf asRead (λ _. Plain) i f) .wraps ≡ 0
   unfolding tallyOf own roleIndex
   no-wraps none i l = refl
   no-wraps (more h k r) i l = rw (l .0) (omega (arith, no-wraps r (suc i) (l .1)))
 
-  wraps-in : (c : Bool) (f : Forest) → Lacks 5 f
+  wraps-in : (c : Bool) (f : Forest) → Lacks Tag.Declaration f
       → (tallyOf asRead (λ _. if c then Held else Plain) 0 f) .wraps ≡ (if c then initializers f else 0)
   wraps-in true f l = held-wraps f 0 l
   wraps-in false f l = no-wraps f 0 l
 
   -- below a Declaration that is not exported, and below a Case
-  declaration-wraps : (b : Bool) (u : Role) (t : ℕ) (held : Bool) (body : Role) (k : Forest) → eqb t 5 ≡ b → isRole u Exported ≡ false
-      → (b ≡ true → Lacks 5 k)
+  declaration-wraps : (b : Bool) (u : Role) (t : ℕ) (held : Bool) (body : Role) (k : Forest) → eqb t Tag.Declaration ≡ b → isRole u Exported ≡ false
+      → (b ≡ true → Lacks Tag.Declaration k)
       → (if b then (tallyOf asRead (roleOf u t held body) 0 k) .wraps else 0) ≡ (if b && held then initializers k else 0)
   unfolding roleOf
   declaration-wraps true u t held body k e x l =
@@ -98,10 +100,10 @@ module _ (asRead : List Symbol) where
   unfolding tallyOf own wraps
   wraps-are u e x none i s = refl
   wraps-are u e x (more h k r) i s =
-      let d = declaration-wraps (eqb (h .tag) 5) u (h .tag) (isUsing h) (bodyOf k) k refl x (s .0) in
+      let d = declaration-wraps (eqb (h .tag) Tag.Declaration) u (h .tag) (isUsing h) (bodyOf k) k refl x (s .0) in
       rw e (omega (arith, rw (using-tag h) at d, wraps-are u e x r (suc i) (s .3)))
 
-  case-wraps : (b : Bool) (u : Role) (t : ℕ) (held : Bool) (body : Role) (k : Forest) → eqb t 10 ≡ b → Regular k
+  case-wraps : (b : Bool) (u : Role) (t : ℕ) (held : Bool) (body : Role) (k : Forest) → eqb t Tag.Case ≡ b → Regular k
       → (if b then (tallyOf asRead (roleOf u t held body) 0 k) .wraps else 0) ≡ (if b then wraps k else 0)
   unfolding roleOf roleIndex
   case-wraps true u t held body k e s = rw (eqb-true t 10 e) (wraps-are Plain refl refl k 0 s)
@@ -113,13 +115,13 @@ module _ (asRead : List Symbol) where
   case-wraps-are (more h k r) ups i s =
       omega (
         arith,
-        case-wraps (eqb (h .tag) 10) (ups i) (h .tag) (isUsing h) (bodyOf k) k refl (s .2),
+        case-wraps (eqb (h .tag) Tag.Case) (ups i) (h .tag) (isUsing h) (bodyOf k) k refl (s .2),
         case-wraps-are r ups (suc i) (s .3),
       )
 
   -- below the records that get a context for their list
-  list-wraps : (u : Role) {t : ℕ} (held : Bool) (body : Role) (k : Forest) → Regular k → Seen (1 ∷ 2 ∷ 7 ∷ 14 ∷ 16 ∷ []) t
-      → oneOf (1 ∷ 2 ∷ 7 ∷ 14 ∷ 16 ∷ []) t ≡ true → (tallyOf asRead (roleOf u t held body) 0 k) .wraps ≡ wraps k
+  list-wraps : (u : Role) {t : ℕ} (held : Bool) (body : Role) (k : Forest) → Regular k → Seen (Tag.Program ∷ Tag.Block ∷ Tag.For ∷ Tag.Body ∷ Tag.StaticBlock ∷ []) t
+      → oneOf (Tag.Program ∷ Tag.Block ∷ Tag.For ∷ Tag.Body ∷ Tag.StaticBlock ∷ []) t ≡ true → (tallyOf asRead (roleOf u t held body) 0 k) .wraps ≡ wraps k
   unfolding roleOf roleIndex
   list-wraps u held body k s here e = wraps-are Item refl refl k 0 s
   list-wraps u held body k s (there e₁ here) e = wraps-are Plain refl refl k 0 s
@@ -134,7 +136,7 @@ module _ (asRead : List Symbol) where
 -- the facts of a list of children, as its tally has them
 pub record Lists (t : ℕ) (k : Forest) (kids : Tally) : Type 0 where
   pub usings : eqb (kids .usings) 0 ≡ not (anyUsing k)
-  pub wraps : oneOf (1 ∷ 2 ∷ 7 ∷ 14 ∷ 16 ∷ []) t ≡ true → kids .wraps ≡ wraps k
+  pub wraps : oneOf (Tag.Program ∷ Tag.Block ∷ Tag.For ∷ Tag.Body ∷ Tag.StaticBlock ∷ []) t ≡ true → kids .wraps ≡ wraps k
   pub caseUsings : eqb (kids .«case_usings») 0 ≡ not (anyCaseUsing k)
   pub caseWraps : kids .«case_wraps» ≡ caseWraps k
 
@@ -143,7 +145,7 @@ module _ (asRead : List Symbol) where
   lists u t held k s =
       record {
         usings = usings-are asRead k (roleOf u t held (bodyOf k)) 0;
-        wraps = list-wraps asRead u held (bodyOf k) k s (seen (1 ∷ 2 ∷ 7 ∷ 14 ∷ 16 ∷ []) t);
+        wraps = list-wraps asRead u held (bodyOf k) k s (seen (Tag.Program ∷ Tag.Block ∷ Tag.For ∷ Tag.Body ∷ Tag.StaticBlock ∷ []) t);
         caseUsings = case-usings-are asRead k (roleOf u t held (bodyOf k)) 0;
         caseWraps = case-wraps-are asRead k (roleOf u t held (bodyOf k)) 0 s;
       }

@@ -6,6 +6,7 @@ use mathlib.Core.List.{[], _∷_}
 use Prim.Native.Nat.{ℕ}
 use lib.Dec.{eqb}
 use Rattle.spec_laws.specs.Tags.{Seen, other, here, there, clash}
+use Rattle.meaning.specs.Numbers.Tag
 use Rattle.meaning.specs.Tree.{if_then_else_, oneOf, Forest, none, more}
 use Rattle.meaning.specs.Statements.{isUsing}
 use Rattle.meaning.specs.ForOf.{bindsIdentifier, boundSymbol}
@@ -28,7 +29,7 @@ LacksBelow t (more h k r) = (eqb (h .tag) t ≡ false) × LacksBelow t k × Lack
 abbrev pub Regular : Forest → Type 0
 Regular none = Unit {0}
 Regular (more h k r) =
-    (eqb (h .tag) 5 ≡ true → Lacks 5 k) × (eqb (h .tag) 1 ≡ true → LacksBelow 1 k × Exports k) × Regular k × Regular r
+    (eqb (h .tag) Tag.Declaration ≡ true → Lacks Tag.Declaration k) × (eqb (h .tag) Tag.Program ≡ true → LacksBelow Tag.Program k × Exports k) × Regular k × Regular r
 
 -- ---- what holds of every role that a record's children can have
 
@@ -37,21 +38,21 @@ if-all P true p q = p refl
 if-all P false p q = q
 
 pub roleOf-all : (P : Role → Type 0) (u : Role) (t : ℕ) (held : Bool) (body : Role) (i : ℕ) → P Plain → P Held
-    → (oneOf (11 ∷ 12 ∷ []) t ≡ true → P Part) → (eqb t 1 ≡ true → P Item) → (eqb t 8 ≡ true → P body)
-    → (eqb t 5 ≡ true → isRole u Exported ≡ true → P ExportedDeclarator)
-    → (eqb t 6 ≡ true → isRole u ExportedDeclarator ≡ true → P ExportedName)
-    → (eqb t 18 ≡ true → isRole u Item ≡ true → P Default)
-    → (eqb t 19 ≡ true → isRole u Item ≡ true → P Exported)
+    → (oneOf (Tag.Try ∷ Tag.Catch ∷ []) t ≡ true → P Part) → (eqb t Tag.Program ≡ true → P Item) → (eqb t Tag.ForOf ≡ true → P body)
+    → (eqb t Tag.Declaration ≡ true → isRole u Exported ≡ true → P ExportedDeclarator)
+    → (eqb t Tag.Declarator ≡ true → isRole u ExportedDeclarator ≡ true → P ExportedName)
+    → (eqb t Tag.DefaultExport ≡ true → isRole u Item ≡ true → P Default)
+    → (eqb t Tag.ExportedDeclaration ≡ true → isRole u Item ≡ true → P Exported)
     → P (roleOf u t held body i)
 unfolding roleOf
 roleOf-all P u t held body i plain kept part item inner declarator name default exported =
-    if-all P (eqb t 1) item
-    (if-all P (eqb t 5) (λ e. if-all P (isRole u Exported) (declarator e) (if-all P held (λ _. kept) plain))
-    (if-all P (eqb t 6) (λ e. if-all P (isRole u ExportedDeclarator) (name e) plain)
-    (if-all P (eqb t 8) (λ e. if-all P (eqb i 2) (λ _. inner e) plain)
-    (if-all P (oneOf (11 ∷ 12 ∷ []) t) part
-    (if-all P (eqb t 18) (λ e. if-all P (isRole u Item) (default e) plain)
-    (if-all P (eqb t 19) (λ e. if-all P (isRole u Item) (exported e) plain) plain))))))
+    if-all P (eqb t Tag.Program) item
+    (if-all P (eqb t Tag.Declaration) (λ e. if-all P (isRole u Exported) (declarator e) (if-all P held (λ _. kept) plain))
+    (if-all P (eqb t Tag.Declarator) (λ e. if-all P (isRole u ExportedDeclarator) (name e) plain)
+    (if-all P (eqb t Tag.ForOf) (λ e. if-all P (eqb i 2) (λ _. inner e) plain)
+    (if-all P (oneOf (Tag.Try ∷ Tag.Catch ∷ []) t) part
+    (if-all P (eqb t Tag.DefaultExport) (λ e. if-all P (isRole u Item) (default e) plain)
+    (if-all P (eqb t Tag.ExportedDeclaration) (λ e. if-all P (isRole u Item) (exported e) plain) plain))))))
 
 pub bodyOf-all : (P : Role → Type 0) → P Plain → ((y : ℕ) → P (Body y)) → (k : Forest) → P (bodyOf k)
 unfolding bodyOf
@@ -60,7 +61,7 @@ bodyOf-all P plain body (more h k r) = if-all P (isUsing h && bindsIdentifier k)
 
 -- ---- bodies, and parts
 
-pub no-body : (u : Role) (t : ℕ) (held : Bool) (body : Role) (i : ℕ) → eqb t 8 ≡ false → isBody (roleOf u t held body i) ≡ false
+pub no-body : (u : Role) (t : ℕ) (held : Bool) (body : Role) (i : ℕ) → eqb t Tag.ForOf ≡ false → isBody (roleOf u t held body i) ≡ false
 unfolding roleIndex
 no-body u t held body i e =
     roleOf-all (λ (x : Role). isBody x ≡ false) u t held body i refl refl (λ _. refl) (λ _. refl) (λ d. absurd (clash e d)) (λ _ _. refl)
@@ -69,13 +70,13 @@ no-body u t held body i e =
 abbrev NotPart : Role → Type 0
 NotPart x = isRole x Part ≡ false
 
-pub part-below : (u : Role) (t : ℕ) (held : Bool) (k : Forest) (i : ℕ) → Seen (11 ∷ 12 ∷ []) t
-    → isRole (roleOf u t held (bodyOf k) i) Part ≡ oneOf (11 ∷ 12 ∷ []) t
+pub part-below : (u : Role) (t : ℕ) (held : Bool) (k : Forest) (i : ℕ) → Seen (Tag.Try ∷ Tag.Catch ∷ []) t
+    → isRole (roleOf u t held (bodyOf k) i) Part ≡ oneOf (Tag.Try ∷ Tag.Catch ∷ []) t
 unfolding roleOf roleIndex
 part-below u t held k i here = refl
 part-below u t held k i (there e₁₁ here) = refl
 part-below u t held k i (there e₁₁ (there e₁₂ other)) =
-    let e : oneOf (11 ∷ 12 ∷ []) t ≡ false = rw (e₁₁, e₁₂) in
+    let e : oneOf (Tag.Try ∷ Tag.Catch ∷ []) t ≡ false = rw (e₁₁, e₁₂) in
     roleOf-all NotPart u t held (bodyOf k) i refl refl (λ d. absurd (clash e d)) (λ _. refl)
     (λ _. bodyOf-all NotPart refl (λ y. refl) k) (λ _ _. refl) (λ _ _. refl) (λ _ _. refl) (λ _ _. refl)
     ∙ sym e

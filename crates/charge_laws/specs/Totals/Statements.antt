@@ -7,13 +7,14 @@ use Prim.Native.Nat.{ℕ, suc, _+_, _≤_}
 use native.Mathlib.Omega.{arith}
 use lib.Dec.{eqb}
 use borrow.Author.Tests.{eqb-true, ne-eqb}
+use Rattle.meaning.specs.Numbers.Tag
 use Rattle.meaning.specs.Tree.{if_then_else_, oneOf, Head, hd, Forest, none, more, count, size}
 use Rattle.meaning.specs.File.{Symbol, fieldBytes}
 use Rattle.meaning.specs.Statements.{isUsing, anyUsing}
 use Rattle.meaning.specs.Contexts.{anyCaseUsing}
 use Rattle.meaning.specs.ForOf.{bindsIdentifier, boundSymbol, bindsName, asIs, insert, wrap, forOfAct}
 use Rattle.meaning.specs.Charges.{
-  Kind,
+  ContextKind,
   ofBlock,
   ofBody,
   ofStaticBlock,
@@ -106,9 +107,9 @@ module _ (asRead : List Symbol) where
 
   third-lines : (b : Bool) (y : ℕ) (h : Head) (any : Bool) (k : Forest) → bodyLines k ≡ (if any then [] else context ofBlock ∷ [])
       → bodyOwn (isBody (if b then Body y else Plain)) (insertsIn asRead (if b then Body y else Plain) h) any
-      ≡ forOfLines (if b then (if eqb (h .tag) 2 && not (bindsName asRead (h .a) y) then insert else wrap) else asIs) k
+      ≡ forOfLines (if b then (if eqb (h .tag) Tag.Block && not (bindsName asRead (h .a) y) then insert else wrap) else asIs) k
   unfolding roleIndex insertsIn bodyOwn forOfLines
-  third-lines true y h any k e = body-lines (eqb (h .tag) 2 && not (bindsName asRead (h .a) y)) any k e
+  third-lines true y h any k e = body-lines (eqb (h .tag) Tag.Block && not (bindsName asRead (h .a) y)) any k e
   third-lines false y h any k e = refl
 
   for-of-lines : (u : Role) (held : Bool) (k : Forest) → bodiesIn (roleOf u 8 held (bodyOf k)) 0 k ≡ forOfLines (forOfAct asRead k) k
@@ -123,7 +124,7 @@ module _ (asRead : List Symbol) where
       (third-lines b (boundSymbol k₁) h₃ (anyUsing k₃) (more h₁ k₁ (more h₂ k₂ (more h₃ k₃ r))) refl)
 
   -- below any record
-  below-lines : (b : Bool) (u : Role) (t : ℕ) (held : Bool) (k : Forest) → eqb t 8 ≡ b
+  below-lines : (b : Bool) (u : Role) (t : ℕ) (held : Bool) (k : Forest) → eqb t Tag.ForOf ≡ b
       → bodiesIn (roleOf u t held (bodyOf k)) 0 k ≡ (if b then forOfLines (forOfAct asRead k) k else [])
   below-lines true u t held k e = rw (eqb-true t 8 e) (for-of-lines u held k)
   below-lines false u t held k e = no-bodies k (roleOf u t held (bodyOf k)) 0 (λ j l. no-body u t held (bodyOf k) j e)
@@ -136,7 +137,7 @@ listFigures u t kids =
     let takes = takesUp t (kids .usings) in
     let cases = takesUpCases t (kids .«case_usings») in
     contextFigures (oneIf (takes && isBlock u t)) (oneIf (takes && not (isBlock u t)) + oneIf cases)
-    ((if takes then kids .wraps else 0) + (if cases then kids .«case_wraps» else 0)) (oneIf (takes && eqb t 1))
+    ((if takes then kids .wraps else 0) + (if cases then kids .«case_wraps» else 0)) (oneIf (takes && eqb t Tag.Program))
 
 abbrev bodyFigures : Role → Bool → Tally → Figures
 bodyFigures u inserts kids =
@@ -144,7 +145,7 @@ bodyFigures u inserts kids =
     ⊕ forOfFigures (oneIf (isBody u && inserts)) (oneIf (isBody u && not inserts))
 
 -- `any`: a list has a using; `block`: its context is a Block statement's
-context-lines : (any block : Bool) (kind : Kind) (w : ℕ) → Same (contextCharge kind) (contextFigures (oneIf block) (oneIf (not block)) 0 0)
+context-lines : (any block : Bool) (kind : ContextKind) (w : ℕ) → Same (contextCharge kind) (contextFigures (oneIf block) (oneIf (not block)) 0 0)
     → Same
     (contextFigures (oneIf (not (not any) && block)) (oneIf (not (not any) && not block) + 0) ((if not (not any) then w else 0) + 0)
     (oneIf (not (not any) && false))
@@ -178,8 +179,8 @@ switch-lines true w = omega arith
 switch-lines false w = omega arith
 
 module _ (asRead : List Symbol) (u : Role) (up a b c : ℕ) (k : Forest) (kids : Tally) (p : isRole u Part ≡ oneOf (11 ∷ 12 ∷ []) up) where
-  own-lines : {t : ℕ} → Seen (1 ∷ 2 ∷ 7 ∷ 8 ∷ 9 ∷ 14 ∷ 16 ∷ []) t → Lists t k kids
-      → Same (listFigures u t kids ⊕ (total (programOwn t k) ⊕ total (if eqb t 8 then forOfLines (forOfAct asRead k) k else [])))
+  own-lines : {t : ℕ} → Seen (Tag.Program ∷ Tag.Block ∷ Tag.For ∷ Tag.ForOf ∷ Tag.Switch ∷ Tag.Body ∷ Tag.StaticBlock ∷ []) t → Lists t k kids
+      → Same (listFigures u t kids ⊕ (total (programOwn t k) ⊕ total (if eqb t Tag.ForOf then forOfLines (forOfAct asRead k) k else [])))
       (total (ownLines asRead up (hd t a b c) k))
   unfolding programOwn ownLines takesUp takesUpCases isBlock contextLines contextCharge total
   own-lines here l = rw (l .usings, l .wraps refl) (program-lines (anyUsing k) (wraps k) (itemLines k))
@@ -214,7 +215,7 @@ body-figures u inserts k kids e = rw e (bodyOwn-figures (isBody u) inserts (anyU
 module _ (asRead : List Symbol) where
   -- a record with what stands below it
   record-figures : (u : Role) (up : ℕ) (h : Head) (k : Forest) (kids : Tally) (bodies : List Line) → isRole u Part ≡ oneOf (11 ∷ 12 ∷ []) up
-      → Lists (h .tag) k kids → bodies ≡ (if eqb (h .tag) 8 then forOfLines (forOfAct asRead k) k else [])
+      → Lists (h .tag) k kids → bodies ≡ (if eqb (h .tag) Tag.ForOf then forOfLines (forOfAct asRead k) k else [])
       → Same (statementFigures kids ⊕ total (programLines k)) (figures (size k) 0 0 0 (recordBytes k) ⊕ (total (treeLines asRead (h .tag) k) ⊕ total bodies))
       → Same (statementFigures (own u (insertsIn asRead u h) h (count k) kids) ⊕ (total (programOwn (h .tag) k) ⊕ total (programLines k)))
       (figures (suc (size k)) 0 0 0 (fieldBytes (h .tag) + recordBytes k)
@@ -223,7 +224,7 @@ module _ (asRead : List Symbol) where
       omega (
         arith,
         own-statements u (insertsIn asRead u h) h (count k) kids,
-        rw (← e) at (own-lines asRead u up (h .a) (h .b) (h .c) k kids p (seen (1 ∷ 2 ∷ 7 ∷ 8 ∷ 9 ∷ 14 ∷ 16 ∷ []) (h .tag)) l),
+        rw (← e) at (own-lines asRead u up (h .a) (h .b) (h .c) k kids p (seen (Tag.Program ∷ Tag.Block ∷ Tag.For ∷ Tag.ForOf ∷ Tag.Switch ∷ Tag.Body ∷ Tag.StaticBlock ∷ []) (h .tag)) l),
         body-figures u (insertsIn asRead u h) k kids (l .usings),
       )
 
@@ -240,8 +241,8 @@ module _ (asRead : List Symbol) where
       omega (
         arith,
         record-figures u up h k (tallyOf asRead below 0 k) (bodiesIn asRead below 0 k) (p i) (lists asRead u t (isUsing h) k (s .2))
-            (below-lines asRead (eqb t 8) u t (isUsing h) k refl)
-            (statements-are k below 0 t (s .2) (λ j. part-below u t (isUsing h) k j (seen (11 ∷ 12 ∷ []) t))),
+            (below-lines asRead (eqb t Tag.ForOf) u t (isUsing h) k refl)
+            (statements-are k below 0 t (s .2) (λ j. part-below u t (isUsing h) k j (seen (Tag.Try ∷ Tag.Catch ∷ []) t))),
         statements-are r ups (suc i) up (s .3) p,
         total-three (programOwn t k) (programLines k) (programLines r),
         total-three (ownLines asRead up h k) (treeLines asRead t k) (treeLines asRead up r),

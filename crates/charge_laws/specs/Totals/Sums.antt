@@ -6,6 +6,7 @@ use mathlib.Core.List.{List, [], _++_}
 use Prim.Native.Nat.{ℕ, _+_, _*_}
 use native.Mathlib.Omega.{arith}
 use lib.Dec.{eqb}
+use Rattle.meaning.specs.Numbers.Tag
 use Rattle.meaning.specs.Tree.{if_then_else_, Forest, none, more}
 use Rattle.meaning.specs.Statements.{anyUsing}
 use Rattle.meaning.specs.Charges.{Line, Figures, figures, _⊕_, total, itemLines}
@@ -48,9 +49,9 @@ tally-figures t = omega arith
 
 -- of one record: those of a Program with a using
 unfoldable pub programOwn : ℕ → Forest → List Line
-programOwn t k = if eqb t 1 && anyUsing k then itemLines k else []
+programOwn t k = if eqb t Tag.Program && anyUsing k then itemLines k else []
 
-pub no-program : (t : ℕ) (k : Forest) → eqb t 1 ≡ false → Same (total (programOwn t k)) (figures 0 0 0 0 0)
+pub no-program : (t : ℕ) (k : Forest) → eqb t Tag.Program ≡ false → Same (total (programOwn t k)) (figures 0 0 0 0 0)
 unfolding programOwn total
 no-program t k e = rw e (omega arith)
 

@@ -7,6 +7,7 @@ use mathlib.Core.Logic.{_⊎_, ⊎-elim}
 use Prim.Native.Nat.{ℕ, zero, suc, _+_}
 use native.Mathlib.Omega.{arith}
 use lib.Dec.{eqb}
+use Rattle.meaning.specs.Numbers.Tag
 use Rattle.meaning.specs.Tree.{if_then_else_, oneOf, Head, Forest, none, more, _&_}
 use Rattle.meaning.specs.Statements.{isUsing}
 use Rattle.meaning.specs.ForOf.{bindsIdentifier}
@@ -32,18 +33,18 @@ use Rattle.hint_laws.specs.Balanced.Sums.{worth, balance-more, balance-&
 
 -- their tags, one by one
 record Tagless (t : ℕ) : Type 0 where
-  five : eqb t 5 ≡ false
-  six : eqb t 6 ≡ false
-  name : eqb t 26 ≡ false
-  call : eqb t 27 ≡ false
+  five : eqb t Tag.Declaration ≡ false
+  six : eqb t Tag.Declarator ≡ false
+  name : eqb t Tag.Name ≡ false
+  call : eqb t Tag.Call ≡ false
 
 tagless : (h : Head) → Neutral h → Tagless (h .tag)
 tagless h n =
     let t = h .tag in
-    let n₅ = or-none (eqb t 5) (oneOf (6 ∷ 26 ∷ 27 ∷ []) t) n in
-    let n₆ = or-none (eqb t 6) (oneOf (26 ∷ 27 ∷ []) t) (n₅ .1) in
-    let n₂₆ = or-none (eqb t 26) (oneOf (27 ∷ []) t) (n₆ .1) in
-    record { five = n₅ .0; six = n₆ .0; name = n₂₆ .0; call = or-none (eqb t 27) false (n₂₆ .1) .0 }
+    let n₅ = or-none (eqb t Tag.Declaration) (oneOf (Tag.Declarator ∷ Tag.Name ∷ Tag.Call ∷ []) t) n in
+    let n₆ = or-none (eqb t Tag.Declarator) (oneOf (Tag.Name ∷ Tag.Call ∷ []) t) (n₅ .1) in
+    let n₂₆ = or-none (eqb t Tag.Name) (oneOf (Tag.Call ∷ []) t) (n₆ .1) in
+    record { five = n₅ .0; six = n₆ .0; name = n₂₆ .0; call = or-none (eqb t Tag.Call) false (n₂₆ .1) .0 }
 
 pub neutral-using : (h : Head) → Neutral h → isUsing h ≡ false
 unfolding isUsing
@@ -74,7 +75,7 @@ names-same (suc m) none (more h′ k′ r′) s = absurd s
 names-same (suc m) (more h k r) none s = absurd s
 names-same (suc m) (more h k r) (more h′ k′ r′) s =
     ap₂ (λ (y : ℕ) (ys : List ℕ). y ∷ ys)
-    (alike-value (λ x. eqb (x .tag) 26) (λ x _. x .a) h h′ k k′ (λ x n. tagless x n .name) (λ x _. refl) (s .0))
+    (alike-value (λ x. eqb (x .tag) Tag.Name) (λ x _. x .a) h h′ k k′ (λ x n. tagless x n .name) (λ x _. refl) (s .0))
     (names-same m r r′ (s .1))
 
 -- a value of initializers that neutral ones share
@@ -98,7 +99,7 @@ declarators-same v none (more h′ k′ r′) b s = absurd s
 declarators-same v (more h k r) none b s = absurd s
 declarators-same v (more h k r) (more h′ k′ r′) b s =
     ap₂ _+_
-    (alike-value (λ x. eqb (x .tag) 6) (λ x kids. ofInitializer (v (namesOf (x .b) kids)) (x .b) kids) h h′ k k′ (λ x n. tagless x n .six)
+    (alike-value (λ x. eqb (x .tag) Tag.Declarator) (λ x kids. ofInitializer (v (namesOf (x .b) kids)) (x .b) kids) h h′ k k′ (λ x n. tagless x n .six)
     (λ x e.
     ap (λ (names : List ℕ). ofInitializer (v names) (x .b) k) (names-same (x .b) k k′ e)
     ∙ initializer-same (v (namesOf (x .b) k′)) (x .b) k k′ (b (namesOf (x .b) k′)) e)
@@ -133,7 +134,7 @@ module _ (w : List ℕ → ℕ → ℕ) (read : ℕ) where
   calls-same (more h k r) none s = absurd s
   calls-same (more h k r) (more h′ k′ r′) s =
       ap₂ _+_
-      (alike-value (λ x. eqb (x .tag) 5) (λ x kids. overDeclarators (called w read) kids) h h′ k k′ (λ x n. tagless x n .five)
+      (alike-value (λ x. eqb (x .tag) Tag.Declaration) (λ x kids. overDeclarators (called w read) kids) h h′ k k′ (λ x n. tagless x n .five)
       (λ x e. declarators-same (called w read) k k′ called-blind e)
       (s .0))
       (calls-same r r′ (s .1))
@@ -145,7 +146,7 @@ module _ (w : List ℕ → ℕ → ℕ) (read : ℕ) where
   done-same (more h k r) none s = absurd s
   done-same (more h k r) (more h′ k′ r′) s =
       ap₂ _+_
-      (alike-value (λ x. eqb (x .tag) 5 && not (isUsing x)) (λ x kids. overDeclarators (called w read) kids) h h′ k k′
+      (alike-value (λ x. eqb (x .tag) Tag.Declaration && not (isUsing x)) (λ x kids. overDeclarators (called w read) kids) h h′ k k′
       (λ x n. let e = tagless x n .five in rw e)
       (λ x e. declarators-same (called w read) k k′ called-blind e)
       (s .0))
@@ -156,7 +157,7 @@ module _ (w : List ℕ → ℕ → ℕ) (read : ℕ) where
   -- what the Declarators of its using ask for
   unfoldable pub heldBy : ℕ → Forest → ℕ
   heldBy letter none = 0
-  heldBy letter (more d kids s) = if eqb (d .tag) 6 && eqb (d .a) 0 then w (namesOf 1 kids) letter else 0
+  heldBy letter (more d kids s) = if eqb (d .tag) Tag.Declarator && eqb (d .a) 0 then w (namesOf 1 kids) letter else 0
 
   held-same : (letter : ℕ) (f g : Forest) → Same f g → heldBy letter f ≡ heldBy letter g
   unfolding Same heldBy
@@ -164,7 +165,7 @@ module _ (w : List ℕ → ℕ → ℕ) (read : ℕ) where
   held-same letter none (more h′ k′ r′) s = absurd s
   held-same letter (more h k r) none s = absurd s
   held-same letter (more h k r) (more h′ k′ r′) s =
-      alike-value (λ x. eqb (x .tag) 6 && eqb (x .a) 0) (λ _ kids. w (namesOf 1 kids) letter) h h′ k k′
+      alike-value (λ x. eqb (x .tag) Tag.Declarator && eqb (x .a) 0) (λ _ kids. w (namesOf 1 kids) letter) h h′ k k′
       (λ x n. let e = tagless x n .six in rw e)
       (λ x e. ap (λ (names : List ℕ). w names letter) (names-same 1 k k′ e))
       (s .0)
@@ -182,7 +183,7 @@ module _ (w : List ℕ → ℕ → ℕ) (read : ℕ) where
       no-value : (b : Bool) → _≡_ {A = ℕ} 0 (if b then 0 else 0)
       no-value true = refl
       no-value false = refl
-  of-three h₁ (more d kids s) h₂ k₂ h₃ k₃ r = and-if (isUsing h₁) (eqb (d .tag) 6 && eqb (d .a) 0) (w (namesOf 1 kids) (letterFor h₁))
+  of-three h₁ (more d kids s) h₂ k₂ h₃ k₃ r = and-if (isUsing h₁) (eqb (d .tag) Tag.Declarator && eqb (d .a) 0) (w (namesOf 1 kids) (letterFor h₁))
 
   for-of-same : (f g : Forest) → Same f g → forOfUsing w f ≡ forOfUsing w g
   unfolding Same forOfUsing

@@ -4,13 +4,14 @@ use mathlib.Core.List.{List}
 use mathlib.Core.Bool.{not, _&&_}
 use Prim.Native.Nat.{ℕ, _+_}
 use lib.Dec.{eqb}
+use Rattle.meaning.specs.Numbers.Tag
 use Rattle.meaning.specs.Tree.{if_then_else_, Head, Forest, none, more}
 use Rattle.meaning.specs.Statements.{isUsing, isAwaitUsing, letterIf}
 use Rattle.hint_laws.specs.Hints.{sumOver, overDeclarators, letterFor, takesUp, ofRead, asksFor, called, calls}
 
 -- The letter with which a using in a list will be called, by the tag of the list's record: Program's are recorded with their kinds.
 unfoldable pub letterIn : ℕ → Head → ℕ
-letterIn t h = if eqb t 1 then letterFor h else letterIf (isAwaitUsing h)
+letterIn t h = if eqb t Tag.Program then letterFor h else letterIf (isAwaitUsing h)
 
 module _ (w : List ℕ → ℕ → ℕ) where
   -- what a record still asks for
@@ -21,7 +22,7 @@ module _ (w : List ℕ → ℕ → ℕ) where
   unfoldable pub doneIn : ℕ → Forest → ℕ
   doneIn read none = 0
   doneIn read (more h k r) =
-      (if eqb (h .tag) 5 && not (isUsing h) then overDeclarators (called w read) k else 0) + doneIn read r
+      (if eqb (h .tag) Tag.Declaration && not (isUsing h) then overDeclarators (called w read) k else 0) + doneIn read r
 
   -- what a record gives; a using that will be taken up gives nothing yet
   unfoldable pub gives : ℕ → Head → Forest → ℕ

@@ -6,6 +6,8 @@ use mathlib.Core.List.{List}
 use Prim.Native.Nat.{ℕ, _≤_, _<_}
 use native.Mathlib.Omega.{arith}
 use lib.ListN.{length}
+use Rattle.meaning.specs.Numbers.Tag
+use Rattle.meaning.specs.Numbers.Kind
 use Rattle.meaning.specs.Tree.{Head, hd, Forest, none, one, Node, single, _&_}
 use Rattle.meaning.specs.Scoping.{
   Store,
@@ -43,7 +45,7 @@ module _ (w : List ℕ → ℕ → ℕ) (read : ℕ) where
   -- a list that is taken up by a new context, in its Try
   pub taken-try : (scope : ℕ) (list : Forest) (made cur parent : ℕ) (needsAwait : Bool) (st st₁ st₂ : Store) → read ≤ length (st .symbols)
       → let ctx = (makeContext made st) .0 in
-      let declared = declaration 0 ctx ((helperLoad cur st₁) .0) in
+      let declared = declaration Kind.Var ctx ((helperLoad cur st₁) .0) in
       balanceOf w read (single ((createTryStmt scope (declared & takeUp false ctx false list) ctx parent needsAwait st₂) .0)) ≡ listed w read list
   taken-try scope list made cur parent needsAwait st st₁ st₂ new =
       let ctx = (makeContext made st) .0 in
@@ -52,21 +54,21 @@ module _ (w : List ℕ → ℕ → ℕ) (read : ℕ) where
 
   -- ---- Block, function body, StaticBlock
 
-  pub list-counts : (a b c : ℕ) (k : Forest) → balanceOf w read (one (hd 2 a b c) k) ≡ listed w read k
+  pub list-counts : (a b c : ℕ) (k : Forest) → balanceOf w read (one (hd Tag.Block a b c) k) ≡ listed w read k
   unfolding balanceOf sumOver waits gives asksFor letterIn ownLetter
   list-counts a b c k = omega arith
 
-  body-counts : (a b c : ℕ) (k : Forest) → balanceOf w read (one (hd 14 a b c) k) ≡ listed w read k
+  body-counts : (a b c : ℕ) (k : Forest) → balanceOf w read (one (hd Tag.Body a b c) k) ≡ listed w read k
   unfolding balanceOf sumOver waits gives asksFor letterIn ownLetter
   body-counts a b c k = omega arith
 
-  static-counts : (h : Head) (k : Forest) → h .tag ≡ 16 → balanceOf w read (one h k) ≡ listed w read k
+  static-counts : (h : Head) (k : Forest) → h .tag ≡ Tag.StaticBlock → balanceOf w read (one h k) ≡ listed w read k
   unfolding worth waits gives asksFor letterIn ownLetter
   static-counts h k e =
       omega (arith, balance-more w read h k none, balance-none w read, ap (λ (t : ℕ). worth w read t k) e)
 
   pub block-keeps : (cur hoist a b c : ℕ) (k : Forest) (st : Store) → read ≤ length (st .symbols)
-      → Keeps (hd 2 a b c) k (transformBlockStatement cur hoist (hd 2 a b c) k st)
+      → Keeps (hd Tag.Block a b c) k (transformBlockStatement cur hoist (hd Tag.Block a b c) k st)
   unfolding transformBlockStatement transformStatements
   block-keeps cur hoist a b d k st new =
       let c = makeContext hoist st in
@@ -79,7 +81,7 @@ module _ (w : List ℕ → ℕ → ℕ) (read : ℕ) where
   below-list t k n e z a b c = omega (arith, balance-more w read (hd t a b c) k none, balance-none w read)
 
   pub body-keeps : (cur hoist a b c : ℕ) (k : Forest) (st : Store) → read ≤ length (st .symbols)
-      → Keeps (hd 14 a b c) k (enterFunctionBody cur hoist k st)
+      → Keeps (hd Tag.Body a b c) k (enterFunctionBody cur hoist k st)
   unfolding enterFunctionBody transformStatements createTryStmt worth waits gives asksFor usingsIn doneIn isUsing
   body-keeps cur hoist a b d k st new =
       let c = makeContext hoist st in
@@ -89,7 +91,7 @@ module _ (w : List ℕ → ℕ → ℕ) (read : ℕ) where
       below-list 14 _ _ (taken-try (s .0) k hoist cur cur (anyAwaitUsing k) st (c .1) (m .1) new) refl 0 0 0
       ∙ sym (body-counts a b d k)
 
-  pub static-keeps : (h : Head) (k : Forest) (st : Store) → read ≤ length (st .symbols) → h .tag ≡ 16 → Keeps h k (exitStaticBlock h k st)
+  pub static-keeps : (h : Head) (k : Forest) (st : Store) → read ≤ length (st .symbols) → h .tag ≡ Tag.StaticBlock → Keeps h k (exitStaticBlock h k st)
   unfolding exitStaticBlock transformStatements createTryStmt worth waits gives asksFor usingsIn doneIn isUsing
   static-keeps h k st new e =
       let c = makeContext (h .a) st in

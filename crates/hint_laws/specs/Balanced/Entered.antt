@@ -7,6 +7,7 @@ use Prim.Native.Nat.{ℕ, _≤_, _<_}
 use lib.ListN.{length}
 use lib.Dec.{eqb}
 use borrow.Author.Tests.{eqb-true, eq-eqb}
+use Rattle.meaning.specs.Numbers.Tag
 use Rattle.meaning.specs.Tree.{if_then_else_, oneOf, Head, hd, Forest, more, Node, node}
 use Rattle.meaning.specs.Scoping.{Store, return}
 use Rattle.meaning.specs.Statements.{anyUsing, createTryStmt}
@@ -40,16 +41,16 @@ module _ (w : List ℕ → ℕ → ℕ) (read : ℕ) where
 
   -- ---- leaving a StaticBlock
 
-  left-if : (b : Bool) (h : Head) (k : Forest) (st : Store) → read ≤ length (st .symbols) → h .tag ≡ 16
+  left-if : (b : Bool) (h : Head) (k : Forest) (st : Store) → read ≤ length (st .symbols) → h .tag ≡ Tag.StaticBlock
       → Opens h k ((if b then exitStaticBlock h k else return (node h k)) st)
   unfolding exitStaticBlock
   left-if true h k st new e =
-      changed h k (exitStaticBlock h k st) (ap (λ (t : ℕ). oneOf (5 ∷ 6 ∷ 26 ∷ 27 ∷ []) t) e) refl (static-keeps w read h k st new e)
+      changed h k (exitStaticBlock h k st) (ap (λ (t : ℕ). oneOf (Tag.Declaration ∷ Tag.Declarator ∷ Tag.Name ∷ Tag.Call ∷ []) t) e) refl (static-keeps w read h k st new e)
   left-if false h k st new e = (refl, (λ r. same-refl (more h k r)))
 
   pub leave-keeps : (h : Head) (k : Forest) (st : Store) → read ≤ length (st .symbols) → isStaticBlock h ≡ true → Opens h k (leave h k st)
   unfolding leave
-  leave-keeps h k st new e = left-if (anyUsing k) h k st new (eqb-true (h .tag) 16 e)
+  leave-keeps h k st new e = left-if (anyUsing k) h k st new (eqb-true (h .tag) Tag.StaticBlock e)
 
   -- ---- entering
 
@@ -66,27 +67,27 @@ module _ (w : List ℕ → ℕ → ℕ) (read : ℕ) where
     unfolding enterAs enterProgram transformBlockStatement transformForStatement transformSwitchStatement enterTryStatement enterFunctionBody enterForOfStatement createTryStmt
     act-keeps {h = h} {k = k} st new p (kept i) = (refl, (λ r. same-refl (more h k r)))
     act-keeps {h = h} {k = k} st new p (as-program e u) =
-        let i = p .items (eq-eqb (h .tag) 1 e) u in
-        at-change 1 (λ g. enterProgram g k st) h k e refl refl (program-keeps w read old (h .a) (h .b) (h .c) k st new (i .0) (i .1))
+        let i = p .items (eq-eqb (h .tag) Tag.Program e) u in
+        at-change Tag.Program (λ g. enterProgram g k st) h k e refl refl (program-keeps w read old (h .a) (h .b) (h .c) k st new (i .0) (i .1))
     act-keeps {h = h} {k = k} st new p (as-block e u) =
-        at-change 2 (λ g. transformBlockStatement cur hoist g k st) h k e refl refl
+        at-change Tag.Block (λ g. transformBlockStatement cur hoist g k st) h k e refl refl
         (block-keeps w read cur hoist (h .a) (h .b) (h .c) k st new)
     act-keeps {h = h} {k = k} st new p (as-body e u) =
-        at-change 14 (λ _. enterFunctionBody cur hoist k st) h k e refl refl (body-keeps w read cur hoist (h .a) (h .b) (h .c) k st new)
+        at-change Tag.Body (λ _. enterFunctionBody cur hoist k st) h k e refl refl (body-keeps w read cur hoist (h .a) (h .b) (h .c) k st new)
     act-keeps {h = h} {k = k} st new p (as-try e u) =
-        at-change 11 (λ g. enterTryStatement cur hoist g k st) h k e refl refl (try-keeps w read cur hoist (h .a) (h .b) (h .c) k st new)
+        at-change Tag.Try (λ g. enterTryStatement cur hoist g k st) h k e refl refl (try-keeps w read cur hoist (h .a) (h .b) (h .c) k st new)
     act-keeps {h = h} {k = k} st new p (as-for e u) =
         changed h k (transformForStatement cur hoist h k st) (at-loop Neutral h e refl refl) refl
-        (for-keeps w read cur hoist h k st new (at-loop (λ g. eqb (g .tag) 5 ≡ false) h e refl refl) u)
+        (for-keeps w read cur hoist h k st new (at-loop (λ g. eqb (g .tag) Tag.Declaration ≡ false) h e refl refl) u)
     act-keeps {h = h} {k = k} st new p (as-switch e u) =
-        at-change 9 (λ g. transformSwitchStatement cur g k st) h k e refl refl (switch-keeps w read cur (h .a) (h .b) (h .c) k st)
+        at-change Tag.Switch (λ g. transformSwitchStatement cur g k st) h k e refl refl (switch-keeps w read cur (h .a) (h .b) (h .c) k st)
     act-keeps {h = h} st new p (as-insert {h₁ = h₁} {h₂ = h₂} {h₃ = h₃} {k₁ = k₁} {k₂ = k₂} {k₃ = k₃} {r = r} e b two) =
-        let q = p .side (eq-eqb (h .tag) 8 e) (b .both) in
-        at-change 8 (λ g. enterForOfStatement false g (more h₁ k₁ (more h₂ k₂ (more h₃ k₃ r))) st) h _ e refl refl
+        let q = p .side (eq-eqb (h .tag) Tag.ForOf e) (b .both) in
+        at-change Tag.ForOf (λ g. enterForOfStatement false g (more h₁ k₁ (more h₂ k₂ (more h₃ k₃ r))) st) h _ e refl refl
         (insert-keeps w read (h .a) (h .b) (h .c) h₁ k₁ h₂ k₂ h₃ k₃ r st (b .uses) (b .identifier) (q .0) (q .1) (q .2) two)
     act-keeps {h = h} st new p (as-wrap {h₁ = h₁} {h₂ = h₂} {h₃ = h₃} {k₁ = k₁} {k₂ = k₂} {k₃ = k₃} {r = r} e b) =
-        let q = p .side (eq-eqb (h .tag) 8 e) (b .both) in
-        at-change 8 (λ g. enterForOfStatement true g (more h₁ k₁ (more h₂ k₂ (more h₃ k₃ r))) st) h _ e refl refl
+        let q = p .side (eq-eqb (h .tag) Tag.ForOf e) (b .both) in
+        at-change Tag.ForOf (λ g. enterForOfStatement true g (more h₁ k₁ (more h₂ k₂ (more h₃ k₃ r))) st) h _ e refl refl
         (wrap-keeps w read (h .a) (h .b) (h .c) h₁ k₁ h₂ k₂ h₃ k₃ r st (b .uses) (b .identifier) (q .0) (q .1) (q .2) (q .3))
 
   pub enter-keeps : ((y letter : ℕ) → read < y → w (y ∷ []) letter ≡ 0) → (cur hoist : ℕ) (h : Head) (k : Forest) (st : Store)

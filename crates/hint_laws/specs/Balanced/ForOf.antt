@@ -7,6 +7,8 @@ use Prim.Native.Nat.{ℕ, _+_}
 use native.Mathlib.Omega.{arith}
 use lib.Dec.{eqb}
 use borrow.Author.Tests.{eqb-true}
+use Rattle.meaning.specs.Numbers.Tag
+use Rattle.meaning.specs.Numbers.Kind
 use Rattle.meaning.specs.Tree.{if_then_else_, oneOf, Head, hd, Forest, none, more, one, _&_}
 use Rattle.meaning.specs.Scoping.{Store, symbolIn, createSymbol, insertScopeBelow}
 use Rattle.meaning.specs.Shapes.{declaration}
@@ -49,7 +51,7 @@ module _ (w : List ℕ → ℕ → ℕ) (read : ℕ) where
   held-asks kind (more d (more x k r₁) r) b n s = rw (b, n)
 
   -- the using that goes into the body
-  made-using : {kind : ℕ} (y temp : ℕ) (g : Forest) → Seen (3 ∷ 4 ∷ []) kind → oneOf (3 ∷ 4 ∷ []) kind ≡ true
+  made-using : {kind : ℕ} (y temp : ℕ) (g : Forest) → Seen (Kind.Using ∷ Kind.AwaitUsing ∷ []) kind → oneOf (Kind.Using ∷ Kind.AwaitUsing ∷ []) kind ≡ true
       → listed w read (declaration kind y (Rattle.meaning.specs.Shapes.read temp) & g) ≡ asks y kind + listed w read g
   unfolding balanceOf sumOver waits gives asksFor calls callsIn usingsIn doneIn overDeclarators ofInitializer namesOf isUsing isAwaitUsing ownLetter hintOf letterOf _&_
   made-using y temp g here e = omega arith
@@ -63,9 +65,9 @@ module _ (w : List ℕ → ℕ → ℕ) (read : ℕ) where
   rebind-counts y none b n = (refl, refl)
   rebind-counts y (more d none r) b n = (refl, refl)
   rebind-counts y (more d (more x k r₁) r) b n =
-      let six = eqb-true (d .tag) 6 (and-left (eqb (d .tag) 6) (eqb (d .a) 0) b) in
+      let six = eqb-true (d .tag) Tag.Declarator (and-left (eqb (d .tag) Tag.Declarator) (eqb (d .a) 0) b) in
       let kids = more x k r₁ in
-      let kids′ = more (hd 26 y 0 0) k r₁ in
+      let kids′ = more (hd Tag.Name y 0 0) k r₁ in
       let same : callsIn w read kids′ ≡ callsIn w read kids = rw n in (
         omega (
           arith,
@@ -74,10 +76,10 @@ module _ (w : List ℕ → ℕ → ℕ) (read : ℕ) where
           balance-more w read d kids′ r,
           ap (λ (t : ℕ). worth w read t kids) six,
           ap (λ (t : ℕ). worth w read t kids′) six,
-          worth-plain w read 6 kids refl refl,
-          worth-plain w read 6 kids′ refl refl,
+          worth-plain w read Tag.Declarator kids refl refl,
+          worth-plain w read Tag.Declarator kids′ refl refl,
           balance-more w read x k r₁,
-          balance-more w read (hd 26 y 0 0) k r₁,
+          balance-more w read (hd Tag.Name y 0 0) k r₁,
           ap (λ (t : ℕ). worth w read t k) n,
         ),
         rw six,
@@ -86,9 +88,9 @@ module _ (w : List ℕ → ℕ → ℕ) (read : ℕ) where
   -- ---- the ForOf
 
   module _ (a b c : ℕ) (h₁ : Head) (k₁ : Forest) (h₂ : Head) (k₂ : Forest) (h₃ : Head) (k₃ r : Forest) (st : Store)
-      (u : isUsing h₁ ≡ true) (i : bindsIdentifier k₁ ≡ true) (n : Named k₁) (s : Begins k₁) (kind : oneOf (3 ∷ 4 ∷ []) (h₁ .a) ≡ true) where
+      (u : isUsing h₁ ≡ true) (i : bindsIdentifier k₁ ≡ true) (n : Named k₁) (s : Begins k₁) (kind : oneOf (Kind.Using ∷ Kind.AwaitUsing ∷ []) (h₁ .a) ≡ true) where
     abbrev h : Head
-    h = hd 8 a b c
+    h = hd Tag.ForOf a b c
 
     abbrev sides : Forest
     sides = more h₁ k₁ (more h₂ k₂ (more h₃ k₃ r))
@@ -96,11 +98,11 @@ module _ (w : List ℕ → ℕ → ℕ) (read : ℕ) where
     -- with a body that asks for the using, and a const on the left
     sides-keep : (y : ℕ) (h₃′ : Head) (k₃′ : Forest)
         → balanceOf w read (one h₃′ k₃′) ≡ asks (boundSymbol k₁) (h₁ .a) + balanceOf w read (one h₃ k₃)
-        → balanceOf w read (one h (more (hd 5 2 0 0) (rebind y k₁) (more h₂ k₂ (more h₃′ k₃′ r)))) ≡ balanceOf w read (one h sides)
+        → balanceOf w read (one h (more (hd Tag.Declaration Kind.Const 0 0) (rebind y k₁) (more h₂ k₂ (more h₃′ k₃′ r)))) ≡ balanceOf w read (one h sides)
     unfolding worth waits gives asksFor calls isUsing
     sides-keep y h₃′ k₃′ e =
         let k₁′ = rebind y k₁ in
-        let left = hd 5 2 0 0 in
+        let left = hd Tag.Declaration Kind.Const 0 0 in
         let five = using-tag h₁ u in
         let was : forOfUsing w sides ≡ asks (boundSymbol k₁) (h₁ .a) =
         of-three w read h₁ k₁ h₂ k₂ h₃ k₃ r
@@ -124,7 +126,7 @@ module _ (w : List ℕ → ℕ → ℕ) (read : ℕ) where
           ap (λ (t : ℕ). worth w read t k₁) five,
         )
 
-    pub insert-keeps : h₃ .tag ≡ 2 → Keeps w read h sides (enterForOfStatement false h sides st)
+    pub insert-keeps : h₃ .tag ≡ Tag.Block → Keeps w read h sides (enterForOfStatement false h sides st)
     unfolding enterForOfStatement insertUsing _&_
     insert-keeps e =
         let t = (createSymbol (symbolIn st (boundSymbol k₁) .name) 6 (h .a) 1 st) .0 in
@@ -132,7 +134,7 @@ module _ (w : List ℕ → ℕ → ℕ) (read : ℕ) where
         sides-keep t h₃ list
         (omega (
           arith,
-          made-using (boundSymbol k₁) t k₃ (seen (3 ∷ 4 ∷ []) (h₁ .a)) kind,
+          made-using (boundSymbol k₁) t k₃ (seen (Kind.Using ∷ Kind.AwaitUsing ∷ []) (h₁ .a)) kind,
           balance-more w read h₃ k₃ none,
           balance-more w read h₃ list none,
           ap (λ (x : ℕ). worth w read x k₃) e,
@@ -141,19 +143,19 @@ module _ (w : List ℕ → ℕ → ℕ) (read : ℕ) where
           worth-list w read list,
         ))
 
-    pub wrap-keeps : eqb (h₃ .tag) 5 ≡ false → Keeps w read h sides (enterForOfStatement true h sides st)
+    pub wrap-keeps : eqb (h₃ .tag) Tag.Declaration ≡ false → Keeps w read h sides (enterForOfStatement true h sides st)
     unfolding enterForOfStatement wrapBody _&_
     wrap-keeps e =
         let m = createSymbol (symbolIn st (boundSymbol k₁) .name) 6 (h .a) 1 st in
         let t = m .0 in
         let new = (insertScopeBelow (h .a) (one h₃ k₃) (m .1)) .0 in
         let list = declaration (h₁ .a) (boundSymbol k₁) (Rattle.meaning.specs.Shapes.read t) & one h₃ k₃ in
-        sides-keep t (hd 2 new 0 0) list
+        sides-keep t (hd Tag.Block new 0 0) list
         (omega (
           arith,
-          made-using (boundSymbol k₁) t (one h₃ k₃) (seen (3 ∷ 4 ∷ []) (h₁ .a)) kind,
+          made-using (boundSymbol k₁) t (one h₃ k₃) (seen (Kind.Using ∷ Kind.AwaitUsing ∷ []) (h₁ .a)) kind,
           plain-one w read h₃ k₃ e,
-          balance-more w read (hd 2 new 0 0) list none,
+          balance-more w read (hd Tag.Block new 0 0) list none,
           balance-none w read,
           worth-list w read list,
         ))

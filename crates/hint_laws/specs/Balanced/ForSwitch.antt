@@ -7,6 +7,7 @@ use Prim.Native.Nat.{ℕ, _≤_, _<_}
 use native.Mathlib.Omega.{arith}
 use lib.ListN.{length}
 use lib.Dec.{eqb}
+use Rattle.meaning.specs.Numbers.Tag
 use Rattle.meaning.specs.Tree.{if_then_else_, Head, hd, Forest, none, more, one}
 use Rattle.meaning.specs.Scoping.{Store, createChildScope, changeScopeParent, insertScopeBelow}
 use Rattle.meaning.specs.HelperLoader.{helperLoad}
@@ -30,25 +31,25 @@ use Rattle.hint_laws.specs.Balanced.Contexts.{Keeps, Counts, new-context
 module _ (w : List ℕ → ℕ → ℕ) (read : ℕ) where
   -- ---- For
 
-  loop-one : {t : ℕ} (a b c : ℕ) (k r : Forest) (ctx : ℕ) → read < ctx → Seen (4 ∷ 7 ∷ []) t
+  loop-one : {t : ℕ} (a b c : ℕ) (k r : Forest) (ctx : ℕ) → read < ctx → Seen (Tag.Label ∷ Tag.For ∷ []) t
       → anyUsing (forList (more (hd t a b c) k r)) ≡ true
       → (anyUsing (forList k) ≡ true → Counts w read k (takeUpFor ctx k))
       → Counts w read (more (hd t a b c) k r) (takeUpFor ctx (more (hd t a b c) k r))
   unfolding takeUpFor forList anyUsing callsIn worth waits gives asksFor letterIn ownLetter
   loop-one a b c k r ctx new here u i =
       let j = i u in
-      let h = hd 4 a b c in (
+      let h = hd Tag.Label a b c in (
         omega (
           arith,
           balance-more w read h k r,
           balance-more w read h (takeUpFor ctx k) r,
-          worth-plain w read 4 k refl refl,
-          worth-plain w read 4 (takeUpFor ctx k) refl refl,
+          worth-plain w read Tag.Label k refl refl,
+          worth-plain w read Tag.Label (takeUpFor ctx k) refl refl,
         ),
         refl,
       )
   loop-one a b c k r ctx new (there e₄ here) u i =
-      let h = hd 7 a b c in
+      let h = hd Tag.For a b c in
       let k′ = takeUp false ctx false k in
       (omega (arith, balance-more w read h k r, balance-more w read h k′ r, taken-listed w read ctx k new), refl)
   loop-one a b c k r ctx new (there e₄ (there e₇ other)) u i = absurd (clash (rw (e₄, e₇)) u)
@@ -57,9 +58,9 @@ module _ (w : List ℕ → ℕ → ℕ) (read : ℕ) where
   unfolding forList anyUsing
   loop-counts none ctx new u = absurd (clash refl u)
   loop-counts (more h k r) ctx new u =
-      loop-one (h .a) (h .b) (h .c) k r ctx new (seen (4 ∷ 7 ∷ []) (h .tag)) u (loop-counts k ctx new)
+      loop-one (h .a) (h .b) (h .c) k r ctx new (seen (Tag.Label ∷ Tag.For ∷ []) (h .tag)) u (loop-counts k ctx new)
 
-  pub for-keeps : (cur hoist : ℕ) (h : Head) (k : Forest) (st : Store) → read ≤ length (st .symbols) → eqb (h .tag) 5 ≡ false
+  pub for-keeps : (cur hoist : ℕ) (h : Head) (k : Forest) (st : Store) → read ≤ length (st .symbols) → eqb (h .tag) Tag.Declaration ≡ false
       → anyUsing (forList (one h k)) ≡ true → Keeps w read h k (transformForStatement cur hoist h k st)
   unfolding transformForStatement takeUpFor
   for-keeps cur hoist h k st new e u =
@@ -71,17 +72,17 @@ module _ (w : List ℕ → ℕ → ℕ) (read : ℕ) where
         arith,
         try-listed w read (s .0) taken (c .0) cur (c .0) cur (anyAwaitUsing (forList (one h k))) (s .1) (l .1),
         loop-counts (one h k) (c .0) (new-context w read hoist st new) u,
-        plain-one w read h (if eqb (h .tag) 4 then takeUpFor (c .0) k else takeUp false (c .0) false k) e,
+        plain-one w read h (if eqb (h .tag) Tag.Label then takeUpFor (c .0) k else takeUp false (c .0) false k) e,
       )
 
   -- ---- Switch
 
-  case-one : {t : ℕ} (a b c : ℕ) (k r r₁ r₂ : Forest) (ctx : ℕ) (needsAwait : Bool) → Seen (10 ∷ []) t → Counts w read r r₁ → Counts w read r r₂
+  case-one : {t : ℕ} (a b c : ℕ) (k r r₁ r₂ : Forest) (ctx : ℕ) (needsAwait : Bool) → Seen (Tag.Case ∷ []) t → Counts w read r r₁ → Counts w read r r₂
       → let h = hd t a b c in
-      Counts w read (more h k r) (if eqb t 10 then more h (takeUp true ctx needsAwait k) r₁ else more h k r₂)
+      Counts w read (more h k r) (if eqb t Tag.Case then more h (takeUp true ctx needsAwait k) r₁ else more h k r₂)
   unfolding callsIn worth waits gives asksFor calls
   case-one a b c k r r₁ r₂ ctx needsAwait here i j =
-      let h = hd 10 a b c in
+      let h = hd Tag.Case a b c in
       let k′ = takeUp true ctx needsAwait k in
       (omega (arith, balance-more w read h k r, balance-more w read h k′ r₁, taken-kept w read k true ctx needsAwait), omega arith)
   case-one {t} a b c k r r₁ r₂ ctx needsAwait (there e other) i j =
@@ -92,14 +93,14 @@ module _ (w : List ℕ → ℕ → ℕ) (read : ℕ) where
   unfolding takeUpCases
   cases-count none ctx needsAwait = (refl, refl)
   cases-count (more h k r) ctx needsAwait =
-      case-one (h .a) (h .b) (h .c) k r _ _ ctx needsAwait (seen (10 ∷ []) (h .tag))
+      case-one (h .a) (h .b) (h .c) k r _ _ ctx needsAwait (seen (Tag.Case ∷ []) (h .tag))
       (cases-count r ctx (needsAwait || anyAwaitUsing k))
       (cases-count r ctx needsAwait)
 
-  pub switch-keeps : (cur a b c : ℕ) (k : Forest) (st : Store) → Keeps w read (hd 9 a b c) k (transformSwitchStatement cur (hd 9 a b c) k st)
+  pub switch-keeps : (cur a b c : ℕ) (k : Forest) (st : Store) → Keeps w read (hd Tag.Switch a b c) k (transformSwitchStatement cur (hd Tag.Switch a b c) k st)
   unfolding transformSwitchStatement
   switch-keeps cur a b d k st =
-      let h = hd 9 a b d in
+      let h = hd Tag.Switch a b d in
       let c = makeContext cur st in
       let s = createChildScope cur 0 (c .1) in
       let q = changeScopeParent (h .a) (s .0) (s .1) in
@@ -112,6 +113,6 @@ module _ (w : List ℕ → ℕ → ℕ) (read : ℕ) where
         cases-count k (c .0) false,
         balance-more w read h k none,
         balance-more w read h k′ none,
-        worth-plain w read 9 k refl refl,
-        worth-plain w read 9 k′ refl refl,
+        worth-plain w read Tag.Switch k refl refl,
+        worth-plain w read Tag.Switch k′ refl refl,
       )

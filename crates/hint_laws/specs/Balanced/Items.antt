@@ -7,6 +7,9 @@ use Prim.Native.Nat.{ℕ, _+_, _≤_, _<_}
 use native.Mathlib.Omega.{arith}
 use lib.ListN.{length}
 use lib.Dec.{eqb, ltb}
+use Rattle.meaning.specs.Numbers.Tag
+use Rattle.meaning.specs.Numbers.Kind
+use Rattle.meaning.specs.Numbers.Form
 use Rattle.meaning.specs.Tree.{if_then_else_, oneOf, Head, hd, Forest, none, more, one}
 use Rattle.meaning.specs.Scoping.{Store, symbolIn, createSymbol}
 use Rattle.meaning.specs.Shapes.{declaration, exportNamed, specifier}
@@ -46,32 +49,32 @@ module _ (w : List ℕ → ℕ → ℕ) (read : ℕ) where
   stays h k = omega (arith, nothing)
 
   -- no Declaration
-  pub plain-item : (h : Head) (k : Forest) → eqb (h .tag) 5 ≡ false → itemed (one h k) ≡ balanceOf w read (one h k)
+  pub plain-item : (h : Head) (k : Forest) → eqb (h .tag) Tag.Declaration ≡ false → itemed (one h k) ≡ balanceOf w read (one h k)
   unfolding usingsIn doneIn isUsing
   plain-item h k e = rw e (omega arith)
 
-  pub moves : (h : Head) (k : Forest) → eqb (h .tag) 5 ≡ false → Item h k (split none (one h k))
+  pub moves : (h : Head) (k : Forest) → eqb (h .tag) Tag.Declaration ≡ false → Item h k (split none (one h k))
   moves h k e = omega (arith, nothing, plain-item h k e, plain-one w read h k e)
 
   -- ---- what is made
 
   -- `var y = e`
   declared : (y : ℕ) (h : Head) (k : Forest)
-      → listed w read (declaration 0 y (one h k)) ≡ called w read (y ∷ []) h + (callsIn w read (one h k) + balanceOf w read (one h k))
+      → listed w read (declaration Kind.Var y (one h k)) ≡ called w read (y ∷ []) h + (callsIn w read (one h k) + balanceOf w read (one h k))
   unfolding usingsIn doneIn callsIn overDeclarators ofInitializer namesOf isUsing
   declared y h k =
-      let name = hd 26 y 0 0 in
+      let name = hd Tag.Name y 0 0 in
       let kids = more name none (one h k) in
-      let declarator = hd 6 0 1 0 in
+      let declarator = hd Tag.Declarator 0 1 0 in
       omega (
         arith,
-        balance-more w read (hd 5 0 0 0) (one declarator kids) none,
+        balance-more w read (hd Tag.Declaration Kind.Var 0 0) (one declarator kids) none,
         balance-more w read declarator kids none,
         balance-more w read name none (one h k),
         balance-none w read,
-        worth-plain w read 5 (one declarator kids) refl refl,
-        worth-plain w read 6 kids refl refl,
-        worth-plain w read 26 none refl refl,
+        worth-plain w read Tag.Declaration (one declarator kids) refl refl,
+        worth-plain w read Tag.Declarator kids refl refl,
+        worth-plain w read Tag.Name none refl refl,
       )
 
   -- a record counts by its tag
@@ -84,36 +87,36 @@ module _ (w : List ℕ → ℕ → ℕ) (read : ℕ) where
         balance-more w read h k none,
         balance-more w read h′ k none,
         ap (λ (t : ℕ). worth w read t k) e,
-        ap (λ (t : ℕ). if eqb t 5 then overDeclarators (called w read) k else 0) e,
+        ap (λ (t : ℕ). if eqb t Tag.Declaration then overDeclarators (called w read) k else 0) e,
       )
 
   -- an exported Declaration, as var
   pub var-counts : (a b c : ℕ) (k : Forest)
-      → listed w read (one (hd 5 0 0 0) k) ≡ callsIn w read (one (hd 5 a b c) k) + balanceOf w read (one (hd 5 a b c) k)
+      → listed w read (one (hd Tag.Declaration Kind.Var 0 0) k) ≡ callsIn w read (one (hd Tag.Declaration a b c) k) + balanceOf w read (one (hd Tag.Declaration a b c) k)
   unfolding usingsIn doneIn callsIn isUsing
-  var-counts a b c k = omega (arith, balance-more w read (hd 5 0 0 0) k none, balance-more w read (hd 5 a b c) k none)
+  var-counts a b c k = omega (arith, balance-more w read (hd Tag.Declaration Kind.Var 0 0) k none, balance-more w read (hd Tag.Declaration a b c) k none)
 
   -- a using that is recorded has the letter of its kind
   recorded : {a : ℕ} (b c : ℕ) (k : Forest) → Seen (3 ∷ 4 ∷ []) a → oneOf (3 ∷ 4 ∷ []) a ≡ true
-      → listed w read (one (hd 5 0 a 0) k) ≡ itemed (one (hd 5 a b c) k)
+      → listed w read (one (hd Tag.Declaration Kind.Var a 0) k) ≡ itemed (one (hd Tag.Declaration a b c) k)
   unfolding usingsIn doneIn isUsing isAwaitUsing ownLetter hintOf letterOf
-  recorded b c k here e = omega (arith, balance-more w read (hd 5 0 3 0) k none, balance-more w read (hd 5 3 b c) k none)
-  recorded b c k (there e₃ here) e = omega (arith, balance-more w read (hd 5 0 4 0) k none, balance-more w read (hd 5 4 b c) k none)
+  recorded b c k here e = omega (arith, balance-more w read (hd Tag.Declaration Kind.Var 3 0) k none, balance-more w read (hd Tag.Declaration Kind.Using b c) k none)
+  recorded b c k (there e₃ here) e = omega (arith, balance-more w read (hd Tag.Declaration Kind.Var 4 0) k none, balance-more w read (hd Tag.Declaration Kind.AwaitUsing b c) k none)
   recorded b c k (there e₃ (there e₄ other)) e = absurd (clash (rw (e₃, e₄)) e)
 
-  pub declaration-counts : (u : Bool) (a b c : ℕ) (k : Forest) → isUsing (hd 5 a b c) ≡ u → (u ≡ true → oneOf (3 ∷ 4 ∷ []) a ≡ true)
-      → listed w read (one (hd 5 0 (if u then a else 0) 0) k) ≡ itemed (one (hd 5 a b c) k)
+  pub declaration-counts : (u : Bool) (a b c : ℕ) (k : Forest) → isUsing (hd Tag.Declaration a b c) ≡ u → (u ≡ true → oneOf (3 ∷ 4 ∷ []) a ≡ true)
+      → listed w read (one (hd Tag.Declaration Kind.Var (if u then a else 0) 0) k) ≡ itemed (one (hd Tag.Declaration a b c) k)
   unfolding usingsIn doneIn callsIn
   declaration-counts true a b c k u e = recorded b c k (seen (3 ∷ 4 ∷ []) a) (e refl)
   declaration-counts false a b c k u e = rw u (omega (arith, var-counts a b c k))
 
   -- a Class is called nowhere
-  pub class-counts : (h : Head) (k : Forest) (st : Store) → h .tag ≡ 15
+  pub class-counts : (h : Head) (k : Forest) (st : Store) → h .tag ≡ Tag.Class
       → listed w read ((transformClassDecl h k st) .0) ≡ callsIn w read (one h k) + balanceOf w read (one h k)
   unfolding transformClassDecl called
   class-counts h k st e =
       let y = (preserveClassExpressionName h st) .0 in
-      omega (arith, declared (h .c) (hd 15 1 (h .b) y) k, retagged h (hd 15 1 (h .b) y) k (sym e))
+      omega (arith, declared (h .c) (hd Tag.Class Form.Expression (h .b) y) k, retagged h (hd Tag.Class Form.Expression (h .b) y) k (sym e))
 
   -- records that count nothing, for the one above them either
   abbrev pub Idle : Forest → Type 0
@@ -126,7 +129,7 @@ module _ (w : List ℕ → ℕ → ℕ) (read : ℕ) where
   pub specifier-idle : (y name : ℕ) (f : Forest) → Idle f → Idle (specifier y name f)
   unfolding callsIn
   specifier-idle y name f i =
-      (omega arith, omega (arith, balance-more w read (hd 20 y name 0) none f, none-idle, worth-plain w read 20 none refl refl))
+      (omega arith, omega (arith, balance-more w read (hd Tag.Specifier y name 0) none f, none-idle, worth-plain w read Tag.Specifier none refl refl))
 
   pub specifiers-idle : (st : Store) (names : List ℕ) → Idle (specifiers st names)
   unfolding specifiers
@@ -136,13 +139,13 @@ module _ (w : List ℕ → ℕ → ℕ) (read : ℕ) where
   -- an export of names
   pub named : (f : Forest) → Idle f → itemed (exportNamed f) ≡ 0
   named f i =
-      let h = hd 17 2 0 0 in
-      omega (arith, plain-item h f refl, balance-more w read h f none, balance-none w read, worth-plain w read 17 f refl refl)
+      let h = hd Tag.ModuleLine 2 0 0 in
+      omega (arith, plain-item h f refl, balance-more w read h f none, balance-none w read, worth-plain w read Tag.ModuleLine f refl refl)
 
   -- ---- below 18 and 19
 
   -- an export of one record, before
-  pub export-counts : (h : Head) (k : Forest) → eqb (h .tag) 5 ≡ false → takesUp (h .tag) ≡ false → oneOf (8 ∷ 10 ∷ []) (h .tag) ≡ false
+  pub export-counts : (h : Head) (k : Forest) → eqb (h .tag) Tag.Declaration ≡ false → takesUp (h .tag) ≡ false → oneOf (Tag.ForOf ∷ Tag.Case ∷ []) (h .tag) ≡ false
       → itemed (one h k) ≡ callsIn w read k + balanceOf w read k
   export-counts h k e p q =
       omega (arith, plain-item h k e, balance-more w read h k none, balance-none w read, worth-plain w read (h .tag) k p q)
@@ -151,7 +154,7 @@ module _ (w : List ℕ → ℕ → ℕ) (read : ℕ) where
     -- a new name counts nothing
     called-new : (y : ℕ) (h : Head) → read < y → called w read (y ∷ []) h ≡ 0
     unfolding called
-    called-new y h new = by-test (eqb (h .tag) 27 && ltb read (h .b))
+    called-new y h new = by-test (eqb (h .tag) Tag.Call && ltb read (h .b))
       where
         by-test : (b : Bool) → (if b then w (y ∷ []) (h .a) else 0) ≡ 0
         by-test true = old y (h .a) new
@@ -163,4 +166,4 @@ module _ (w : List ℕ → ℕ → ℕ) (read : ℕ) where
     value-counts h k st new =
         let y = (createSymbol 4 1 1 0 st) .0 in
         let h′ = asExpression h in
-        omega (arith, declared y h′ k, called-new y h′ (omega arith), retagged h h′ k (expression-tag (eqb (h .tag) 15) h refl))
+        omega (arith, declared y h′ k, called-new y h′ (omega arith), retagged h h′ k (expression-tag (eqb (h .tag) Tag.Class) h refl))

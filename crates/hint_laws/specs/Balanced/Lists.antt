@@ -7,6 +7,8 @@ use Prim.Native.Nat.{ℕ, zero, suc, _+_, _<_}
 use native.Mathlib.Omega.{arith}
 use lib.Dec.{eqb}
 use borrow.Author.Tests.{lt-ltb}
+use Rattle.meaning.specs.Numbers.Tag
+use Rattle.meaning.specs.Numbers.Kind
 use Rattle.meaning.specs.Tree.{if_then_else_, oneOf, Head, hd, Forest, none, more, one, _&_}
 use Rattle.meaning.specs.Statements.{isUsing, isAwaitUsing, letterIf, wrapInitializer, wrapInitializers, asTakenUp, takeUp}
 use Rattle.spec_laws.specs.Tags.{Seen, other, here, there, seen, or-none}
@@ -30,7 +32,7 @@ unfolding namesOf wrapInitializer
 names-wrapped f letter ctx zero = refl
 names-wrapped none letter ctx (suc m) = refl
 names-wrapped (more h k r) letter ctx (suc m) =
-    ap (λ (names : List ℕ). (if eqb (h .tag) 26 then h .a else 0) ∷ names) (names-wrapped r letter ctx m)
+    ap (λ (names : List ℕ). (if eqb (h .tag) Tag.Name then h .a else 0) ∷ names) (names-wrapped r letter ctx m)
 
 -- values by tests that fail
 by-tests : (s e o : Bool) (a b c d : ℕ) → s ≡ false → e ≡ false → o ≡ false
@@ -44,10 +46,10 @@ module _ (w : List ℕ → ℕ → ℕ) (read : ℕ) where
 
   -- ---- a record that is no list, no ForOf and no Case
 
-  pub worth-plain : (t : ℕ) (k : Forest) → takesUp t ≡ false → oneOf (8 ∷ 10 ∷ []) t ≡ false → worth w read t k ≡ callsIn w read k
+  pub worth-plain : (t : ℕ) (k : Forest) → takesUp t ≡ false → oneOf (Tag.ForOf ∷ Tag.Case ∷ []) t ≡ false → worth w read t k ≡ callsIn w read k
   unfolding worth waits gives asksFor calls
   worth-plain t k p q =
-      by-tests (takesUp t) (eqb t 8) (oneOf (8 ∷ 10 ∷ []) t) _ _ _ (callsIn w read k) p (or-none (eqb t 8) (oneOf (10 ∷ []) t) q .0) q
+      by-tests (takesUp t) (eqb t Tag.ForOf) (oneOf (Tag.ForOf ∷ Tag.Case ∷ []) t) _ _ _ (callsIn w read k) p (or-none (eqb t Tag.ForOf) (oneOf (Tag.Case ∷ []) t) q .0) q
 
   -- ---- initializers
 
@@ -59,7 +61,7 @@ module _ (w : List ℕ → ℕ → ℕ) (read : ℕ) where
       omega (
         arith,
         balance-more w read h k r,
-        balance-more w read (hd 27 letter ctx 0) (one h k) r,
+        balance-more w read (hd Tag.Call letter ctx 0) (one h k) r,
         balance-more w read h k none,
         balance-none w read,
         worth-plain 27 (one h k) refl refl,
@@ -73,14 +75,14 @@ module _ (w : List ℕ → ℕ → ℕ) (read : ℕ) where
       )
 
   -- one record of a Declaration, the rest being done
-  declarator-kept : {t : ℕ} (a b c : ℕ) (k r r′ : Forest) (letter ctx : ℕ) → Seen (6 ∷ []) t
+  declarator-kept : {t : ℕ} (a b c : ℕ) (k r r′ : Forest) (letter ctx : ℕ) → Seen (Tag.Declarator ∷ []) t
       → (sum r′ ≡ sum r) × (callsIn w read r′ ≡ callsIn w read r)
       → let h = hd t a b c in
-      let f′ = more h (if eqb t 6 then wrapInitializer letter ctx b k else k) r′ in
+      let f′ = more h (if eqb t Tag.Declarator then wrapInitializer letter ctx b k else k) r′ in
       (sum f′ ≡ sum (more h k r)) × (callsIn w read f′ ≡ callsIn w read (more h k r))
   unfolding callsIn
   declarator-kept a b c k r r′ letter ctx here i =
-      let h = hd 6 a b c in
+      let h = hd Tag.Declarator a b c in
       let k′ = wrapInitializer letter ctx b k in (
         omega (
           arith,
@@ -101,7 +103,7 @@ module _ (w : List ℕ → ℕ → ℕ) (read : ℕ) where
   unfolding wrapInitializers
   initializers-kept none letter ctx = (refl, refl)
   initializers-kept (more h k r) letter ctx =
-      declarator-kept (h .a) (h .b) (h .c) k r (wrapInitializers letter ctx r) letter ctx (seen (6 ∷ []) (h .tag)) (initializers-kept r letter ctx)
+      declarator-kept (h .a) (h .b) (h .c) k r (wrapInitializers letter ctx r) letter ctx (seen (Tag.Declarator ∷ []) (h .tag)) (initializers-kept r letter ctx)
 
   -- ---- below a list
 
@@ -154,10 +156,10 @@ module _ (w : List ℕ → ℕ → ℕ) (read : ℕ) where
         → overDeclarators (called w read) (wrapInitializers letter ctx f) ≡ overDeclarators (λ names _. w names letter) f
     unfolding overDeclarators wrapInitializers
     initializers-called letter none = refl
-    initializers-called letter (more h k r) = ap₂ _+_ (declarator-called (eqb (h .tag) 6) letter (h .b) k) (initializers-called letter r)
+    initializers-called letter (more h k r) = ap₂ _+_ (declarator-called (eqb (h .tag) Tag.Declarator) letter (h .b) k) (initializers-called letter r)
 
     const-done : (b : Bool) (letter : ℕ) (k r : Forest)
-        → doneIn w read (more (hd 5 (if b then 2 else 0) 0 0) (wrapInitializers letter ctx k) r)
+        → doneIn w read (more (hd Tag.Declaration (if b then Kind.Const else Kind.Var) 0 0) (wrapInitializers letter ctx k) r)
         ≡ overDeclarators (λ names _. w names letter) k + doneIn w read r
     unfolding doneIn isUsing
     const-done true letter k r = ap (λ (n : ℕ). n + doneIn w read r) (initializers-called letter k)
@@ -168,7 +170,7 @@ module _ (w : List ℕ → ℕ → ℕ) (read : ℕ) where
         ≡ inList w read (more h k r)
     unfolding doneIn usingsIn asTakenUp ownLetter
     using-done true h k r r′ u e =
-        let five = ap (λ (t : ℕ). eqb t 5) (using-tag h u) in
+        let five = ap (λ (t : ℕ). eqb t Tag.Declaration) (using-tag h u) in
         rw (u, five) (omega (arith, const-done (eqb (h .b) 0) (letterIf (isAwaitUsing h)) k r′))
     using-done false h k r r′ u e = rw u (omega arith)
 

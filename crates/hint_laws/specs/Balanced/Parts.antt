@@ -7,6 +7,7 @@ use Prim.Native.Nat.{ℕ, _≤_}
 use native.Mathlib.Omega.{arith}
 use lib.ListN.{length}
 use lib.Dec.{eqb}
+use Rattle.meaning.specs.Numbers.Tag
 use Rattle.meaning.specs.Tree.{if_then_else_, Head, hd, Forest, none, more, one, Node, node, single, _&_}
 use Rattle.meaning.specs.Scoping.{Store, Change, return, insertScopeBetween}
 use Rattle.meaning.specs.HelperLoader.{helperLoad}
@@ -24,13 +25,13 @@ use Rattle.hint_laws.specs.Balanced.Contexts.{Keeps, Counts, taken-try, 
 -- parts only add symbols
 parts-grow : (f : Forest) (cur hoist : ℕ) (st : Store) → length (st .symbols) ≤ length ((transformTryParts cur hoist f st) .1 .symbols)
 unfolding enterTryStatement
-parts-grow f cur hoist st = omega (arith, try-pays cur hoist (hd 11 0 0 0) f st .rows .symbols)
+parts-grow f cur hoist st = omega (arith, try-pays cur hoist (hd Tag.Try 0 0 0) f st .rows .symbols)
 
 part-grows : (cur hoist : ℕ) (h : Head) (k : Forest) (st : Store)
     → length (st .symbols)
     ≤ length
-    (((if eqb (h .tag) 12 then transformHandler h k (transformTryParts cur hoist k)
-    else if eqb (h .tag) 2 && anyUsing k then transformTryBlock cur hoist h k
+    (((if eqb (h .tag) Tag.Catch then transformHandler h k (transformTryParts cur hoist k)
+    else if eqb (h .tag) Tag.Block && anyUsing k then transformTryBlock cur hoist h k
     else return (node h k))
     st) .1 .symbols)
 unfolding transformTryParts
@@ -38,7 +39,7 @@ part-grows cur hoist h k st = parts-grow (one h k) cur hoist st
 
 module _ (w : List ℕ → ℕ → ℕ) (read : ℕ) where
   part-keeps : (cur hoist a b c : ℕ) (k : Forest) (st : Store) → read ≤ length (st .symbols)
-      → Keeps w read (hd 2 a b c) k (transformTryBlock cur hoist (hd 2 a b c) k st)
+      → Keeps w read (hd Tag.Block a b c) k (transformTryBlock cur hoist (hd Tag.Block a b c) k st)
   unfolding transformTryBlock transformStatements createTryStmt worth waits gives asksFor usingsIn doneIn isUsing
   part-keeps cur hoist a b d k st new =
       let c = makeContext a st in
@@ -49,13 +50,13 @@ module _ (w : List ℕ → ℕ → ℕ) (read : ℕ) where
 
   -- a Block, by the test of its list
   block-part : (u : Bool) (cur hoist a b c : ℕ) (k r r′ : Forest) (st : Store) → read ≤ length (st .symbols) → Counts w read r r′
-      → Counts w read (more (hd 2 a b c) k r)
-      (single (((if u then transformTryBlock cur hoist (hd 2 a b c) k else return (node (hd 2 a b c) k)) st) .0) & r′)
+      → Counts w read (more (hd Tag.Block a b c) k r)
+      (single (((if u then transformTryBlock cur hoist (hd Tag.Block a b c) k else return (node (hd Tag.Block a b c) k)) st) .0) & r′)
   unfolding transformTryBlock callsIn _&_
   block-part true cur hoist a b c k r r′ st new i =
-      (beside w read (hd 2 a b c) _ k _ r r′ (part-keeps cur hoist a b c k st new) (i .0), omega arith)
+      (beside w read (hd Tag.Block a b c) _ k _ r r′ (part-keeps cur hoist a b c k st new) (i .0), omega arith)
   block-part false cur hoist a b c k r r′ st new i =
-      (beside w read (hd 2 a b c) (hd 2 a b c) k k r r′ refl (i .0), omega arith)
+      (beside w read (hd Tag.Block a b c) (hd Tag.Block a b c) k k r r′ refl (i .0), omega arith)
 
   -- neither a Catch nor a Block
   other-part : (x y u : Bool) (h : Head) (k r r′ : Forest) (catches blocks : Change Node) (st : Store) → x ≡ false → y ≡ false → Counts w read r r′
@@ -67,53 +68,53 @@ module _ (w : List ℕ → ℕ → ℕ) (read : ℕ) where
       (beside w read h h k k r r′ refl (i .0), omega arith)
 
   one-part : {t : ℕ} (cur hoist a b c : ℕ) (k r r′ : Forest) (inside : Change Forest) (st : Store) → read ≤ length (st .symbols)
-      → Seen (12 ∷ 2 ∷ []) t → Counts w read k ((inside st) .0) → Counts w read r r′
+      → Seen (Tag.Catch ∷ Tag.Block ∷ []) t → Counts w read k ((inside st) .0) → Counts w read r r′
       → let h = hd t a b c in
       Counts w read (more h k r)
       (single
-      (((if eqb t 12 then transformHandler h k inside
-      else if eqb t 2 && anyUsing k then transformTryBlock cur hoist h k
+      (((if eqb t Tag.Catch then transformHandler h k inside
+      else if eqb t Tag.Block && anyUsing k then transformTryBlock cur hoist h k
       else return (node h k))
       st) .0)
       & r′)
   unfolding moveCatchNames callsIn _&_
   one-part cur hoist a b c k r r′ inside st new here i j =
-      let h = hd 12 a b c in
+      let h = hd Tag.Catch a b c in
       let k′ = (inside st) .0 in (
         omega (
           arith,
           balance-more w read h k r,
           balance-more w read h k′ r′,
-          worth-plain w read 12 k refl refl,
-          worth-plain w read 12 k′ refl refl,
+          worth-plain w read Tag.Catch k refl refl,
+          worth-plain w read Tag.Catch k′ refl refl,
         ),
         omega arith,
       )
   one-part cur hoist a b c k r r′ inside st new (there e₁₂ here) i j = block-part (anyUsing k) cur hoist a b c k r r′ st new j
   one-part {t} cur hoist a b c k r r′ inside st new (there e₁₂ (there e₂ other)) i j =
       let h = hd t a b c in
-      other-part (eqb t 12) (eqb t 2) (anyUsing k) h k r r′ (transformHandler h k inside) (transformTryBlock cur hoist h k) st e₁₂ e₂ j
+      other-part (eqb t Tag.Catch) (eqb t Tag.Block) (anyUsing k) h k r r′ (transformHandler h k inside) (transformTryBlock cur hoist h k) st e₁₂ e₂ j
 
   parts-count : (f : Forest) (cur hoist : ℕ) (st : Store) → read ≤ length (st .symbols)
       → Counts w read f ((transformTryParts cur hoist f st) .0)
   unfolding transformTryParts
   parts-count none cur hoist st new = (refl, refl)
   parts-count (more h k r) cur hoist st new =
-      one-part cur hoist (h .a) (h .b) (h .c) k r _ (transformTryParts cur hoist k) st new (seen (12 ∷ 2 ∷ []) (h .tag))
+      one-part cur hoist (h .a) (h .b) (h .c) k r _ (transformTryParts cur hoist k) st new (seen (Tag.Catch ∷ Tag.Block ∷ []) (h .tag))
       (parts-count k cur hoist st new)
       (parts-count r cur hoist _ (omega (arith, part-grows cur hoist h k st)))
 
   pub try-keeps : (cur hoist a b c : ℕ) (k : Forest) (st : Store) → read ≤ length (st .symbols)
-      → Keeps w read (hd 11 a b c) k (enterTryStatement cur hoist (hd 11 a b c) k st)
+      → Keeps w read (hd Tag.Try a b c) k (enterTryStatement cur hoist (hd Tag.Try a b c) k st)
   unfolding enterTryStatement
   try-keeps cur hoist a b c k st new =
-      let h = hd 11 a b c in
+      let h = hd Tag.Try a b c in
       let k′ = (transformTryParts cur hoist k st) .0 in
       omega (
         arith,
         parts-count k cur hoist st new,
         balance-more w read h k none,
         balance-more w read h k′ none,
-        worth-plain w read 11 k refl refl,
-        worth-plain w read 11 k′ refl refl,
+        worth-plain w read Tag.Try k refl refl,
+        worth-plain w read Tag.Try k′ refl refl,
       )

@@ -6,6 +6,9 @@ use mathlib.Core.List.{List, [], _∷_}
 use Prim.Native.Nat.{ℕ, _+_, _≤_, _<_}
 use native.Mathlib.Omega.{arith}
 use lib.ListN.{length}
+use Rattle.meaning.specs.Numbers.Tag
+use Rattle.meaning.specs.Numbers.Kind
+use Rattle.meaning.specs.Numbers.Form
 use Rattle.meaning.specs.Tree.{oneOf, Head, hd, Forest, none, more, one, _&_}
 use Rattle.meaning.specs.Scoping.{Store, symbolIn, createSymbol, setFlagsOf, insertScopeBelow}
 use Rattle.meaning.specs.Shapes.{specifier}
@@ -69,7 +72,7 @@ module _ (w : List ℕ → ℕ → ℕ) (read : ℕ) (old : (y letter : ℕ) →
   -- ---- an item
 
   program-item : {x : ItemAct} {h : Head} {k : Forest} (st : Store) → read ≤ length (st .symbols)
-      → (isUsing h ≡ true → oneOf (3 ∷ 4 ∷ []) (h .a) ≡ true)
+      → (isUsing h ≡ true → oneOf (Kind.Using ∷ Kind.AwaitUsing ∷ []) (h .a) ≡ true)
       → ChosenItem Alone x h k → Item w read h k ((itemAs x h k st) .0)
   unfolding itemAs topLevelClass topLevelDeclaration exportedDeclaration exportedClass defaultClass defaultValue callsIn
   program-item {h = h} {k = k} st new u (as-kept s) = stays w read h k
@@ -90,14 +93,14 @@ module _ (w : List ℕ → ℕ → ℕ) (read : ℕ) (old : (y letter : ℕ) →
       omega (
         arith,
         named w read (specifier z (symbolIn st z .name) none) (specifier-idle w read z (symbolIn st z .name) none (none-idle w read)),
-        class-counts w read (hd 15 x y z) k₁ st refl,
+        class-counts w read (hd Tag.Class x y z) k₁ st refl,
         export-counts w read h k refl refl refl,
       )
   program-item {h = h} {k = k} st new u (as-default-class {y = y} {z = z} {k = k₁} e alone) =
       omega (
         arith,
         named w read (specifier z 3 none) (specifier-idle w read z 3 none (none-idle w read)),
-        class-counts w read (hd 15 0 y z) k₁ st refl,
+        class-counts w read (hd Tag.Class Form.Declaration y z) k₁ st refl,
         export-counts w read h k refl refl refl,
       )
   program-item {h = h} {k = k} st new u (as-default-value {h = h₁} {k = k₁} e d alone) =
@@ -130,22 +133,22 @@ module _ (w : List ℕ → ℕ → ℕ) (read : ℕ) (old : (y letter : ℕ) →
       (program-item st new (u .0) (only-item h k (x .0)))
       (items r (item .1) (omega (arith, item-grows h k st (x .0))) (x .1) (u .1))
 
-  program-counts : (a b c : ℕ) (k : Forest) → balanceOf w read (one (hd 1 a b c) k) ≡ itemed w read k
+  program-counts : (a b c : ℕ) (k : Forest) → balanceOf w read (one (hd Tag.Program a b c) k) ≡ itemed w read k
   unfolding worth waits gives asksFor letterIn
-  program-counts a b c k = omega (arith, balance-more w read (hd 1 a b c) k none, balance-none w read)
+  program-counts a b c k = omega (arith, balance-more w read (hd Tag.Program a b c) k none, balance-none w read)
 
   pub program-keeps : (a b c : ℕ) (k : Forest) (st : Store) → read ≤ length (st .symbols) → Exports k → Kinds k
-      → Keeps w read (hd 1 a b c) k (enterProgram (hd 1 a b c) k st)
+      → Keeps w read (hd Tag.Program a b c) k (enterProgram (hd Tag.Program a b c) k st)
   unfolding enterProgram
   program-keeps a b c k st new x u =
       let s = programItems k st in
-      let block = one (hd 2 ((insertScopeBelow a (s .0 .moved) (s .1)) .0) 0 0) (s .0 .moved) in
+      let block = one (hd Tag.Block ((insertScopeBelow a (s .0 .moved) (s .1)) .0) 0 0) (s .0 .moved) in
       omega (
         arith,
         items k st new x u,
         program-counts a b c k,
         program-counts a b c (s .0 .kept & block),
         itemed-& (s .0 .kept) block,
-        plain-item w read (hd 2 ((insertScopeBelow a (s .0 .moved) (s .1)) .0) 0 0) (s .0 .moved) refl,
+        plain-item w read (hd Tag.Block ((insertScopeBelow a (s .0 .moved) (s .1)) .0) 0 0) (s .0 .moved) refl,
         list-counts w read ((insertScopeBelow a (s .0 .moved) (s .1)) .0) 0 0 (s .0 .moved),
       )

@@ -6,6 +6,7 @@ use mathlib.Core.List.{List, [], _∷_}
 use Prim.Native.Nat.{ℕ, _+_}
 use native.Mathlib.Omega.{arith}
 use lib.Dec.{eqb}
+use Rattle.meaning.specs.Numbers.Tag
 use Rattle.meaning.specs.Tree.{if_then_else_, oneOf, Head, Forest, none, more}
 use Rattle.meaning.specs.Statements.{isUsing, anyUsing}
 use Rattle.spec_laws.specs.Tags.{Seen, other, here, there, seen, clash}
@@ -29,7 +30,7 @@ by-test true o m n p = let q = p refl in let e = q .1 in rw e (q .0)
 by-test false o m n p = refl
 
 -- a record that takes up usings is neither a ForOf nor a Case
-no-other : {t : ℕ} → Seen (1 ∷ 2 ∷ 7 ∷ 14 ∷ 16 ∷ []) t → takesUp t ≡ true → oneOf (8 ∷ 10 ∷ []) t ≡ false
+no-other : {t : ℕ} → Seen (Tag.Program ∷ Tag.Block ∷ Tag.For ∷ Tag.Body ∷ Tag.StaticBlock ∷ []) t → takesUp t ≡ true → oneOf (Tag.ForOf ∷ Tag.Case ∷ []) t ≡ false
 no-other here e = refl
 no-other (there e₁ here) e = refl
 no-other (there e₁ (there e₂ here)) e = refl
@@ -43,13 +44,13 @@ module _ (w : List ℕ → ℕ → ℕ) (read : ℕ) where
   unfolding doneIn callsIn anyUsing
   all-done none e = refl
   all-done (more h k r) e =
-      one-done (isUsing h) (anyUsing r) (eqb (h .tag) 5) (overDeclarators (called w read) k) (callsIn w read r) (doneIn w read r) e (all-done r)
+      one-done (isUsing h) (anyUsing r) (eqb (h .tag) Tag.Declaration) (overDeclarators (called w read) k) (callsIn w read r) (doneIn w read r) e (all-done r)
 
   gives-calls : (h : Head) (k : Forest) → (takesUp (h .tag) ≡ true → anyUsing k ≡ false) → gives w read h k ≡ calls w read h k
   unfolding gives calls
   gives-calls h k p =
-      by-test (takesUp (h .tag)) (oneOf (8 ∷ 10 ∷ []) (h .tag)) (doneIn w read k) (callsIn w read k)
-      (λ e. (all-done k (p e), no-other (seen (1 ∷ 2 ∷ 7 ∷ 14 ∷ 16 ∷ []) (h .tag)) e))
+      by-test (takesUp (h .tag)) (oneOf (Tag.ForOf ∷ Tag.Case ∷ []) (h .tag)) (doneIn w read k) (callsIn w read k)
+      (λ e. (all-done k (p e), no-other (seen (Tag.Program ∷ Tag.Block ∷ Tag.For ∷ Tag.Body ∷ Tag.StaticBlock ∷ []) (h .tag)) e))
 
 -- WHAT THE RECORDS OF SUCH A TREE GIVE IS WHAT IT CALLS.
 pub settled-gives : (w : List ℕ → ℕ → ℕ) (read : ℕ) (f : Forest) → Settled f → sumOver (λ h k. gives w read h k) f ≡ given w read f

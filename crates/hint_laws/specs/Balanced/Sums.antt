@@ -6,6 +6,7 @@ use mathlib.Core.List.{List}
 use Prim.Native.Nat.{ℕ, _+_}
 use native.Mathlib.Omega.{arith}
 use lib.Dec.{eqb}
+use Rattle.meaning.specs.Numbers.Tag
 use Rattle.meaning.specs.Tree.{Head, hd, Forest, none, more, one, _&_}
 use Rattle.meaning.specs.Statements.{isUsing, isAwaitUsing, letterIf}
 use Rattle.hint_laws.specs.Hints.{sumOver, usingsIn, asksFor, calls}
@@ -63,6 +64,6 @@ module _ (w : List ℕ → ℕ → ℕ) (read : ℕ) where
   worth-list k = refl
 
   -- a record that is no Declaration counts nothing for the one above it
-  pub plain-one : (h : Head) (k : Forest) → eqb (h .tag) 5 ≡ false → inList (one h k) ≡ 0
+  pub plain-one : (h : Head) (k : Forest) → eqb (h .tag) Tag.Declaration ≡ false → inList (one h k) ≡ 0
   unfolding usingsIn doneIn isUsing
   plain-one h k e = rw e

@@ -6,6 +6,7 @@ use mathlib.Core.List.{List}
 use Prim.Native.Nat.{ℕ, _+_, _<_}
 use native.Mathlib.Omega.{arith}
 use lib.Dec.{eqb}
+use Rattle.meaning.specs.Numbers.Kind
 use Rattle.meaning.specs.Tree.{if_then_else_, Forest, single, _&_}
 use Rattle.meaning.specs.Scoping.{Store}
 use Rattle.meaning.specs.Shapes.{declaration, load}
@@ -24,17 +25,17 @@ module _ (w : List ℕ → ℕ → ℕ) (read : ℕ) where
   listed f = inList w read f + balanceOf w read f
 
   -- the context's declaration before a list
-  loaded : (ctx form y : ℕ) (list : Forest) → listed (declaration 0 ctx (load form y) & list) ≡ listed list
+  loaded : (ctx form y : ℕ) (list : Forest) → listed (declaration Kind.Var ctx (load form y) & list) ≡ listed list
   unfolding balanceOf sumOver waits gives asksFor calls callsIn usingsIn doneIn overDeclarators ofInitializer called isUsing _&_
   loaded ctx form y list = omega arith
 
   loaded-if : (b : Bool) (ctx cur : ℕ) (st : Store) (list : Forest)
-      → listed (declaration 0 ctx (((if b then loadRuntime else loadExternal cur) st) .0) & list) ≡ listed list
+      → listed (declaration Kind.Var ctx (((if b then loadRuntime else loadExternal cur) st) .0) & list) ≡ listed list
   unfolding loadRuntime loadExternal
   loaded-if true ctx cur st list = loaded ctx 0 _ list
   loaded-if false ctx cur st list = loaded ctx 1 _ list
 
-  declared-list : (ctx cur : ℕ) (st : Store) (list : Forest) → listed (declaration 0 ctx ((helperLoad cur st) .0) & list) ≡ listed list
+  declared-list : (ctx cur : ℕ) (st : Store) (list : Forest) → listed (declaration Kind.Var ctx ((helperLoad cur st) .0) & list) ≡ listed list
   unfolding helperLoad
   declared-list ctx cur st list = loaded-if (eqb (st .mode) 0) ctx cur st list
 
@@ -44,10 +45,10 @@ module _ (w : List ℕ → ℕ → ℕ) (read : ℕ) where
   made-try scope list ctx parent needsAwait st = omega arith
 
   pub try-listed : (scope : ℕ) (list : Forest) (ctx cur ctx′ parent : ℕ) (needsAwait : Bool) (st st′ : Store)
-      → balanceOf w read (single ((createTryStmt scope (declaration 0 ctx ((helperLoad cur st) .0) & list) ctx′ parent needsAwait st′) .0))
+      → balanceOf w read (single ((createTryStmt scope (declaration Kind.Var ctx ((helperLoad cur st) .0) & list) ctx′ parent needsAwait st′) .0))
       ≡ listed list
   try-listed scope list ctx cur ctx′ parent needsAwait st st′ =
-      made-try scope (declaration 0 ctx ((helperLoad cur st) .0) & list) ctx′ parent needsAwait st′ ∙ declared-list ctx cur st list
+      made-try scope (declaration Kind.Var ctx ((helperLoad cur st) .0) & list) ctx′ parent needsAwait st′ ∙ declared-list ctx cur st list
 
   pub taken-listed : (ctx : ℕ) (f : Forest) → read < ctx → listed (takeUp false ctx false f) ≡ listed f
   taken-listed ctx f new =

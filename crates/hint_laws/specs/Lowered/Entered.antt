@@ -5,6 +5,8 @@ use mathlib.Core.Bool.{Bool, true, false}
 use mathlib.Core.Logic.{inl, inr}
 use Prim.Native.Nat.{ℕ}
 use lib.Dec.{eqb}
+use Rattle.meaning.specs.Numbers.Tag
+use Rattle.meaning.specs.Numbers.Kind
 use Rattle.meaning.specs.Tree.{Head, hd, Forest, none, more, Node}
 use Rattle.meaning.specs.Scoping.{Store}
 use Rattle.meaning.specs.Statements.{isUsing, anyUsing, createTryStmt}
@@ -51,16 +53,16 @@ first-held h k (more h₂ k₂ (more h₃ k₃ r)) e = rw e
 
 -- lowered, it declares a const
 for-of-quiet : (wraps : Bool) (a b c : ℕ) (h₁ : Head) (k₁ : Forest) (h₂ : Head) (k₂ : Forest) (h₃ : Head) (k₃ r : Forest) (st : Store)
-    → let h = hd 8 a b c in
+    → let h = hd Tag.ForOf a b c in
     let k = more h₁ k₁ (more h₂ k₂ (more h₃ k₃ r)) in
     Opens h k (enterForOfStatement wraps h k st)
 unfolding enterForOfStatement isUsing
 for-of-quiet wraps a b c h₁ k₁ h₂ k₂ h₃ k₃ r st =
-    changed _ _ (enterForOfStatement wraps (hd 8 a b c) (more h₁ k₁ (more h₂ k₂ (more h₃ k₃ r))) st) refl refl
-    (quiet-for-of _ _ refl (first-held (hd 5 2 0 0) _ _ refl))
+    changed _ _ (enterForOfStatement wraps (hd Tag.ForOf a b c) (more h₁ k₁ (more h₂ k₂ (more h₃ k₃ r))) st) refl refl
+    (quiet-for-of _ _ refl (first-held (hd Tag.Declaration Kind.Const 0 0) _ _ refl))
 
 -- a record that is kept
-idle-quiet : (h : Head) (k : Forest) (b : Bool) → eqb (h .tag) 16 ≡ b → Idle h k → OpenQuiet h k
+idle-quiet : (h : Head) (k : Forest) (b : Bool) → eqb (h .tag) Tag.StaticBlock ≡ b → Idle h k → OpenQuiet h k
 unfolding Quiet
 idle-quiet h k true e i = inl e
 idle-quiet h k false e i = inr ((λ t. i .list (rw e at t)), i .loop)
@@ -71,21 +73,21 @@ tagged h t = hd t (h .a) (h .b) (h .c)
 -- BY THE VIEW of a visit: what is entered is quiet or a StaticBlock.
 act-opens : {a : Act} {h : Head} {k : Forest} (cur hoist : ℕ) (st : Store) → Chosen a h k → Opens h k (enterAs a cur hoist h k st)
 unfolding enterAs isUsing anyUsing enterProgram transformBlockStatement transformForStatement transformSwitchStatement enterTryStatement enterFunctionBody createTryStmt
-act-opens {h = h} {k = k} cur hoist st (kept i) = (idle-quiet h k (eqb (h .tag) 16) refl i, (λ r. same-refl (more h k r)))
+act-opens {h = h} {k = k} cur hoist st (kept i) = (idle-quiet h k (eqb (h .tag) Tag.StaticBlock) refl i, (λ r. same-refl (more h k r)))
 act-opens {h = h} {k = k} cur hoist st (as-program e u) =
     let h₁ = tagged h 1 in
-    at-tag (λ h. Opens h k (enterProgram h k st)) h 1 e
+    at-tag (λ h. Opens h k (enterProgram h k st)) h Tag.Program e
     (changed h₁ k (enterProgram h₁ k st) refl refl (quiet-list _ _ refl (program-list h₁ k st)))
 act-opens {h = h} {k = k} cur hoist st (as-block e u) =
     let h₂ = tagged h 2 in
-    at-tag (λ h. Opens h k (transformBlockStatement cur hoist h k st)) h 2 e
+    at-tag (λ h. Opens h k (transformBlockStatement cur hoist h k st)) h Tag.Block e
     (changed h₂ k (transformBlockStatement cur hoist h₂ k st) refl refl (calm _ _ refl refl))
 act-opens {h = h} {k = k} cur hoist st (as-body e u) =
-    at-tag (λ h. Opens h k (enterFunctionBody cur hoist k st)) h 14 e
+    at-tag (λ h. Opens h k (enterFunctionBody cur hoist k st)) h Tag.Body e
     (changed (tagged h 14) k (enterFunctionBody cur hoist k st) refl refl (quiet-list _ _ refl refl))
 act-opens {h = h} {k = k} cur hoist st (as-try e u) =
     let h₁₁ = tagged h 11 in
-    at-tag (λ h. Opens h k (enterTryStatement cur hoist h k st)) h 11 e
+    at-tag (λ h. Opens h k (enterTryStatement cur hoist h k st)) h Tag.Try e
     (changed h₁₁ k (enterTryStatement cur hoist h₁₁ k st) refl refl (calm _ _ refl refl))
 act-opens {h = h} {k = k} cur hoist st (as-for e u) =
     let h₄ = tagged h 4 in
@@ -95,12 +97,12 @@ act-opens {h = h} {k = k} cur hoist st (as-for e u) =
     (changed h₇ k (transformForStatement cur hoist h₇ k st) refl refl (calm _ _ refl refl))
 act-opens {h = h} {k = k} cur hoist st (as-switch e u) =
     let h₉ = tagged h 9 in
-    at-tag (λ h. Opens h k (transformSwitchStatement cur h k st)) h 9 e
+    at-tag (λ h. Opens h k (transformSwitchStatement cur h k st)) h Tag.Switch e
     (changed h₉ k (transformSwitchStatement cur h₉ k st) refl refl (calm _ _ refl refl))
 act-opens {h = h} {k = k} cur hoist st (as-insert e b two) =
-    at-tag (λ h. Opens h k (enterForOfStatement false h k st)) h 8 e (for-of-quiet false _ _ _ _ _ _ _ _ _ _ st)
+    at-tag (λ h. Opens h k (enterForOfStatement false h k st)) h Tag.ForOf e (for-of-quiet false _ _ _ _ _ _ _ _ _ _ st)
 act-opens {h = h} {k = k} cur hoist st (as-wrap e b) =
-    at-tag (λ h. Opens h k (enterForOfStatement true h k st)) h 8 e (for-of-quiet true _ _ _ _ _ _ _ _ _ _ st)
+    at-tag (λ h. Opens h k (enterForOfStatement true h k st)) h Tag.ForOf e (for-of-quiet true _ _ _ _ _ _ _ _ _ _ st)
 
 -- Entering a record leaves it quiet or a StaticBlock, and what stands around it sees the same usings.
 pub enter-opens : (cur hoist : ℕ) (h : Head) (k : Forest) (st : Store) → Opens h k (enter cur hoist h k st)

@@ -6,6 +6,8 @@ use mathlib.Core.List.{[], _∷_}
 use Prim.Native.Nat.{ℕ, zero, suc}
 use lib.Dec.{eqb}
 use borrow.Author.Tests.{eqb-true}
+use Rattle.meaning.specs.Numbers.Tag
+use Rattle.meaning.specs.Numbers.Kind
 use Rattle.meaning.specs.Tree.{if_then_else_, oneOf, Head, hd, Forest, none, more, one, node, _&_}
 use Rattle.meaning.specs.Scoping.{Store, return, insertScopeBetween, moveBinding, setScopeFlags}
 use Rattle.meaning.specs.Shapes.{declaration}
@@ -41,8 +43,8 @@ initializer-quiet none letter ctx m p = tt
 initializer-quiet (more h k r) letter ctx zero p = (calm _ _ refl refl, (p .0, p .1, tt), p .2)
 initializer-quiet (more h k r) letter ctx (suc m) p = (p .0, p .1, initializer-quiet r letter ctx m (p .2))
 
-declarator-quiet : {t : ℕ} (a b c : ℕ) (k r : Forest) (letter ctx : ℕ) → Seen (6 ∷ []) t → Quiet (hd t a b c) k → AllQuiet k → AllQuiet r
-    → AllQuiet (more (hd t a b c) (if eqb t 6 then wrapInitializer letter ctx b k else k) r)
+declarator-quiet : {t : ℕ} (a b c : ℕ) (k r : Forest) (letter ctx : ℕ) → Seen (Tag.Declarator ∷ []) t → Quiet (hd t a b c) k → AllQuiet k → AllQuiet r
+    → AllQuiet (more (hd t a b c) (if eqb t Tag.Declarator then wrapInitializer letter ctx b k else k) r)
 unfolding AllQuiet
 declarator-quiet a b c k r letter ctx here o p q = (calm _ _ refl refl, initializer-quiet k letter ctx b p, q)
 declarator-quiet a b c k r letter ctx (there e other) o p q = rw e (o, p, q)
@@ -51,7 +53,7 @@ initializers-quiet : (f : Forest) (letter ctx : ℕ) → AllQuiet f → AllQuiet
 unfolding AllQuiet wrapInitializers
 initializers-quiet none letter ctx p = tt
 initializers-quiet (more h k r) letter ctx p =
-    declarator-quiet (h .a) (h .b) (h .c) k (wrapInitializers letter ctx r) letter ctx (seen (6 ∷ []) (h .tag)) (p .0) (p .1)
+    declarator-quiet (h .a) (h .b) (h .c) k (wrapInitializers letter ctx r) letter ctx (seen (Tag.Declarator ∷ []) (h .tag)) (p .0) (p .1)
     (initializers-quiet r letter ctx (p .2))
 
 using-quiet : (u : Bool) (h : Head) (k r : Forest) (letter ctx : ℕ) → Quiet h k → AllQuiet k → AllQuiet r
@@ -69,7 +71,7 @@ taken-quiet (more h k r) running ctx needsAwait p =
     (taken-quiet r running ctx (running && awaits) (p .2))
 
 -- no using is left in it
-const-if : (b : Bool) → isUsing (hd 5 (if b then 2 else 0) 0 0) ≡ false
+const-if : (b : Bool) → isUsing (hd Tag.Declaration (if b then Kind.Const else Kind.Var) 0 0) ≡ false
 unfolding isUsing
 const-if true = refl
 const-if false = refl
@@ -84,7 +86,7 @@ load-quiet false cur st = (calm _ _ refl refl, tt, tt)
 -- around a quiet list without a using
 try-quiet : (scope : ℕ) (list : Forest) (ctx cur ctx′ parent : ℕ) (needsAwait : Bool) (st st′ : Store)
     → anyUsing list ≡ false → AllQuiet list
-    → AllQuiet ((createTryStmt scope (declaration 0 ctx ((helperLoad cur st) .0) & list) ctx′ parent needsAwait st′) .0 .children)
+    → AllQuiet ((createTryStmt scope (declaration Kind.Var ctx ((helperLoad cur st) .0) & list) ctx′ parent needsAwait st′) .0 .children)
 unfolding AllQuiet createTryStmt createCatchClause createFinallyBlock helperLoad _&_ anyUsing isUsing
 try-quiet scope list ctx cur ctx′ parent needsAwait st st′ u p = (
   quiet-list _ _ refl u,
@@ -124,19 +126,19 @@ exit-quiet h k st p =
     )
 
 -- what comes of it: quiet, and beside others as what it was
-left-if : (b : Bool) (h : Head) (k : Forest) (st : Store) → anyUsing k ≡ b → h .tag ≡ 16 → AllQuiet k
+left-if : (b : Bool) (h : Head) (k : Forest) (st : Store) → anyUsing k ≡ b → h .tag ≡ Tag.StaticBlock → AllQuiet k
     → let e = (if b then exitStaticBlock h k else return (node h k)) st in
     AllQuiet (one (e .0 .head) (e .0 .children)) × ((r : Forest) → Same (more h k r) (more (e .0 .head) (e .0 .children) r))
 unfolding AllQuiet exitStaticBlock
 left-if true h k st u e p = (
   exit-quiet h k st p,
-  (λ r. same-neutral h _ k _ r (ap (λ (t : ℕ). oneOf (5 ∷ 6 ∷ 26 ∷ 27 ∷ []) t) e) refl),
+  (λ r. same-neutral h _ k _ r (ap (λ (t : ℕ). oneOf (Tag.Declaration ∷ Tag.Declarator ∷ Tag.Name ∷ Tag.Call ∷ []) t) e) refl),
 )
-left-if false h k st u e p = ((quiet-list h k (ap (λ (t : ℕ). eqb t 8) e) u, p, tt), (λ r. same-refl (more h k r)))
+left-if false h k st u e p = ((quiet-list h k (ap (λ (t : ℕ). eqb t Tag.ForOf) e) u, p, tt), (λ r. same-refl (more h k r)))
 
 -- Leaving a StaticBlock whose children are quiet makes it quiet, and what stands around it sees the same usings.
 pub leave-quiet : (h : Head) (k : Forest) (st : Store) → isStaticBlock h ≡ true → AllQuiet k
     → let e = leave h k st in
     AllQuiet (one (e .0 .head) (e .0 .children)) × ((r : Forest) → Same (more h k r) (more (e .0 .head) (e .0 .children) r))
 unfolding leave
-leave-quiet h k st e p = left-if (anyUsing k) h k st refl (eqb-true (h .tag) 16 e) p
+leave-quiet h k st e p = left-if (anyUsing k) h k st refl (eqb-true (h .tag) Tag.StaticBlock e) p

@@ -5,6 +5,7 @@ use mathlib.Core.Bool.{Bool, true, false, _&&_}
 use mathlib.Core.List.{List, [], _∷_}
 use lib.Dec.{eqb}
 use mathlib.Core.Logic.{_⊎_, inl, inr, ⊎-elim}
+use Rattle.meaning.specs.Numbers.Tag
 use Rattle.meaning.specs.Tree.{if_then_else_, Head, Forest, none, more, one, _&_}
 use Rattle.meaning.specs.Scoping.{Store}
 use Rattle.meaning.specs.Statements.{isUsing, anyUsing}
@@ -57,9 +58,9 @@ quiet-settle (c ∷ p) d (more h k r) st q o = (q, o)
 
 -- ---- a record beside others is replaced
 
-neutral-declarator : (h : Head) → Neutral h → (eqb (h .tag) 6 && eqb (h .a) 0) ≡ false
+neutral-declarator : (h : Head) → Neutral h → (eqb (h .tag) Tag.Declarator && eqb (h .a) 0) ≡ false
 neutral-declarator h n =
-    let six : eqb (h .tag) 6 ≡ false = or-none _ _ (or-none (eqb (h .tag) 5) _ n .1) .0 in
+    let six : eqb (h .tag) Tag.Declarator ≡ false = or-none _ _ (or-none (eqb (h .tag) Tag.Declaration) _ n .1) .0 in
     rw six
 
 using-alike : (h h′ : Head) (k k′ : Forest) → Alike h k h′ k′ → isUsing h ≡ isUsing h′
@@ -80,7 +81,7 @@ identifier-same none (more h′ k′ r′) s = absurd s
 identifier-same (more h k r) none s = absurd s
 identifier-same (more h k r) (more h′ k′ r′) s =
     ⊎-elim
-    (λ e. ap (λ (x : Head). eqb (x .tag) 6 && eqb (x .a) 0) (e .0))
+    (λ e. ap (λ (x : Head). eqb (x .tag) Tag.Declarator && eqb (x .a) 0) (e .0))
     (λ n. neutral-declarator h (n .0) ∙ sym (neutral-declarator h′ (n .1)))
     (s .0)
 

@@ -6,6 +6,7 @@ use Prim.Native.Nat.{ℕ}
 use mathlib.Core.List.{List}
 use native.Mathlib.Omega.{arith}
 use lib.Dec.{eqb}
+use Rattle.meaning.specs.Numbers.Tag
 use Rattle.meaning.specs.Tree.{if_then_else_, Head, Forest, none, more, _&_}
 use Rattle.meaning.specs.Statements.{isUsing, anyUsing}
 use Rattle.meaning.specs.ForOf.{bindsIdentifier}
@@ -16,7 +17,7 @@ use Rattle.hint_laws.specs.Hints.{sumOver, namesOf, letterFor, takesUp, 
 
 -- entering the record again would take up none of its usings: none stands in its list, and a ForOf's first child is none with an identifier
 unfoldable pub Quiet : Head → Forest → Type 0
-Quiet h k = (takesUp (h .tag) ≡ true → anyUsing k ≡ false) × (eqb (h .tag) 8 ≡ true → heldUsing k ≡ false)
+Quiet h k = (takesUp (h .tag) ≡ true → anyUsing k ≡ false) × (eqb (h .tag) Tag.ForOf ≡ true → heldUsing k ≡ false)
 
 -- deep
 unfoldable pub AllQuiet : Forest → Type 0
@@ -24,12 +25,12 @@ AllQuiet none = Unit {0}
 AllQuiet (more h k r) = Quiet h k × AllQuiet k × AllQuiet r
 
 -- a record that takes up nothing, by its tag
-pub calm : (h : Head) (k : Forest) → takesUp (h .tag) ≡ false → eqb (h .tag) 8 ≡ false → Quiet h k
+pub calm : (h : Head) (k : Forest) → takesUp (h .tag) ≡ false → eqb (h .tag) Tag.ForOf ≡ false → Quiet h k
 unfolding Quiet
 calm h k p q = ((λ e. absurd (clash p e)), (λ e. absurd (clash q e)))
 
 -- a list, or a For, without a using
-pub quiet-list : (h : Head) (k : Forest) → eqb (h .tag) 8 ≡ false → anyUsing k ≡ false → Quiet h k
+pub quiet-list : (h : Head) (k : Forest) → eqb (h .tag) Tag.ForOf ≡ false → anyUsing k ≡ false → Quiet h k
 unfolding Quiet
 quiet-list h k q u = ((λ _. u), (λ e. absurd (clash q e)))
 
@@ -61,7 +62,7 @@ module _ (w : List ℕ → ℕ → ℕ) where
   asks-nothing : (letter : Head → ℕ) (h : Head) (k : Forest) → Quiet h k → asksFor w letter h k ≡ 0
   unfolding asksFor Quiet
   asks-nothing letter h k q =
-      by-test (takesUp (h .tag)) (eqb (h .tag) 8) (usingsIn w letter k) (forOfUsing w k)
+      by-test (takesUp (h .tag)) (eqb (h .tag) Tag.ForOf) (usingsIn w letter k) (forOfUsing w k)
       (λ e. no-usings w letter k (q .0 e))
       (λ e. no-held k (q .1 e))
 

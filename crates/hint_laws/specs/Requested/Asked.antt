@@ -8,6 +8,7 @@ use native.Mathlib.Omega.{arith}
 use lib.ListN.{length}
 use lib.Dec.{eqb, leb, ltb}
 use borrow.Author.Tests.{leb-true, le-ltb, le-leb}
+use Rattle.meaning.specs.Numbers.Tag
 use Rattle.meaning.specs.Tree.{if_then_else_, oneOf, Head, Forest, none, more}
 use Rattle.meaning.specs.File.{File}
 use Rattle.meaning.specs.Reading.{accepted, readFile}
@@ -64,7 +65,7 @@ letter-of false = refl
 kind-letter : (n : ℕ) (g : Head) → Known n g → isUsing g ≡ true → letterIf (isAwaitUsing g) ≡ letterFor g
 unfolding isUsing isAwaitUsing hintOf
 kind-letter n g p u =
-    let five = and-left (eqb (g .tag) 5) _ u in
+    let five = and-left (eqb (g .tag) Tag.Declaration) _ u in
     rw (five, p .unmarked five) (letter-of (eqb (g .a) 4))
 
 either-letter : (b : Bool) (n : ℕ) (g : Head) → Known n g → isUsing g ≡ true
@@ -74,17 +75,17 @@ either-letter false n g p u = kind-letter n g p u
 
 -- The letter with which a using will be called is that of its hint.
 pub asked-by-kind : (w : List ℕ → ℕ → ℕ) (b : List ℕ) (f : File) → readFile b ≡ accepted f
-    → sumOver (λ h k. asksFor w (λ g. if eqb (h .tag) 1 then letterFor g else letterIf (isAwaitUsing g)) h k) (f .tree)
+    → sumOver (λ h k. asksFor w (λ g. if eqb (h .tag) Tag.Program then letterFor g else letterIf (isAwaitUsing g)) h k) (f .tree)
     ≡ asked w (f .tree)
 unfolding asked
 asked-by-kind w b f e =
     let n = length (f .symbols) in
-    let letter : Head → Head → ℕ = λ h g. if eqb (h .tag) 1 then letterFor g else letterIf (isAwaitUsing g) in
+    let letter : Head → Head → ℕ = λ h g. if eqb (h .tag) Tag.Program then letterFor g else letterIf (isAwaitUsing g) in
     sums-same (Known n) (λ h k. asksFor w (letter h) h k) (asksFor w letterFor)
     (λ h k p.
     let same =
     usings-same w w (letter h) letterFor (Known n)
-    (λ g kids q _ u. ap (λ (l : ℕ). overDeclarators (λ names _. w names l) kids) (either-letter (eqb (h .tag) 1) n g q u)) k p in
+    (λ g kids q _ u. ap (λ (l : ℕ). overDeclarators (λ names _. w names l) kids) (either-letter (eqb (h .tag) Tag.Program) n g q u)) k p in
     asks-same w w (letter h) letterFor h k same refl)
     (f .tree) (accepted-known b f e)
 
@@ -99,7 +100,7 @@ module _ (n : ℕ) (w : List ℕ → ℕ → ℕ) where
   unfolding allRead namesOf
   names-read zero k p = refl
   names-read (suc m) none p = refl
-  names-read (suc m) (more h k r) p = rw (row-read (eqb (h .tag) 26) (h .a) (p .0 .name)) (names-read m r (p .2))
+  names-read (suc m) (more h k r) p = rw (row-read (eqb (h .tag) Tag.Name) (h .a) (p .0 .name)) (names-read m r (p .2))
 
   weight-same : (m l : ℕ) (k : Forest) → Everywhere (Known n) k → ofRead n w (namesOf m k) l ≡ w (namesOf m k) l
   unfolding ofRead
@@ -112,7 +113,7 @@ module _ (n : ℕ) (w : List ℕ → ℕ → ℕ) where
   overs-same l (more h k r) p =
       omega (
         arith,
-        ap (λ (x : ℕ). if eqb (h .tag) 6 then ofInitializer (λ _. x) (h .b) k else 0) (weight-same (h .b) l k (p .1)),
+        ap (λ (x : ℕ). if eqb (h .tag) Tag.Declarator then ofInitializer (λ _. x) (h .b) k else 0) (weight-same (h .b) l k (p .1)),
         overs-same l r (p .2),
       )
 
@@ -144,7 +145,7 @@ asked-of-read w b f e =
 
 -- a Call's context is one of the rows read, so many
 abbrev pub OldCall : ℕ → Head → Type 0
-OldCall read h = eqb (h .tag) 27 ≡ true → leb (h .b) read ≡ true
+OldCall read h = eqb (h .tag) Tag.Call ≡ true → leb (h .b) read ≡ true
 
 -- so it is with each Call of a tree
 abbrev pub OldCalls : ℕ → Forest → Type 0
@@ -165,7 +166,7 @@ module _ (w : List ℕ → ℕ → ℕ) (read : ℕ) where
   initializer-none : (names : List ℕ) (m : ℕ) (k : Forest) → OldCalls read k → ofInitializer (called w read names) m k ≡ 0
   unfolding ofInitializer called
   initializer-none names m none o = refl
-  initializer-none names zero (more h k r) o = not-called (eqb (h .tag) 27) names h (o .0)
+  initializer-none names zero (more h k r) o = not-called (eqb (h .tag) Tag.Call) names h (o .0)
   initializer-none names (suc m) (more h k r) o = initializer-none names m r (o .2)
 
   -- no initializer of a list's Declarators is called
@@ -176,7 +177,7 @@ module _ (w : List ℕ → ℕ → ℕ) (read : ℕ) where
       let names = namesOf (h .b) k in
       omega (
         arith,
-        if-none (eqb (h .tag) 6) (ofInitializer (called w read names) (h .b) k) (initializer-none names (h .b) k (o .1)),
+        if-none (eqb (h .tag) Tag.Declarator) (ofInitializer (called w read names) (h .b) k) (initializer-none names (h .b) k (o .1)),
         overs-none r (o .2),
       )
 
@@ -185,9 +186,9 @@ module _ (w : List ℕ → ℕ → ℕ) (read : ℕ) where
   unfolding callsIn
   calls-in-none none o = refl
   calls-in-none (more h k r) o =
-      omega (arith, if-none (eqb (h .tag) 5) (overDeclarators (called w read) k) (overs-none k (o .1)), calls-in-none r (o .2))
+      omega (arith, if-none (eqb (h .tag) Tag.Declaration) (overDeclarators (called w read) k) (overs-none k (o .1)), calls-in-none r (o .2))
 
   -- nor any by a record
   pub calls-none : (h : Head) (k : Forest) → OldCalls read k → calls w read h k ≡ 0
   unfolding calls
-  calls-none h k o = unless-none (oneOf (8 ∷ 10 ∷ []) (h .tag)) (callsIn w read k) (calls-in-none k o)
+  calls-none h k o = unless-none (oneOf (Tag.ForOf ∷ Tag.Case ∷ []) (h .tag)) (callsIn w read k) (calls-in-none k o)

@@ -6,6 +6,7 @@ use mathlib.Core.List.{List, [], _∷_}
 use Prim.Native.Nat.{ℕ}
 use lib.ListN.{length}
 use lib.Dec.{eqb, leb}
+use Rattle.meaning.specs.Numbers.Tag
 use Rattle.meaning.specs.Tree.{Head, Forest}
 use Rattle.meaning.specs.File.{File, numbersOf, hasChildren, ownNumbers}
 use Rattle.meaning.specs.Grammar.{fieldOf, isRow, right, headOf}
@@ -19,14 +20,14 @@ use Rattle.hint_laws.specs.Requested.Everywhere.{Everywhere}
 
 -- A Declaration has no mark, the symbol of a Name is one of so many rows, and so is the context of a Call.
 pub record Known (syms : ℕ) (h : Head) : Type 0 where
-  pub unmarked : eqb (h .tag) 5 ≡ true → h .b ≡ 0
-  pub name : eqb (h .tag) 26 ≡ true → leb (h .a) syms ≡ true
-  pub context : eqb (h .tag) 27 ≡ true → leb (h .b) syms ≡ true
+  pub unmarked : eqb (h .tag) Tag.Declaration ≡ true → h .b ≡ 0
+  pub name : eqb (h .tag) Tag.Name ≡ true → leb (h .a) syms ≡ true
+  pub context : eqb (h .tag) Tag.Call ≡ true → leb (h .b) syms ≡ true
 
 -- ---- a field
 
 module _ (p : Place) (syms : ℕ) where
-  known-as : {t : ℕ} (a b c d next : ℕ) → Seen (5 ∷ 26 ∷ 27 ∷ []) t
+  known-as : {t : ℕ} (a b c d next : ℕ) → Seen (Tag.Declaration ∷ Tag.Name ∷ Tag.Call ∷ []) t
       → let x : Field = record { tag = t; a = a; b = b; c = c; d = d; next = next } in
       right p syms x ≡ true → Known syms (headOf x)
   unfolding right headOf ownNumbers hasChildren numbersOf
@@ -53,7 +54,7 @@ module _ (p : Place) (syms : ℕ) where
       }
 
   known : (x : Field) → right p syms x ≡ true → Known syms (headOf x)
-  known x = known-as (x .a) (x .b) (x .c) (x .d) (x .next) (seen (5 ∷ 26 ∷ 27 ∷ []) (x .tag))
+  known x = known-as (x .a) (x .b) (x .c) (x .d) (x .next) (seen (Tag.Declaration ∷ Tag.Name ∷ Tag.Call ∷ []) (x .tag))
 
 -- ---- reading
 

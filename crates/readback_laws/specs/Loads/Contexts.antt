@@ -8,6 +8,7 @@ use native.Mathlib.Omega.{arith}
 use lib.Dec.{eqb}
 use borrow.Author.Tests.{eqb-true}
 use Rattle.meaning.specs.Numbers.Tag
+use Rattle.meaning.specs.Numbers.Kind
 use Rattle.meaning.specs.Tree.{if_then_else_, Head, Forest, none, more, one, Node, node, single, _&_}
 use Rattle.meaning.specs.Shapes.{declaration, read}
 use Rattle.meaning.specs.Scoping.{Store, Change, return, symbolIn, createChildScope, createSymbol, changeScopeParent, insertScopeBelow, insertScopeBetween, setScopeFlags, moveBinding, moveBindings, blockScopedIn}
@@ -44,7 +45,7 @@ use Rattle.meaning.specs.Contexts.{
   transformSwitchStatement,
 }
 use Rattle.meaning.specs.ForOf.{boundSymbol, rebind, insertUsing, wrapBody, enterForOfStatement}
-use Rattle.meaning.specs.Charges.{Kind, ofBlock, ofBody, ofStaticBlock, ofTryPart, ofFor, ofSwitch, Line, contextCharge, lineCharge, total, contextLines}
+use Rattle.meaning.specs.Charges.{ContextKind, ofBlock, ofBody, ofStaticBlock, ofTryPart, ofFor, ofSwitch, Line, contextCharge, lineCharge, total, contextLines}
 use Rattle.meaning.specs.Due.{partLines}
 use Rattle.spec_laws.specs.Trees.{transformHandler}
 use Rattle.spec_laws.specs.Figures.{total-++}
@@ -84,7 +85,7 @@ initializers-loads : (f : Forest) (letter ctx : ℕ) → loads (wrapInitializers
 unfolding wrapInitializers loads
 initializers-loads none letter ctx = refl
 initializers-loads (more h k r) letter ctx =
-    omega (arith, declarator-loads (eqb (h .tag) 6) k letter ctx (h .b), initializers-loads r letter ctx)
+    omega (arith, declarator-loads (eqb (h .tag) Tag.Declarator) k letter ctx (h .b), initializers-loads r letter ctx)
 
 using-loads : (b : Bool) (h : Head) (k r r′ : Forest) (letter ctx : ℕ) → isUsing h ≡ b → loads r′ ≡ loads r
     → loads (if b then more (asTakenUp h) (wrapInitializers letter ctx k) r′ else more h k r′) ≡ loads (more h k r)
@@ -109,7 +110,7 @@ loop-loads false h k r ctx i = omega (arith, list-loads k false ctx false)
 for-loads : (f : Forest) (ctx : ℕ) → loads (takeUpFor ctx f) ≡ loads f
 unfolding takeUpFor
 for-loads none ctx = refl
-for-loads (more h k r) ctx = loop-loads (eqb (h .tag) 4) h k r ctx (for-loads k ctx)
+for-loads (more h k r) ctx = loop-loads (eqb (h .tag) Tag.Label) h k r ctx (for-loads k ctx)
 
 case-loads : (b : Bool) (h : Head) (k r r₁ r₂ : Forest) (ctx : ℕ) (needsAwait : Bool) → loads r₁ ≡ loads r → loads r₂ ≡ loads r
     → loads (if b then more h (takeUp true ctx needsAwait k) r₁ else more h k r₂) ≡ loads (more h k r)
@@ -121,7 +122,7 @@ cases-loads : (f : Forest) (ctx : ℕ) (needsAwait : Bool) → loads (takeUpCase
 unfolding takeUpCases
 cases-loads none ctx needsAwait = refl
 cases-loads (more h k r) ctx needsAwait =
-    case-loads (eqb (h .tag) 10) h k r (takeUpCases ctx (needsAwait || anyAwaitUsing k) r) (takeUpCases ctx needsAwait r) ctx needsAwait
+    case-loads (eqb (h .tag) Tag.Case) h k r (takeUpCases ctx (needsAwait || anyAwaitUsing k) r) (takeUpCases ctx needsAwait r) ctx needsAwait
     (cases-loads r ctx (needsAwait || anyAwaitUsing k))
     (cases-loads r ctx needsAwait)
 
@@ -137,7 +138,7 @@ unfolding helperLoad
 load-one cur st = load-if (eqb (st .mode) 0) cur st
 
 -- the context's declaration before a list
-declared : (ctx cur : ℕ) (st : Store) (f : Forest) → loads (declaration 0 ctx ((helperLoad cur st) .0) & f) ≡ loads f + 1
+declared : (ctx cur : ℕ) (st : Store) (f : Forest) → loads (declaration Kind.Var ctx ((helperLoad cur st) .0) & f) ≡ loads f + 1
 unfolding _&_ loads loadOf
 declared ctx cur st f = omega (arith, load-one cur st)
 
@@ -155,7 +156,7 @@ try-loads scope list ctx parent needsAwait st = omega arith
 
 -- ---- one context
 
-pub kind-one : (kind : Kind) → contextCharge kind .contexts ≡ 1
+pub kind-one : (kind : ContextKind) → contextCharge kind .contexts ≡ 1
 unfolding contextCharge
 kind-one ofBlock = refl
 kind-one ofBody = refl
@@ -164,7 +165,7 @@ kind-one ofTryPart = refl
 kind-one ofFor = refl
 kind-one ofSwitch = refl
 
-lines-one : (kind : Kind) (list : Forest) → anyUsing list ≡ true → contextsOf (contextLines kind list) ≡ 1
+lines-one : (kind : ContextKind) (list : Forest) → anyUsing list ≡ true → contextsOf (contextLines kind list) ≡ 1
 unfolding contextLines total lineCharge
 lines-one kind list u = rw u (omega (arith, kind-one kind))
 
@@ -173,7 +174,7 @@ abbrev pub Brings : List Line → Forest → Forest → Type 0
 Brings ls f f′ = loads f′ ≡ loads f + contextsOf ls
 
 module _ (cur hoist : ℕ) (h : Head) (k : Forest) (st : Store) (u : anyUsing k ≡ true) where
-  pub block-brings : h .tag ≡ 2 → Brings (contextLines ofBlock k) (one h k) (single ((transformBlockStatement cur hoist h k st) .0))
+  pub block-brings : h .tag ≡ Tag.Block → Brings (contextLines ofBlock k) (one h k) (single ((transformBlockStatement cur hoist h k st) .0))
   unfolding transformBlockStatement loads loadOf
   block-brings e =
       let t = transformStatements cur hoist k st in
@@ -185,7 +186,7 @@ module _ (cur hoist : ℕ) (h : Head) (k : Forest) (st : Store) (u : anyUsing k 
         try-loads (h .a) (t .0 .statements) (t .0 .usingCtx) cur (t .0 .needsAwait) (t .1),
       )
 
-  pub body-brings : h .tag ≡ 14 → Brings (contextLines ofBody k) (one h k) (single ((enterFunctionBody cur hoist k st) .0))
+  pub body-brings : h .tag ≡ Tag.Body → Brings (contextLines ofBody k) (one h k) (single ((enterFunctionBody cur hoist k st) .0))
   unfolding enterFunctionBody loads loadOf
   body-brings e =
       let t = transformStatements cur hoist k st in
@@ -199,7 +200,7 @@ module _ (cur hoist : ℕ) (h : Head) (k : Forest) (st : Store) (u : anyUsing k 
         try-loads (s .0) (t .0 .statements) (t .0 .usingCtx) cur (t .0 .needsAwait) (m .1),
       )
 
-  part-brings : h .tag ≡ 2 → Brings (contextLines ofTryPart k) (one h k) (single ((transformTryBlock cur hoist h k st) .0))
+  part-brings : h .tag ≡ Tag.Block → Brings (contextLines ofTryPart k) (one h k) (single ((transformTryBlock cur hoist h k st) .0))
   unfolding transformTryBlock loads loadOf
   part-brings e =
       let t = transformStatements cur (h .a) k st in
@@ -212,7 +213,7 @@ module _ (cur hoist : ℕ) (h : Head) (k : Forest) (st : Store) (u : anyUsing k 
         try-loads (h .a) (t .0 .statements) (t .0 .usingCtx) (s .0) (t .0 .needsAwait) (s .1),
       )
 
-pub static-brings : (h : Head) (k : Forest) (st : Store) → anyUsing k ≡ true → h .tag ≡ 16
+pub static-brings : (h : Head) (k : Forest) (st : Store) → anyUsing k ≡ true → h .tag ≡ Tag.StaticBlock
     → Brings (contextLines ofStaticBlock k) (one h k) (single ((exitStaticBlock h k st) .0))
 unfolding exitStaticBlock loads loadOf
 static-brings h k st u e =
@@ -241,7 +242,7 @@ for-brings cur hoist h k st u =
       lines-one ofFor (forList (one h k)) u,
       for-loads (one h k) (c .0),
       declared (c .0) cur (s .1) taken,
-      try-loads (s .0) (declaration 0 (c .0) (l .0) & taken) (c .0) cur (anyAwaitUsing (forList (one h k))) (l .1),
+      try-loads (s .0) (declaration Kind.Var (c .0) (l .0) & taken) (c .0) cur (anyAwaitUsing (forList (one h k))) (l .1),
     )
 
 pub switch-brings : (cur : ℕ) (h : Head) (k : Forest) (st : Store)
@@ -257,13 +258,13 @@ switch-brings cur h k st =
       arith,
       cases-loads k (c .0) false,
       declared (c .0) cur (p .1) taken,
-      try-loads (s .0) (declaration 0 (c .0) (l .0) & taken) (c .0) cur (anyCaseAwaitUsing k) (l .1),
+      try-loads (s .0) (declaration Kind.Var (c .0) (l .0) & taken) (c .0) cur (anyCaseAwaitUsing k) (l .1),
     )
 
 -- ---- the parts of a Try
 
 one-part : (a b u : Bool) (cur hoist : ℕ) (h : Head) (k : Forest) (inside : Change Forest) (st : Store)
-    → (b ≡ true → h .tag ≡ 2) → anyUsing k ≡ u → Brings (partLines k) k ((inside st) .0)
+    → (b ≡ true → h .tag ≡ Tag.Block) → anyUsing k ≡ u → Brings (partLines k) k ((inside st) .0)
     → Brings (if a then partLines k else if b then contextLines ofTryPart k else []) (one h k)
     (single (((if a then transformHandler h k inside else if b && u then transformTryBlock cur hoist h k else return (node h k)) st) .0))
 unfolding moveCatchNames contextLines total loads
@@ -277,13 +278,13 @@ unfolding partLines transformTryParts total loads _&_
 parts-bring none cur hoist st = omega arith
 parts-bring (more h k r) cur hoist st =
     let part : Change Node =
-    if eqb (h .tag) 12 then transformHandler h k (transformTryParts cur hoist k)
-    else if eqb (h .tag) 2 && anyUsing k then transformTryBlock cur hoist h k
+    if eqb (h .tag) Tag.Catch then transformHandler h k (transformTryParts cur hoist k)
+    else if eqb (h .tag) Tag.Block && anyUsing k then transformTryBlock cur hoist h k
     else return (node h k) in
-    let own : List Line = if eqb (h .tag) 12 then partLines k else if eqb (h .tag) 2 then contextLines ofTryPart k else [] in
+    let own : List Line = if eqb (h .tag) Tag.Catch then partLines k else if eqb (h .tag) Tag.Block then contextLines ofTryPart k else [] in
     omega (
       arith,
-      one-part (eqb (h .tag) 12) (eqb (h .tag) 2) (anyUsing k) cur hoist h k (transformTryParts cur hoist k) st (eqb-true (h .tag) 2) refl
+      one-part (eqb (h .tag) Tag.Catch) (eqb (h .tag) Tag.Block) (anyUsing k) cur hoist h k (transformTryParts cur hoist k) st (eqb-true (h .tag) Tag.Block) refl
           (parts-bring k cur hoist st),
       parts-bring r cur hoist ((part st) .1),
       total-++ own (partLines r),

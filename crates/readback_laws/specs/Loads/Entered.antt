@@ -6,6 +6,7 @@ use mathlib.Core.List.{List}
 use Prim.Native.Nat.{ℕ, _+_}
 use native.Mathlib.Omega.{arith}
 use borrow.Author.Tests.{eqb-true, eq-eqb}
+use Rattle.meaning.specs.Numbers.Tag
 use Rattle.meaning.specs.Tree.{if_then_else_, Head, Forest, one, Node, node, single}
 use Rattle.meaning.specs.Scoping.{Store, return}
 use Rattle.meaning.specs.Statements.{anyUsing}
@@ -24,29 +25,29 @@ act-brings : {a : Act} {h : Head} {k : Forest} (cur hoist : ℕ) (st : Store) �
 unfolding enterLines enterAs total lineCharge
 act-brings {h = h} {k = k} cur hoist st p (kept i) = omega arith
 act-brings {h = h} {k = k} cur hoist st p (as-program e u) =
-    omega (arith, items-free k .free, program-keeps h k st (p .0 (eq-eqb (h .tag) 1 e) u))
+    omega (arith, items-free k .free, program-keeps h k st (p .0 (eq-eqb (h .tag) Tag.Program e) u))
 act-brings {h = h} {k = k} cur hoist st p (as-block e u) = block-brings cur hoist h k st u e
 act-brings {h = h} {k = k} cur hoist st p (as-body e u) = body-brings cur hoist h k st u e
 act-brings {h = h} {k = k} cur hoist st p (as-try e u) = try-brings cur hoist h k st
 act-brings {h = h} {k = k} cur hoist st p (as-for e u) = for-brings cur hoist h k st u
 act-brings {h = h} {k = k} cur hoist st p (as-switch e u) = omega (arith, switch-brings cur h k st, kind-one ofSwitch)
 act-brings {h = h} cur hoist st p (as-insert {h₁ = h₁} {h₂ = h₂} {h₃ = h₃} {k₁ = k₁} {k₂ = k₂} {k₃ = k₃} {r = r} e b two) =
-    omega (arith, insert-keeps h h₁ k₁ h₂ k₂ h₃ k₃ r st (b .uses) (p .1 (eq-eqb (h .tag) 8 e) (b .both)))
+    omega (arith, insert-keeps h h₁ k₁ h₂ k₂ h₃ k₃ r st (b .uses) (p .1 (eq-eqb (h .tag) Tag.ForOf e) (b .both)))
 act-brings {h = h} cur hoist st p (as-wrap {h₁ = h₁} {h₂ = h₂} {h₃ = h₃} {k₁ = k₁} {k₂ = k₂} {k₃ = k₃} {r = r} e b) =
-    omega (arith, wrap-keeps h h₁ k₁ h₂ k₂ h₃ k₃ r st (b .uses) (p .1 (eq-eqb (h .tag) 8 e) (b .both)))
+    omega (arith, wrap-keeps h h₁ k₁ h₂ k₂ h₃ k₃ r st (b .uses) (p .1 (eq-eqb (h .tag) Tag.ForOf e) (b .both)))
 
 enter-brings : (cur hoist : ℕ) (h : Head) (k : Forest) (st : Store) → Proper h k
     → Brings (enterLines (actOf (st .asRead) h k) h k) (one h k) (single ((enter cur hoist h k st) .0))
 unfolding enter
 enter-brings cur hoist h k st p = act-brings cur hoist st p (chosen (st .asRead) h k)
 
-leave-if : (b : Bool) (h : Head) (k : Forest) (st : Store) → anyUsing k ≡ b → h .tag ≡ 16
+leave-if : (b : Bool) (h : Head) (k : Forest) (st : Store) → anyUsing k ≡ b → h .tag ≡ Tag.StaticBlock
     → Brings (contextLines ofStaticBlock k) (one h k) (single (((if b then exitStaticBlock h k else return (node h k)) st) .0))
 unfolding contextLines total
 leave-if true h k st u e = static-brings h k st u e
 leave-if false h k st u e = rw u (omega arith)
 
-leave-brings : (h : Head) (k : Forest) (st : Store) → h .tag ≡ 16
+leave-brings : (h : Head) (k : Forest) (st : Store) → h .tag ≡ Tag.StaticBlock
     → Brings (contextLines ofStaticBlock k) (one h k) (single ((leave h k st) .0))
 unfolding leave
 leave-brings h k st e = leave-if (anyUsing k) h k st refl e
@@ -63,4 +64,4 @@ pub enter-loads : (cur hoist : ℕ) (h : Head) (k : Forest) (st : Store) → Pro
 enter-loads cur hoist h k st p = grows-by (entered cur hoist h k st p) (enter-brings cur hoist h k st p)
 
 pub leave-loads : (h : Head) (k : Forest) (st : Store) → isStaticBlock h ≡ true → Grows (one h k) st (leave h k st)
-leave-loads h k st e = grows-by (left h k st e) (leave-brings h k st (eqb-true (h .tag) 16 e))
+leave-loads h k st e = grows-by (left h k st e) (leave-brings h k st (eqb-true (h .tag) Tag.StaticBlock e))

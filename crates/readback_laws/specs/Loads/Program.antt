@@ -8,6 +8,7 @@ use native.Mathlib.Omega.{arith}
 use lib.ListN.{length}
 use lib.Dec.{eqb}
 use Rattle.meaning.specs.Numbers.Tag
+use Rattle.meaning.specs.Numbers.Form
 use Rattle.meaning.specs.Tree.{if_then_else_, Head, hd, Forest, none, more, one, single, _&_}
 use Rattle.meaning.specs.Shapes.{block}
 use Rattle.meaning.specs.Scoping.{Store, insertScopeBelow, setFlagsOf}
@@ -50,7 +51,7 @@ use Rattle.readback_laws.specs.Loads.Contexts.{loadOf, loads, contextsOf
 abbrev KeepsItem : Forest → Split × Store → Type 0
 KeepsItem f e = loads (e .0 .kept) + loads (e .0 .moved) ≡ loads f
 
-class-loads : (h : Head) (k : Forest) (st : Store) → h .tag ≡ 15 → loads ((transformClassDecl h k st) .0) ≡ loads (one h k)
+class-loads : (h : Head) (k : Forest) (st : Store) → h .tag ≡ Tag.Class → loads ((transformClassDecl h k st) .0) ≡ loads (one h k)
 unfolding transformClassDecl loads loadOf
 class-loads h k st e = omega (arith, ap loadOf e)
 
@@ -61,7 +62,7 @@ specifiers-loads st (y ∷ ys) = omega (arith, specifiers-loads st ys)
 
 expression-loads : (h : Head) → loadOf (asExpression h .tag) ≡ loadOf (h .tag)
 unfolding asExpression
-expression-loads h = ap loadOf (expression-tag (eqb (h .tag) 15) h refl)
+expression-loads h = ap loadOf (expression-tag (eqb (h .tag) Tag.Class) h refl)
 
 item-keeps : {x : ItemAct} {h : Head} {k : Forest} (st : Store) → ChosenItem Alone x h k → KeepsItem (one h k) (itemAs x h k st)
 unfolding itemAs topLevelClass topLevelDeclaration exportedDeclaration exportedClass defaultClass defaultValue loads loadOf
@@ -71,8 +72,8 @@ item-keeps {h = h} {k = k} st as-class = omega (arith, class-loads h k st refl)
 item-keeps st as-declaration = omega arith
 item-keeps st (as-exported-declaration {k = k} alone) =
     omega (arith, specifiers-loads ((setFlagsOf (boundNames k) 1 st) .1) (boundNames k))
-item-keeps st (as-exported-class {x = x} {y = y} {z = z} {k = k} alone) = omega (arith, class-loads (hd 15 x y z) k st refl)
-item-keeps st (as-default-class {y = y} {z = z} {k = k} named alone) = omega (arith, class-loads (hd 15 0 y z) k st refl)
+item-keeps st (as-exported-class {x = x} {y = y} {z = z} {k = k} alone) = omega (arith, class-loads (hd Tag.Class x y z) k st refl)
+item-keeps st (as-default-class {y = y} {z = z} {k = k} named alone) = omega (arith, class-loads (hd Tag.Class Form.Declaration y z) k st refl)
 item-keeps st (as-default-value {h = h} e d alone) = omega (arith, expression-loads h)
 
 items-keep : (f : Forest) (st : Store) → Exports f → KeepsItem f (programItems f st)

@@ -6,6 +6,8 @@ use mathlib.Core.List.{List, [], _∷_, _++_}
 use Prim.Native.Nat.{ℕ, _+_, _-_, _≤_}
 use native.Mathlib.Omega.{arith}
 use lib.ListN.{length}
+use Rattle.meaning.specs.Numbers.Tag
+use Rattle.meaning.specs.Numbers.Parts
 use Rattle.meaning.specs.Tree.{Head, hd, Forest, Node, node, single, count, size, _&_}
 use Rattle.meaning.specs.File.{Scope, Symbol}
 use Rattle.meaning.specs.Scoping.{Store, createSymbol, insertScopeBelow, moveBinding, moveBindings, blockScopedIn}
@@ -87,7 +89,7 @@ module _ (cur hoist : ℕ) (h : Head) (list : Forest) (st : Store) where
   pub block-node : (n : ℕ) → n ≡ awaits list
       → (let p = blockParts cur hoist list st n in
       transformBlockStatement cur hoist h list st .0
-      ≡ node (hd 11 3 0 0) (block (h .a) (contextOf p & takeUp false (p .context .0) false list) & handlersOf p))
+      ≡ node (hd Tag.Try Parts.Both 0 0) (block (h .a) (contextOf p & takeUp false (p .context .0) false list) & handlersOf p))
   unfolding transformBlockStatement
   block-node n e = list-node cur hoist list st listed (h .a) cur n e
 
@@ -172,7 +174,7 @@ module _ (cur hoist : ℕ) (list : Forest) (st : Store) where
   pub body-node : (n : ℕ) → n ≡ awaits list
       → (let p = bodyParts cur hoist list st n in
       enterFunctionBody cur hoist list st .0
-      ≡ node (hd 14 0 0 0)
+      ≡ node (hd Tag.Body 0 0 0)
       (single (tryStatement (block (p .scope .0 - 1) (contextOf p & takeUp false (p .context .0) false list) & handlersOf p))))
   unfolding enterFunctionBody
   body-node n e =
@@ -180,7 +182,7 @@ module _ (cur hoist : ℕ) (list : Forest) (st : Store) where
       let list′ = contextOf p & takeUp false (p .context .0) false list in
       let ys = blockScopedIn (below .symbols) cur (below .symbols) 1 in
       let s : scope ≡ p .scope .0 - 1 = omega (arith, below-number cur list bodyListed, bindings-moved ys scope below .scopes) in
-      ap (λ (try : Node). node (hd 14 0 0 0) (single try))
+      ap (λ (try : Node). node (hd Tag.Body 0 0 0) (single try))
       (list-node cur hoist list st moved scope cur n e ∙ ap (λ (x : ℕ). tryStatement (block x list′ & handlersOf p)) s)
 
   pub body-room : (n : ℕ) → Room (enterFunctionBody cur hoist list st .1) → bodyParts cur hoist list st n .scope .0 + 2 ≤ 65535

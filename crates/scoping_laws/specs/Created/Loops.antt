@@ -7,6 +7,9 @@ use Prim.Native.Nat.{ℕ, _+_, _-_, _≤_}
 use native.Mathlib.Omega.{arith}
 use lib.Dec.{eqb}
 use lib.ListN.{length}
+use Rattle.meaning.specs.Numbers.Tag
+use Rattle.meaning.specs.Numbers.Kind
+use Rattle.meaning.specs.Numbers.Parts
 use Rattle.meaning.specs.Tree.{Head, hd, Forest, node, one, count, size, _&_}
 use Rattle.meaning.specs.Scoping.{Store, createSymbol, createChildScope, changeScopeParent, insertScopeBelow}
 use Rattle.meaning.specs.Shapes.{block, declaration, tryStatement}
@@ -97,7 +100,7 @@ module _ (st : Store) (cur context scope : ℕ) (list : Forest) (needs : Bool) w
 
 load-try-node : (st : Store) (cur context s scope : ℕ) (list : Forest) (needs : Bool) (n : ℕ) → needs ≡ not (eqb n 0) → s ≡ scope
     → (let p = loadParts context cur st n in
-    createTryStmt s (declaration 0 context (helperLoad cur st .0) & list) context cur needs (helperLoad cur st .1) .0
+    createTryStmt s (declaration Kind.Var context (helperLoad cur st .0) & list) context cur needs (helperLoad cur st .1) .0
     ≡ tryStatement (block scope (contextOf p & list) & handlersOf p))
 unfolding contextOf
 load-try-node st cur context s scope list needs n e o =
@@ -143,7 +146,7 @@ module _ (cur hoist : ℕ) (h : Head) (k : Forest) (st : Store) where
   pub for-node : (n : ℕ) → n ≡ awaits (forList (one h k))
       → (let p = forParts cur hoist h k st n in
       transformForStatement cur hoist h k st .0
-      ≡ node (hd 11 3 0 0) (block (p .scope .0 - 1) (contextOf p & takeUpFor (p .context .0) (one h k)) & handlersOf p))
+      ≡ node (hd Tag.Try Parts.Both 0 0) (block (p .scope .0 - 1) (contextOf p & takeUpFor (p .context .0) (one h k)) & handlersOf p))
   unfolding transformForStatement makeContext createSymbol
   for-node n e =
       let p = forParts cur hoist h k st n in
@@ -216,7 +219,7 @@ module _ (cur : ℕ) (h : Head) (k : Forest) (st : Store) where
   pub switch-node : (n : ℕ) → anyCaseAwaitUsing k ≡ not (eqb n 0)
       → (let p = switchParts cur h st n in
       transformSwitchStatement cur h k st .0
-      ≡ node (hd 11 3 0 0) (block (p .scope .0 - 1) (contextOf p & one h (takeUpCases (p .context .0) false k)) & handlersOf p))
+      ≡ node (hd Tag.Try Parts.Both 0 0) (block (p .scope .0 - 1) (contextOf p & one h (takeUpCases (p .context .0) false k)) & handlersOf p))
   unfolding transformSwitchStatement makeContext createSymbol
   switch-node n e =
       let p = switchParts cur h st n in

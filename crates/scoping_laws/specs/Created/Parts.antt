@@ -6,6 +6,7 @@ use mathlib.Core.List.{List}
 use Prim.Native.Nat.{ℕ, _+_, _-_, _≤_}
 use native.Mathlib.Omega.{arith}
 use lib.ListN.{length}
+use Rattle.meaning.specs.Numbers.Tag
 use Rattle.meaning.specs.Tree.{Head, hd, Forest, Node, node, single, _&_}
 use Rattle.meaning.specs.Scoping.{
   Store,
@@ -112,7 +113,7 @@ module _ (h : Head) (list : Forest) (st : Store) where
   pub static-node : (n : ℕ) → n ≡ awaits list
       → (let p = staticParts h list st n in
       exitStaticBlock h list st .0
-      ≡ node (hd 16 (p .scope .0 - 1) 0 0)
+      ≡ node (hd Tag.StaticBlock (p .scope .0 - 1) 0 0)
       (single (tryStatement (block (h .a) (contextOf p & takeUp false (p .context .0) false list) & handlersOf p))))
   unfolding exitStaticBlock transformStatements makeContext createSymbol
   static-node n e =
@@ -124,7 +125,7 @@ module _ (h : Head) (list : Forest) (st : Store) where
         binding-grows y scope between .scopes,
         scope-flags (h .a) 1 (moveBinding y scope between .1) .scopes,
       ) in
-      ap₂ (λ (x : ℕ) (try : Node). node (hd 16 x 0 0) (single try)) s (list-node (h .a) (h .a) list st changed (h .a) scope n e)
+      ap₂ (λ (x : ℕ) (try : Node). node (hd Tag.StaticBlock x 0 0) (single try)) s (list-node (h .a) (h .a) list st changed (h .a) scope n e)
 
   pub static-room : (n : ℕ) → Room (exitStaticBlock h list st .1) → staticParts h list st n .scope .0 + 2 ≤ 65535
   unfolding exitStaticBlock transformStatements makeContext createSymbol
@@ -181,12 +182,12 @@ module _ (cur hoist : ℕ) (h : Head) (list : Forest) (st : Store) where
   pub part-node : (n : ℕ) → n ≡ awaits list
       → (let p = partParts cur h list st n in
       transformTryBlock cur hoist h list st .0
-      ≡ node (hd 2 (p .scope .0 - 1) 0 0)
+      ≡ node (hd Tag.Block (p .scope .0 - 1) 0 0)
       (single (tryStatement (block (h .a) (contextOf p & takeUp false (p .context .0) false list) & handlersOf p))))
   unfolding transformTryBlock
   part-node n e =
       let s : partScope ≡ partParts cur h list st n .scope .0 - 1 = omega (arith, inserted-number partListed (h .a) 0) in
-      ap₂ (λ (x : ℕ) (try : Node). node (hd 2 x 0 0) (single try)) s (list-node cur (h .a) list st part (h .a) partScope n e)
+      ap₂ (λ (x : ℕ) (try : Node). node (hd Tag.Block x 0 0) (single try)) s (list-node cur (h .a) list st part (h .a) partScope n e)
 
   pub part-room : (n : ℕ) → Room (transformTryBlock cur hoist h list st .1) → partParts cur h list st n .scope .0 + 2 ≤ 65535
   unfolding transformTryBlock

@@ -7,6 +7,9 @@ use Prim.Native.Nat.{ℕ, suc, _+_, _≤_}
 use native.Mathlib.Omega.{arith}
 use lib.Dec.{eqb}
 use lib.ListN.{length}
+use Rattle.meaning.specs.Numbers.Tag
+use Rattle.meaning.specs.Numbers.Kind
+use Rattle.meaning.specs.Numbers.Form
 use Rattle.meaning.specs.Tree.{if_then_else_, Head, hd, Forest, none, one, count, size}
 use Rattle.meaning.specs.Scoping.{Store, symbolIn, createSymbol, setSymbolFlags}
 use Rattle.meaning.specs.Shapes.{declaration, exportNamed, specifier}
@@ -81,7 +84,7 @@ module _ (z : List ℕ) where
         next-gapped z a (3 + g) x (rowsOf k ++ v),
         preserve-held h st (count k) zy ag room,
         preserve-number h st,
-        value-law z (h .c) (hd 15 1 (h .b) n) k x a g v q,
+        value-law z (h .c) (hd Tag.Class Form.Expression (h .b) n) k x a g v q,
       )
 
   -- exported under a name, the export's own row being dropped
@@ -123,10 +126,10 @@ module _ (z : List ℕ) where
     -- `export default e`
     expression-row : asExpressionF (line h (count k)) ≡ line (asExpression h) (count k)
     unfolding asExpressionF asExpression
-    expression-row = by (eqb (h .tag) 15)
+    expression-row = by (eqb (h .tag) Tag.Class)
       where
         by : (c : Bool) → (if c then closedRowF 15 1 (h .b) (h .c) (count k) else line h (count k))
-            ≡ line (if c then hd 15 1 (h .b) (h .c) else h) (count k)
+            ≡ line (if c then hd Tag.Class Form.Expression (h .b) (h .c) else h) (count k)
         by true = refl
         by false = refl
 
@@ -144,7 +147,7 @@ module _ (z : List ℕ) where
           export-rows-law z n 3 a (3 + g) item (omega arith),
           symbol-number st 4 1 1 0,
           value-law z n (asExpression h) k (line h (count k)) (a ++ m) g v (omega (arith, export-length n 3 a)),
-          append-assoc a m (rowsOf (declaration 0 n (one (asExpression h) k))),
+          append-assoc a m (rowsOf (declaration Kind.Var n (one (asExpression h) k))),
         )
 
 -- ---- the store

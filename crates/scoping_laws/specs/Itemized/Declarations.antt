@@ -7,6 +7,8 @@ use Prim.Native.Nat.{ℕ, suc, _+_, _≤_}
 use native.Mathlib.Nat.{add-zero}
 use native.Mathlib.Omega.{arith}
 use lib.ListN.{length, length-append}
+use Rattle.meaning.specs.Numbers.Tag
+use Rattle.meaning.specs.Numbers.Kind
 use Rattle.meaning.specs.Tree.{if_then_else_, Head, hd, Forest, count, size}
 use Rattle.meaning.specs.Scoping.{Store, setSymbolFlags, setFlagsOf}
 use Rattle.meaning.specs.Shapes.{exportNamed}
@@ -39,11 +41,11 @@ flags-symbols ys st = ap (λ (x : Ctx). x .symbols) (flags-ctx ys st) ∙ sym (a
 
 -- ---- rows
 
-recorded-row : (h : Head) (n : ℕ) → recordedF (line h n) ≡ line (hd 5 0 (if isUsing h then h .a else 0) 0) n
+recorded-row : (h : Head) (n : ℕ) → recordedF (line h n) ≡ line (hd Tag.Declaration Kind.Var (if isUsing h then h .a else 0) 0) n
 unfolding recordedF
 recorded-row h n = by (isUsing h)
   where
-    by : (c : Bool) → (if c then closedRowF 5 0 (h .a) 0 n else closedRowF 5 0 0 0 n) ≡ line (hd 5 0 (if c then h .a else 0) 0) n
+    by : (c : Bool) → (if c then closedRowF 5 0 (h .a) 0 n else closedRowF 5 0 0 0 n) ≡ line (hd Tag.Declaration Kind.Var (if c then h .a else 0) 0) n
     by true = refl
     by false = refl
 
@@ -92,7 +94,7 @@ module _ (z : List ℕ) where
   unfolding declaredF topLevelDeclaration rowsOf
   declared-law h k st zy a g v q =
       let x = line h (count k) in
-      let h′ = hd 5 0 (if isUsing h then h .a else 0) 0 in
+      let h′ = hd Tag.Declaration Kind.Var (if isUsing h then h .a else 0) 0 in
       rw (
         next-gapped z a g x (rowsOf k ++ v),
         names-flagged x k a g v q st zy,
@@ -122,7 +124,7 @@ module _ (z : List ℕ) where
         emit-gapped z a (n + g) (x ∷ w) e (omega arith),
         ← flags-ctx (boundNames k) st,
         specifiers-law z k h (count k) st′ zy (a ++ e ∷ []) g v (omega (arith, length-snoc a e)),
-        pass-record z (hd 5 0 0 0) k x ((a ++ e ∷ []) ++ m) g v
+        pass-record z (hd Tag.Declaration Kind.Var 0 0) k x ((a ++ e ∷ []) ++ m) g v
             (omega (arith, length-append (a ++ e ∷ []) m, length-snoc a e, length-specifiers st′ (boundNames k))),
         exported-rows st′ (boundNames k),
       )

@@ -7,6 +7,7 @@ use Prim.Native.Nat.{ℕ, _+_, _<_}
 use native.Mathlib.Omega.{arith}
 use lib.Dec.{eqb}
 use lib.ListN.{length}
+use Rattle.meaning.specs.Numbers.Tag
 use Rattle.meaning.specs.Tree.{if_then_else_, Head, Forest, none, more, count, size}
 use Rattle.meaning.specs.Program.{
   ItemAct,
@@ -84,7 +85,7 @@ kind-is t at (as-exported-declaration alone) e d = rw (e, d)
 kind-is t at (as-exported-class alone) e d = rw (e, d)
 kind-is t at (as-default-class named alone) e d = rw (e, d, named)
 kind-is t at (as-default-value {h = h} f c alone) e d =
-    rw (e, d) (value-kind (eqb (h .a) 0) (eqb (h .tag) 13) (eqb (h .tag) 15) (eqb (h .c) 0) f c)
+    rw (e, d) (value-kind (eqb (h .a) 0) (eqb (h .tag) Tag.Function) (eqb (h .tag) Tag.Class) (eqb (h .c) 0) f c)
 
 child-row : (z : List ℕ) (a : List Row) (g : ℕ) (x : Row) (k : Forest) (v : List Row) → length a + g < 65535
     → (let b = gapped z a g (x ∷ (rowsOf k ++ v)) in ChildRow (b .t) (b .read) k)

@@ -8,6 +8,7 @@ use native.Mathlib.Nat.{zero-add, add-zero, suc-add}
 use native.Mathlib.Omega.{arith}
 use lib.Dec.{eqb}
 use lib.ListN.{length, length-append}
+use Rattle.meaning.specs.Numbers.Tag
 use Rattle.meaning.specs.Tree.{if_then_else_, Head, Forest, none, more, count, size}
 use Rattle.meaning.specs.File.{Symbol}
 use Rattle.meaning.specs.Scoping.{Store, symbolIn, setSymbolFlags, setFlagsOf}
@@ -55,7 +56,7 @@ use Rattle.scoping_laws.specs.Itemized.Visits.{visited, Visiting, visits
 names-size : (f : Forest) → length (namesIn f) ≤ size f
 unfolding namesIn size
 names-size none = omega arith
-names-size (more h k r) = omega (arith, by (eqb (h .tag) 26), names-size r)
+names-size (more h k r) = omega (arith, by (eqb (h .tag) Tag.Name), names-size r)
   where
     by : (c : Bool) → length (if c then h .a ∷ namesIn r else namesIn r) ≤ suc (length (namesIn r))
     by true = omega arith
@@ -66,8 +67,8 @@ bound-size : (f : Forest) → length (boundNames f) ≤ size f
 unfolding boundNames size
 bound-size none = omega arith
 bound-size (more h k r) =
-    let own : List ℕ = if eqb (h .tag) 6 then namesIn k else [] in
-    omega (arith, by (eqb (h .tag) 6), names-size k, length-append own (boundNames r), bound-size r)
+    let own : List ℕ = if eqb (h .tag) Tag.Declarator then namesIn k else [] in
+    omega (arith, by (eqb (h .tag) Tag.Declarator), names-size k, length-append own (boundNames r), bound-size r)
   where
     by : (c : Bool) → length (if c then namesIn k else []) ≤ length (namesIn k)
     by true = omega arith

@@ -5,6 +5,7 @@ use mathlib.Core.List.{List, [], _∷_, _++_, append-assoc, append-nil}
 use Prim.Native.Nat.{ℕ, zero, suc, _+_, _≤_, _<_}
 use native.Mathlib.Omega.{arith}
 use lib.ListN.{length, length-append}
+use Rattle.meaning.specs.Numbers.Kind
 use Rattle.meaning.specs.Tree.{Head, Forest, none, one, count, size}
 use Rattle.meaning.specs.Shapes.{declaration, exportNamed, specifier}
 use Rattle.tables.specs.Table.{cap-one, capped, columnF, rowF, closedRowF, setRowF}
@@ -47,7 +48,7 @@ module _ (z : List ℕ) (a : List Row) (g : ℕ) (x : Row) where
 
 -- a Declaration of a name with an initializer
 declaration-rows : (y : ℕ) (e : Forest)
-    → rowsOf (declaration 0 y e) ≡ closedRowF 5 0 0 0 1 ∷ closedRowF 6 0 1 0 (suc (count e)) ∷ closedRowF 26 y 0 0 0 ∷ rowsOf e
+    → rowsOf (declaration Kind.Var y e) ≡ closedRowF 5 0 0 0 1 ∷ closedRowF 6 0 1 0 (suc (count e)) ∷ closedRowF 26 y 0 0 0 ∷ rowsOf e
 unfolding rowsOf count
 declaration-rows y e = simp append-nil
 
@@ -100,7 +101,7 @@ module _ (z : List ℕ) where
   -- `var y = ` and the next record, with another row
   pub value-law : (y : ℕ) (h : Head) (k : Forest) (x : Row) (a : List Row) (g : ℕ) (v : List Row)
       → length a + (3 + g) + suc (size k) ≤ 65535
-      → valueRowsF y (line h (count k)) (gapped z a (3 + g) (x ∷ (rowsOf k ++ v))) ≡ gapped z (a ++ rowsOf (declaration 0 y (one h k))) g v
+      → valueRowsF y (line h (count k)) (gapped z a (3 + g) (x ∷ (rowsOf k ++ v))) ≡ gapped z (a ++ rowsOf (declaration Kind.Var y (one h k))) g v
   unfolding valueRowsF count
   value-law y h k x a g v q =
       let m = closedRowF 5 0 0 0 1 ∷ closedRowF 6 0 1 0 2 ∷ closedRowF 26 y 0 0 0 ∷ [] in

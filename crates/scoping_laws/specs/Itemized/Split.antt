@@ -4,6 +4,7 @@ use mathlib.Core.Path.{_≡_, refl}
 use mathlib.Core.Bool.{Bool, true, false}
 use mathlib.Core.List.{[], _∷_}
 use Prim.Native.Nat.{ℕ}
+use Rattle.meaning.specs.Numbers.Tag
 use Rattle.meaning.specs.Tree.{oneOf, Head, Forest, none, more}
 use Rattle.meaning.specs.Scoping.{Store}
 use Rattle.meaning.specs.Program.{transformClassDecl, Split, topLevelClass, topLevelDeclaration, exportedDeclaration, exportedClass, defaultClass, defaultValue, ItemAct, itemAs, programItem}
@@ -11,7 +12,7 @@ use Rattle.charge_laws.specs.Growth.Items.{Anything, anything, staying-tag, Cho
 
 -- functions, imports and exports
 abbrev pub stays : ℕ → Bool
-stays t = oneOf (13 ∷ 17 ∷ 18 ∷ 19 ∷ []) t
+stays t = oneOf (Tag.Function ∷ Tag.ModuleLine ∷ Tag.DefaultExport ∷ Tag.ExportedDeclaration ∷ []) t
 
 -- each record of a list stays, or none does
 abbrev pub Stay : Bool → Forest → Type 0

@@ -8,6 +8,7 @@ use native.Mathlib.Nat.{zero-add, add-zero}
 use native.Mathlib.Omega.{arith}
 use lib.Dec.{eqb}
 use lib.ListN.{length, length-append}
+use Rattle.meaning.specs.Numbers.Tag
 use Rattle.meaning.specs.Tree.{if_then_else_, Head, Forest, none, more, count, size}
 use Rattle.meaning.specs.Contexts.{namesIn}
 use Rattle.meaning.specs.Program.{boundNames}
@@ -90,7 +91,7 @@ module _ {A S : Type 0} {Fits : A → List ℕ → Type 0} {z : List ℕ} {base 
         turn m x ys o (rw (some s, and-false (eqb c 0)) (and-false (eqb d 0)))
         ∙ ap (run m) (L .passes x ys o p (rw (some s)) ∙ rw (some s, row-is x ys p, next-is, one-less s, cap-sum s n i))
 
-    pass-child : (x : A) (ys : List ℕ) (d c m : ℕ) → Fits x ys → eqb (h .tag) 26 ≡ false
+    pass-child : (x : A) (ys : List ℕ) (d c m : ℕ) → Fits x ys → eqb (h .tag) Tag.Name ≡ false
         → run (suc m) (standing x ys b d (suc c) 0) ≡ run m (standing x ys after d c n)
     unfolding isNameF nextNameF namesDoneF
     pass-child x ys d c m p f =
@@ -98,7 +99,7 @@ module _ {A S : Type 0} {Fits : A → List ℕ → Type 0} {z : List ℕ} {base 
         turn m x ys o (rw (some c) (and-false (eqb d 0)))
         ∙ ap (run m) (L .passes x ys o p (rw (some c, tag-is x ys p) f) ∙ rw (some c, row-is x ys p, next-is, one-less c))
 
-    visit-child : (x : A) (ys : List ℕ) (d c m : ℕ) → Fits x (h .a ∷ ys) → eqb (h .tag) 26 ≡ true
+    visit-child : (x : A) (ys : List ℕ) (d c m : ℕ) → Fits x (h .a ∷ ys) → eqb (h .tag) Tag.Name ≡ true
         → run (suc m) (standing x (h .a ∷ ys) b d (suc c) 0) ≡ run m (standing (L .go (h .a) x) ys after d c n)
     unfolding isNameF nextNameF namesDoneF
     visit-child x ys d c m p f =
@@ -110,14 +111,14 @@ module _ {A S : Type 0} {Fits : A → List ℕ → Type 0} {z : List ℕ} {base 
         ∙ rw (some c, row-is x (y ∷ ys) p, next-is, one-less c))
 
     -- a Declarator is entered, any other record passed over
-    enter : (x : A) (ys : List ℕ) (d m : ℕ) → Fits x ys → eqb (h .tag) 6 ≡ true
+    enter : (x : A) (ys : List ℕ) (d m : ℕ) → Fits x ys → eqb (h .tag) Tag.Declarator ≡ true
         → run (suc m) (standing x ys b (suc d) 0 0) ≡ run m (standing x ys after d n 0)
     unfolding isNameF nextNameF namesDoneF
     enter x ys d m p f =
         let o = names (base + length b) (suc d) 0 0 in
         turn m x ys o (rw (some d)) ∙ ap (run m) (L .passes x ys o p refl ∙ rw (row-is x ys p, f, next-is, one-less d))
 
-    pass : (x : A) (ys : List ℕ) (d m : ℕ) → Fits x ys → eqb (h .tag) 6 ≡ false
+    pass : (x : A) (ys : List ℕ) (d m : ℕ) → Fits x ys → eqb (h .tag) Tag.Declarator ≡ false
         → run (suc m) (standing x ys b (suc d) 0 0) ≡ run m (standing x ys after d 0 n)
     unfolding isNameF nextNameF namesDoneF
     pass x ys d m p f =
@@ -169,7 +170,7 @@ module _ {A S : Type 0} {Fits : A → List ℕ → Type 0} {z : List ℕ} {base 
   fits-after (y ∷ ns) x ys p = fits-after ns (L .go y x) ys (L .next x y (ns ++ ys) p)
 
   -- the first child of some, by whether it is a Name; below it nothing is visited
-  first-child : (c : Bool) (h : Head) (k : Forest) → eqb (h .tag) 26 ≡ c
+  first-child : (c : Bool) (h : Head) (k : Forest) → eqb (h .tag) Tag.Name ≡ c
       → (b u : List Row) (x : A) (ys : List ℕ) (d n m : ℕ) → Fits x ((if c then h .a ∷ [] else []) ++ ys)
       → w ≡ b ++ line h (count k) ∷ (rowsOf k ++ u) → base + length b + suc (size k) ≤ 65535
       → run (suc (size k + m)) (standing x ((if c then h .a ∷ [] else []) ++ ys) b d (suc n) 0)
@@ -180,9 +181,9 @@ module _ {A S : Type 0} {Fits : A → List ℕ → Type 0} {z : List ℕ} {base 
   first-child false h k o b u x ys d n m p e i =
       pass-child h (count k) b (rowsOf k ++ u) e (omega arith) x ys d n (size k + m) p o ∙ below-all h k b u x ys d n m p e i
 
-  names-first : (h : Head) (k r : Forest) → namesIn (more h k r) ≡ (if eqb (h .tag) 26 then h .a ∷ [] else []) ++ namesIn r
+  names-first : (h : Head) (k r : Forest) → namesIn (more h k r) ≡ (if eqb (h .tag) Tag.Name then h .a ∷ [] else []) ++ namesIn r
   unfolding namesIn
-  names-first h k r = by (eqb (h .tag) 26)
+  names-first h k r = by (eqb (h .tag) Tag.Name)
     where
       by : (c : Bool) → (if c then h .a ∷ namesIn r else namesIn r) ≡ (if c then h .a ∷ [] else []) ++ namesIn r
       by true = refl
@@ -196,7 +197,7 @@ module _ {A S : Type 0} {Fits : A → List ℕ → Type 0} {z : List ℕ} {base 
   unfolding rowsOf count size namesIn
   children-list none b u x ys d m p e i = simp (append-nil, zero-add)
   children-list (more h k r) b u x ys d m p e i =
-      let c = eqb (h .tag) 26 in
+      let c = eqb (h .tag) Tag.Name in
       let own : List ℕ = if c then h .a ∷ [] else [] in
       let e₁ : namesIn (more h k r) ++ ys ≡ own ++ (namesIn r ++ ys) =
       rw (names-first h k r) (append-assoc own (namesIn r) ys) in
@@ -208,7 +209,7 @@ module _ {A S : Type 0} {Fits : A → List ℕ → Type 0} {z : List ℕ} {base 
       ∙ rw (names-first h k r, visited-++ (L .go) own (namesIn r) x) (simp append-assoc)
 
   -- the first of some records, by whether it is a Declarator
-  first-record : (c : Bool) (h : Head) (k : Forest) → eqb (h .tag) 6 ≡ c
+  first-record : (c : Bool) (h : Head) (k : Forest) → eqb (h .tag) Tag.Declarator ≡ c
       → (b u : List Row) (x : A) (ys : List ℕ) (d m : ℕ) → Fits x ((if c then namesIn k else []) ++ ys)
       → w ≡ b ++ line h (count k) ∷ (rowsOf k ++ u) → base + length b + suc (size k) ≤ 65535
       → run (suc (size k + m)) (standing x ((if c then namesIn k else []) ++ ys) b (suc d) 0 0)
@@ -228,7 +229,7 @@ module _ {A S : Type 0} {Fits : A → List ℕ → Type 0} {z : List ℕ} {base 
   unfolding rowsOf count size boundNames
   records-list none b u x m p e i = simp (append-nil, zero-add)
   records-list (more h k r) b u x m p e i =
-      let c = eqb (h .tag) 6 in
+      let c = eqb (h .tag) Tag.Declarator in
       let own : List ℕ = if c then namesIn k else [] in
       ap (λ (j : ℕ). run j (standing x (own ++ boundNames r) b (suc (count r)) 0 0)) (omega arith)
       ∙ first-record c h k refl b (rowsOf r ++ u) x (boundNames r) (count r) (size r + m) p (e ∙ simp append-assoc) (omega arith)

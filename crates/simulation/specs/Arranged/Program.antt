@@ -5,6 +5,7 @@ use mathlib.Core.List.{List, [], _∷_, _++_, append-assoc}
 use Prim.Native.Nat.{ℕ, suc, _+_, _≤_, _<_}
 use native.Mathlib.Omega.{arith}
 use lib.ListN.{length, length-append}
+use Rattle.meaning.specs.Numbers.Tag
 use Rattle.meaning.specs.Tree.{Head, hd, Forest, Node, one, count, size, _&_}
 use Rattle.meaning.specs.File.{Scope}
 use Rattle.meaning.specs.Scoping.{Store, createChildScope, insertScopeBelow}
@@ -87,7 +88,7 @@ module _ (done : Forest) (h : Head) (k r : Forest) (path : List Crumb) (st : Sto
   rows-are : rows ≡ gapped (z .records) (before here g ++ rowsOf (one (e .0 .head) (e .0 .children))) 0 (behind r path) .t
   unfolding enterProgram insertScopeBelow createChildScope gapped free count
   rows-are =
-      let b = hd 2 (suc (length (st′ .scopes))) 0 0 in
+      let b = hd Tag.Block (suc (length (st′ .scopes))) 0 0 in
       let c : length (st′ .scopes) + 1 ≡ suc (length (st′ .scopes)) = omega arith in
       rw (
         one-row h (s .kept & one b (s .moved)),

@@ -6,6 +6,8 @@ use mathlib.Core.List.{List, _∷_, _++_, append-assoc}
 use Prim.Native.Nat.{ℕ, suc, _+_, _≤_}
 use native.Mathlib.Omega.{arith}
 use lib.ListN.{length}
+use Rattle.meaning.specs.Numbers.Tag
+use Rattle.meaning.specs.Numbers.Kind
 use Rattle.meaning.specs.Tree.{Head, hd, Forest, more, one, size, _&_}
 use Rattle.meaning.specs.Shapes.{block, declaration, read}
 use Rattle.meaning.specs.Scoping.{Store, symbolIn, createSymbol, insertScopeBelow, moveBinding}
@@ -59,7 +61,7 @@ moved-held y scope st zs zy = (binding-moved st y zy scope, refl, sym (binding-c
 module _ (h h₁ : Head) (k₁ : Forest) (h₂ : Head) (k₂ : Forest) (h₃ : Head) (k₃ r₃ : Forest) (kind y temp : ℕ) where
   -- with a body
   abbrev bodied : Forest → Forest
-  bodied body = more (hd 5 2 0 0) (rebind temp k₁) (more h₂ k₂ (body & r₃))
+  bodied body = more (hd Tag.Declaration Kind.Const 0 0) (rebind temp k₁) (more h₂ k₂ (body & r₃))
 
   insert-size : size (one h (bodied (one h₃ (declaration kind y (read temp) & k₃))))
       ≡ size (one h (more h₁ k₁ (more h₂ k₂ (more h₃ k₃ r₃)))) + 4

@@ -7,6 +7,7 @@ use Prim.Native.Nat.{ℕ, suc, _+_, _≤_, _<_}
 use native.Mathlib.Omega.{arith}
 use lib.Dec.{eqb}
 use lib.ListN.{length, length-append}
+use Rattle.meaning.specs.Numbers.Tag
 use Rattle.meaning.specs.Tree.{if_then_else_, Head, Forest, none, more, one, count, size}
 use Rattle.meaning.specs.Scoping.{Store, insertScopeBelow}
 use Rattle.meaning.specs.Statements.{isUsing}
@@ -120,7 +121,7 @@ module _ (done : Forest) (h h₁ : Head) (k₁ : Forest) (h₂ : Head) (k₂ : F
 
     inserts-is : Begins k₁ → Agreed st
         → insertsF t (inSymbols (held here g z .symbols) (held here g z .walk .ctx)) gap
-        ≡ (eqb (h₃ .tag) 2 && not (bindsName (st .asRead) (h₃ .a) (boundSymbol k₁)))
+        ≡ (eqb (h₃ .tag) Tag.Block && not (bindsName (st .asRead) (h₃ .a) (boundSymbol k₁)))
     unfolding insertsF storeAt
     inserts-is b a =
         ap (λ (q : SymbolRows). insertsF t q gap) (symbols-are here g z)

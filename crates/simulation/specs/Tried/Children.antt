@@ -5,6 +5,7 @@ use mathlib.Core.List.{_++_}
 use mathlib.Core.Bool.{Bool, true, false}
 use Prim.Native.Nat.{ℕ, _+_}
 use lib.Dec.{eqb}
+use Rattle.meaning.specs.Numbers.Tag
 use Rattle.meaning.specs.Tree.{if_then_else_, Head, Forest, none, more, one, Node, single, count}
 use Rattle.meaning.specs.Scoping.{Store, Change}
 use Rattle.meaning.specs.Contexts.{transformTryParts}
@@ -27,7 +28,7 @@ use Rattle.simulation.specs.Tried.Handler.{handler-law}
 abbrev childIf : Bool → ℕ → ℕ → Head → Forest → Change Node
 childIf b cur hoist h k = if b then transformHandler h k (transformTryParts cur hoist k) else partOf cur hoist h k
 
-child-by : (b : Bool) (cur hoist : ℕ) (h : Head) (k : Forest) (st : Store) → (b ≡ true → Lacks 12 k) → Agreed st
+child-by : (b : Bool) (cur hoist : ℕ) (h : Head) (k : Forest) (st : Store) → (b ≡ true → Lacks Tag.Catch k) → Agreed st
     → (let e = childIf b cur hoist h k st in
     Rewrites (if b then transformHandlerF cur hoist else transformPartF cur hoist) (if b then partRows k else ownRows h k)
     (rowsOf (one h k)) (rowsOf (single (e .0))) st (e .1))
@@ -38,12 +39,12 @@ choose : (b : Bool) (f g : PartingF → PartingF) (s : PartingF) → (if b then 
 choose true f g s = refl
 choose false f g s = refl
 
-child-law : (cur hoist : ℕ) (h : Head) (k : Forest) (st : Store) → (eqb (h .tag) 12 ≡ true → Lacks 12 k) → Agreed st
-    → (let e = childIf (eqb (h .tag) 12) cur hoist h k st in
+child-law : (cur hoist : ℕ) (h : Head) (k : Forest) (st : Store) → (eqb (h .tag) Tag.Catch ≡ true → Lacks Tag.Catch k) → Agreed st
+    → (let e = childIf (eqb (h .tag) Tag.Catch) cur hoist h k st in
     Rewrites (transformChildF cur hoist) (childRows h k) (rowsOf (one h k)) (rowsOf (single (e .0))) st (e .1))
 unfolding transformChildF rowF
 child-law cur hoist h k st l a =
-    let b = eqb (h .tag) 12 in
+    let b = eqb (h .tag) Tag.Catch in
     let p = child-by b cur hoist h k st l a in
     let x = line h (count k) in
     record {
@@ -66,6 +67,6 @@ pub children-law : (f : Forest) (cur hoist : ℕ) (st : Store) → Catches f →
 unfolding transformChildrenF transformTryParts tryRows count
 children-law none cur hoist st l a = no-record (transformChildF cur hoist) st a
 children-law (more h k r) cur hoist st l a =
-    let e = childIf (eqb (h .tag) 12) cur hoist h k st in
+    let e = childIf (eqb (h .tag) Tag.Catch) cur hoist h k st in
     let p = child-law cur hoist h k st (l .0) a in
     next-record h k r (e .0) _ p (children-law r cur hoist (e .1) (l .1) (p .agreed))

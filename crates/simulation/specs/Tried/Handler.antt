@@ -7,6 +7,7 @@ use Prim.Native.Nat.{ℕ, suc, _+_, _≤_, _<_}
 use native.Mathlib.Omega.{arith}
 use lib.Dec.{eqb}
 use lib.ListN.{length}
+use Rattle.meaning.specs.Numbers.Tag
 use Rattle.meaning.specs.Tree.{if_then_else_, Head, Forest, one, single, count, size}
 use Rattle.meaning.specs.Scoping.{Store, Change, return, moveBinding, moveBindings}
 use Rattle.meaning.specs.Contexts.{namesIn, lastBlockScope, anyPartUsing, moveCatchNames, transformTryParts}
@@ -103,7 +104,7 @@ parts-planned z h k a m v q i =
     rw (← l, below-here z h k a₁ v t e (omega arith))
     (plan-parts-law z k (a₁ ++ x ∷ []) v t (rows-below z h k a₁ v t e (omega arith)) (omega (arith, length-snoc a₁ x)) i)
 
-module _ (cur hoist : ℕ) (h : Head) (k : Forest) (st : Store) (lacks : Lacks 12 k) (ag : Agreed st) where
+module _ (cur hoist : ℕ) (h : Head) (k : Forest) (st : Store) (lacks : Lacks Tag.Catch k) (ag : Agreed st) where
   abbrev parts : Forest × Store
   parts = transformTryParts cur hoist k st
 

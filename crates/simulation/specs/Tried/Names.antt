@@ -7,6 +7,7 @@ use Prim.Native.Nat.{ℕ, suc, _+_, _≤_}
 use native.Mathlib.Omega.{arith}
 use lib.Dec.{eqb}
 use lib.ListN.{length}
+use Rattle.meaning.specs.Numbers.Tag
 use Rattle.meaning.specs.Tree.{if_then_else_, Head, Forest, none, more, count, size}
 use Rattle.meaning.specs.Scoping.{Store, moveBinding, moveBindings}
 use Rattle.meaning.specs.Contexts.{namesIn}
@@ -48,10 +49,10 @@ module _ (z zy : List ℕ) (scope : ℕ) (t : List ℕ) (x : Ctx) where
   move-name : (h : Head) (k : Forest) (a v : List Row) (st : Store) → ctxOf st ≡ x
       → t ≡ table (a ++ line h (count k) ∷ (rowsOf k ++ v)) z → length a + suc (size k) ≤ 65535
       → moveNameF t x scope (naming (cellsOf st zy) (length a))
-      ≡ naming (cellsOf (movedIf (eqb (h .tag) 26) (h .a) scope st) zy) (length (a ++ line h (count k) ∷ rowsOf k))
+      ≡ naming (cellsOf (movedIf (eqb (h .tag) Tag.Name) (h .a) scope st) zy) (length (a ++ line h (count k) ∷ rowsOf k))
   unfolding moveNameF
   move-name h k a v st o e q =
-      rw (row-here z h k a v t e q, end-here z h k a v t e q, ← o, moved-cells (eqb (h .tag) 26) (h .a) scope st zy)
+      rw (row-here z h k a v t e q, end-here z h k a v t e q, ← o, moved-cells (eqb (h .tag) Tag.Name) (h .a) scope st zy)
 
   names-turns : (f : Forest) (a v : List Row) (st : Store) → ctxOf st ≡ x → t ≡ table (a ++ (rowsOf f ++ v)) z
       → length a + size f ≤ 65535
@@ -60,7 +61,7 @@ module _ (z zy : List ℕ) (scope : ℕ) (t : List ℕ) (x : Ctx) where
   names-turns none a v st o e q = refl
   names-turns (more h k r) a v st o e q =
       let e₁ = parted z h k r a v t e in
-      let b = eqb (h .tag) 26 in
+      let b = eqb (h .tag) Tag.Name in
       let y = line h (count k) in
       let l = length-line a y k in
       ap (λ (s : Naming). turns (count r) (moveNameF t x scope) s .t) (move-name h k a (rowsOf r ++ v) st o (e₁ .0) (omega arith))

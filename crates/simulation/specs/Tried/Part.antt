@@ -8,6 +8,7 @@ use native.Mathlib.Nat.{zero-add}
 use native.Mathlib.Omega.{arith}
 use lib.Dec.{eqb}
 use lib.ListN.{length}
+use Rattle.meaning.specs.Numbers.Tag
 use Rattle.meaning.specs.Tree.{if_then_else_, Head, Forest, Node, node, one, single, count, size}
 use Rattle.meaning.specs.Scoping.{Store, Change, return, insertScopeBetween}
 use Rattle.meaning.specs.Statements.{anyUsing, transformStatements}
@@ -38,7 +39,7 @@ abbrev pub partIf : Bool → ℕ → ℕ → Head → Forest → Change Node
 partIf b cur hoist h k = if b then transformTryBlock cur hoist h k else return (node h k)
 
 abbrev pub partOf : ℕ → ℕ → Head → Forest → Change Node
-partOf cur hoist h k = partIf (eqb (h .tag) 2 && anyUsing k) cur hoist h k
+partOf cur hoist h k = partIf (eqb (h .tag) Tag.Block && anyUsing k) cur hoist h k
 
 -- ---- what it adds
 
@@ -127,7 +128,7 @@ module _ (cur hoist : ℕ) (h : Head) (k : Forest) (st : Store) where
       Rewrites (transformPartF cur hoist) (ownRows h k) (rowsOf (one h k)) (rowsOf (single (e .0))) st (e .1))
   unfolding transformPartF isPartF size
   part-law ag =
-      let b = eqb (h .tag) 2 && anyUsing k in
+      let b = eqb (h .tag) Tag.Block && anyUsing k in
       let e = partOf cur hoist h k st in
       let l = length-rows (one h k) in
       record {

@@ -9,6 +9,7 @@ use native.Mathlib.Omega.{arith}
 use lib.Dec.{eqb}
 use lib.ListN.{length}
 use borrow.Author.Tests.{eqb-true}
+use Rattle.meaning.specs.Numbers.Tag
 use Rattle.meaning.specs.Tree.{if_then_else_, Head, Forest, none, more, one, Node, single, count, _&_}
 use Rattle.meaning.specs.Scoping.{Store}
 use Rattle.meaning.specs.Statements.{anyUsing}
@@ -43,7 +44,7 @@ unfolding turns count _&_
 next-record h k r n r′ p q = rw (rows-& (one h k) r, rows-& (single n) r′) (rewrites-then p q)
 
 -- PARTS
-pub parts-law : (f : Forest) (cur hoist : ℕ) (st : Store) → Lacks 12 f → Agreed st
+pub parts-law : (f : Forest) (cur hoist : ℕ) (st : Store) → Lacks Tag.Catch f → Agreed st
     → (let e = transformTryParts cur hoist f st in
     Rewrites (transformPartsF cur hoist (count f)) (partRows f) (rowsOf f) (rowsOf (e .0)) st (e .1))
 unfolding transformPartsF transformTryParts partRows count
@@ -61,17 +62,17 @@ unfolding transformTryParts count _&_
 parts-count none cur hoist st = refl
 parts-count (more h k r) cur hoist st = ap suc (parts-count r cur hoist _)
 
-names-if : (b : Bool) (cur hoist : ℕ) (h : Head) (k : Forest) (st : Store) (r : Forest) → (b ≡ true → h .tag ≡ 2)
+names-if : (b : Bool) (cur hoist : ℕ) (h : Head) (k : Forest) (st : Store) (r : Forest) → (b ≡ true → h .tag ≡ Tag.Block)
     → namesIn (single (partIf b cur hoist h k st .0) & r) ≡ namesIn (more h k r)
 unfolding transformTryBlock namesIn _&_
 names-if true cur hoist h k st r e = rw (e refl)
 names-if false cur hoist h k st r e = refl
 
 -- the same Names
-pub parts-names : (f : Forest) (cur hoist : ℕ) (st : Store) → Lacks 12 f → namesIn (transformTryParts cur hoist f st .0) ≡ namesIn f
+pub parts-names : (f : Forest) (cur hoist : ℕ) (st : Store) → Lacks Tag.Catch f → namesIn (transformTryParts cur hoist f st .0) ≡ namesIn f
 unfolding transformTryParts namesIn
 parts-names none cur hoist st l = refl
 parts-names (more h k r) cur hoist st l =
     rw (l .0)
-    (names-if (eqb (h .tag) 2 && anyUsing k) cur hoist h k st _ (λ e. eqb-true (h .tag) 2 (and-left (eqb (h .tag) 2) (anyUsing k) e))
-    ∙ ap (λ (ys : List ℕ). if eqb (h .tag) 26 then h .a ∷ ys else ys) (parts-names r cur hoist _ (l .1)))
+    (names-if (eqb (h .tag) Tag.Block && anyUsing k) cur hoist h k st _ (λ e. eqb-true (h .tag) Tag.Block (and-left (eqb (h .tag) Tag.Block) (anyUsing k) e))
+    ∙ ap (λ (ys : List ℕ). if eqb (h .tag) Tag.Name then h .a ∷ ys else ys) (parts-names r cur hoist _ (l .1)))

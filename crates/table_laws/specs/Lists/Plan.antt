@@ -9,6 +9,7 @@ use native.Mathlib.Omega.{arith}
 use borrow.Author.Tests.{ne-eqb}
 use lib.Dec.{eqb, ltb}
 use lib.ListN.{length}
+use Rattle.meaning.specs.Numbers.Tag
 use Rattle.meaning.specs.Tree.{if_then_else_, Head, Forest, none, more, count, size}
 use Rattle.meaning.specs.Statements.{isUsing, isAwaitUsing, anyUsing, anyAwaitUsing}
 use Rattle.meaning.specs.Charges.{initializers, wraps}
@@ -60,7 +61,7 @@ cap-sum x k h = omega arith
 pub initializers-size : (f : Forest) → initializers f ≤ size f
 unfolding initializers size
 initializers-size none = omega arith
-initializers-size (more h k r) = omega (arith, at-most (eqb (h .tag) 6 && ltb (h .b) (count k)) 1, initializers-size r)
+initializers-size (more h k r) = omega (arith, at-most (eqb (h .tag) Tag.Declarator && ltb (h .b) (count k)) 1, initializers-size r)
 
 pub counts-size : (f : Forest) → (usings f ≤ size f) × (awaits f ≤ size f) × (wraps f ≤ size f)
 unfolding usings awaits wraps size

@@ -10,6 +10,7 @@ use native.Mathlib.Omega.{arith}
 use borrow.Author.Tests.{ltb-true, ltb-false}
 use lib.Dec.{eqb, ltb, leb·zero, leb·suc-zero, leb·suc-suc}
 use lib.ListN.{length, length-append}
+use Rattle.meaning.specs.Numbers.Tag
 use Rattle.meaning.specs.Tree.{if_then_else_, Head, Forest, none, more, count, size, _&_}
 use Rattle.meaning.specs.Statements.{isUsing, isAwaitUsing, letterIf, wrapInitializer, wrapInitializers, asTakenUp, takeUp}
 use Rattle.meaning.specs.Charges.{initializers, wraps}
@@ -32,14 +33,14 @@ use Rattle.statements.specs.TakeUp.{
 
 -- what `initializers` and `wraps` add for one record
 abbrev pub initializer : Head → Forest → ℕ
-initializer h k = if eqb (h .tag) 6 && ltb (h .b) (count k) then 1 else 0
+initializer h k = if eqb (h .tag) Tag.Declarator && ltb (h .b) (count k) then 1 else 0
 
 abbrev pub itemWraps : Head → Forest → ℕ
 itemWraps h k = if isUsing h then initializers k else 0
 
 -- what becomes of a Declarator's children, and of an item before others, by whether it is a using
 abbrev wrapped : ℕ → ℕ → Head → Forest → Forest
-wrapped letter ctx h k = if eqb (h .tag) 6 then wrapInitializer letter ctx (h .b) k else k
+wrapped letter ctx h k = if eqb (h .tag) Tag.Declarator then wrapInitializer letter ctx (h .b) k else k
 
 abbrev item : Bool → ℕ → ℕ → Head → Forest → Forest → Forest
 item b letter ctx h k r = if b then more (asTakenUp h) (wrapInitializers letter ctx k) r else more h k r
@@ -59,7 +60,7 @@ size-wrapped letter ctx zero (more h k r) = rw (leb·suc-suc 0 (count r), leb·z
 size-wrapped letter ctx (suc m) (more h k r) = rw (leb·suc-suc (suc m) (count r)) (omega (arith, size-wrapped letter ctx m r))
 
 size-declarator : (letter ctx : ℕ) (h : Head) (k : Forest) → size (wrapped letter ctx h k) ≡ size k + initializer h k
-size-declarator letter ctx h k = by (eqb (h .tag) 6)
+size-declarator letter ctx h k = by (eqb (h .tag) Tag.Declarator)
   where
     by : (b : Bool)
         → size (if b then wrapInitializer letter ctx (h .b) k else k) ≡ size k + (if b && ltb (h .b) (count k) then 1 else 0)
@@ -67,7 +68,7 @@ size-declarator letter ctx h k = by (eqb (h .tag) 6)
     by false = omega arith
 
 count-declarator : (letter ctx : ℕ) (h : Head) (k : Forest) → count (wrapped letter ctx h k) ≡ count k
-count-declarator letter ctx h k = by (eqb (h .tag) 6)
+count-declarator letter ctx h k = by (eqb (h .tag) Tag.Declarator)
   where
     by : (b : Bool) → count (if b then wrapInitializer letter ctx (h .b) k else k) ≡ count k
     by true = count-wrapped letter ctx (h .b) k
@@ -167,7 +168,7 @@ module _ (z : List ℕ) (letter ctx : ℕ) where
       let x = line h (count k) in
       let n = initializer h k + g in
       rw (next-gapped z a n x (rowsOf k ++ v), pass-gapped z a n x (rowsOf k ++ v) (omega arith))
-      (children-law (eqb (h .tag) 6) (ltb (h .b) (count k)) (h .b) k (a ++ x ∷ []) g v refl (omega (arith, length-snoc a x))
+      (children-law (eqb (h .tag) Tag.Declarator) (ltb (h .b) (count k)) (h .b) k (a ++ x ∷ []) g v refl (omega (arith, length-snoc a x))
       ∙ simp append-assoc)
 
   -- Declarators

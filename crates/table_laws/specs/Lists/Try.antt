@@ -7,6 +7,8 @@ use Prim.Native.Nat.{ℕ, suc, _+_, _≤_}
 use native.Mathlib.Nat.{zero-add, suc-add}
 use native.Mathlib.Omega.{arith}
 use lib.ListN.{length, length-append}
+use Rattle.meaning.specs.Numbers.Tag
+use Rattle.meaning.specs.Numbers.Kind
 use Rattle.meaning.specs.Tree.{hd, Forest, none, one, single, count, size, _&_}
 use Rattle.meaning.specs.Shapes.{block, declaration, load, keepError, catchClause, tryStatement}
 use Rattle.meaning.specs.Statements.{takeUp}
@@ -24,12 +26,12 @@ use Rattle.table_laws.specs.Lists.Plan.{cap-sum}
 
 -- the declaration of a context, and the Catch with the last Block
 unfoldable pub contextOf : Parts → Forest
-contextOf p = declaration 0 (p .context .0) (load (p .form) (p .load .0))
+contextOf p = declaration Kind.Var (p .context .0) (load (p .form) (p .load .0))
 
 unfoldable pub handlersOf : Parts → Forest
 handlersOf p =
     catchClause (p .scope .0) (p .error .0) (block (p .scope .0 + 1) (keepError (p .context .0) (p .error .0)))
-    & block (p .scope .0 + 2) (one (hd 29 (p .step) (p .context .0) 0) none)
+    & block (p .scope .0 + 2) (one (hd Tag.Step (p .step) (p .context .0) 0) none)
 
 -- a Try of a first Block and others
 try-rows : (scope : ℕ) (list others : Forest)

@@ -8,6 +8,7 @@ use native.Mathlib.Nat.{zero-add, add-zero}
 use native.Mathlib.Omega.{arith}
 use lib.Dec.{eqb}
 use lib.ListN.{length}
+use Rattle.meaning.specs.Numbers.Tag
 use Rattle.meaning.specs.Tree.{if_then_else_, Head, Forest, none, more, count, size}
 use Rattle.meaning.specs.Statements.{anyUsing, anyAwaitUsing}
 use Rattle.meaning.specs.Contexts.{anyCaseUsing, anyCaseAwaitUsing}
@@ -26,7 +27,7 @@ use Rattle.spec_laws.specs.Bools.{at-most}
 
 -- a number of a Case's list, or 0
 abbrev pub inCase : Head → ℕ → ℕ
-inCase h n = if eqb (h .tag) 10 then n else 0
+inCase h n = if eqb (h .tag) Tag.Case then n else 0
 
 -- the usings that stand directly in the Cases, and the `await using`s
 unfoldable pub caseUsings : Forest → ℕ
@@ -48,7 +49,7 @@ pub any-case-usings : (f : Forest) → anyCaseUsing f ≡ not (eqb (caseUsings f
 unfolding anyCaseUsing caseUsings
 any-case-usings none = refl
 any-case-usings (more h k r) =
-    let c = eqb (h .tag) 10 in
+    let c = eqb (h .tag) Tag.Case in
     some-both (c && anyUsing k) (anyCaseUsing r) (inCase h (usings k)) (caseUsings r) (in-some c (anyUsing k) (usings k) (any-usings k))
     (any-case-usings r)
 
@@ -57,7 +58,7 @@ pub any-case-awaits : (f : Forest) → anyCaseAwaitUsing f ≡ not (eqb (caseAwa
 unfolding anyCaseAwaitUsing caseAwaits
 any-case-awaits none = refl
 any-case-awaits (more h k r) =
-    let c = eqb (h .tag) 10 in
+    let c = eqb (h .tag) Tag.Case in
     some-both (c && anyAwaitUsing k) (anyCaseAwaitUsing r) (inCase h (awaits k)) (caseAwaits r)
     (in-some c (anyAwaitUsing k) (awaits k) (any-awaits k))
     (any-case-awaits r)
@@ -68,7 +69,7 @@ cases-size : (f : Forest) → (caseUsings f ≤ size f) × (caseAwaits f ≤ siz
 unfolding caseUsings caseAwaits caseWraps size
 cases-size none = omega arith
 cases-size (more h k r) =
-    let c = eqb (h .tag) 10 in
+    let c = eqb (h .tag) Tag.Case in
     omega (arith, at-most c (usings k), at-most c (awaits k), at-most c (wraps k), list-size k, cases-size r)
 
 -- ---- counted on the rows
@@ -103,7 +104,7 @@ module _ (z : List ℕ) where
       (x + inCase h (wraps k))
   unfolding planCaseF
   plan-case h k a v u w x t e q i₁ i₂ i₃ =
-      rw (row-here z h k a v t e q, end-here z h k a v t e q) (case-by (eqb (h .tag) 10) h k a v u w x t e q i₁ i₂ i₃)
+      rw (row-here z h k a v t e q, end-here z h k a v t e q) (case-by (eqb (h .tag) Tag.Case) h k a v u w x t e q i₁ i₂ i₃)
 
   cases-turns : (f : Forest) (a v : List Row) (u w x : ℕ) (t : List ℕ) → t ≡ table (a ++ (rowsOf f ++ v)) z
       → length a + size f ≤ 65535 → u + caseUsings f ≤ 65535 → w + caseAwaits f ≤ 65535 → x + caseWraps f ≤ 65535

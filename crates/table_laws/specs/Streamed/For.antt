@@ -7,6 +7,8 @@ use Prim.Native.Nat.{ℕ, suc, _+_, _-_, _≤_, _<_}
 use native.Mathlib.Omega.{arith}
 use lib.Dec.{eqb}
 use lib.ListN.{length}
+use Rattle.meaning.specs.Numbers.Tag
+use Rattle.meaning.specs.Numbers.Parts
 use Rattle.meaning.specs.Tree.{if_then_else_, Head, hd, Forest, none, more, one, count, size, _&_}
 use Rattle.meaning.specs.Shapes.{block}
 use Rattle.meaning.specs.Statements.{anyUsing, takeUp}
@@ -35,7 +37,7 @@ use Rattle.table_laws.specs.Streamed.Frame.{frame-law}
 -- how many Labels stand before a record
 unfoldable pub labels : Forest → ℕ
 labels none = 0
-labels (more h k r) = if eqb (h .tag) 4 then suc (labels k) else 0
+labels (more h k r) = if eqb (h .tag) Tag.Label then suc (labels k) else 0
 
 -- ---- the Labels
 
@@ -62,7 +64,7 @@ labels-end-law z (more h k none) a v t s e q =
     let l = length-snoc a x in
     let v₁ = rowsOf none ++ v in
     let e₁ = parted z h k none a v t e .0 in
-    labels-by (eqb (h .tag) 4) t (length a) (labels k) (ap (λ (n : ℕ). eqb n 4) (tag-here z h k a v₁ t e₁ (omega arith))) (omega arith)
+    labels-by (eqb (h .tag) Tag.Label) t (length a) (labels k) (ap (λ (n : ℕ). eqb n 4) (tag-here z h k a v₁ t e₁ (omega arith))) (omega arith)
     (λ d. rw (← l) (labels-end-law z k (a ++ x ∷ []) v₁ t (s d) (rows-below z h k a v₁ t e₁ (omega arith)) (omega arith)))
 labels-end-law z (more h k (more h₁ k₁ r₁)) a v t s e q = absurd s
 
@@ -74,7 +76,7 @@ Plans f p = (p .usings ≡ usings f) × (p .awaits ≡ awaits f) × (p .wraps �
 
 -- what the record there has to take up, if it is a For
 abbrev loopPlan : List ℕ → ℕ → Plan
-loopPlan t at = let r = rowF t at in if eqb (r .tag) 7 then planF t (noPlan (capped at 1)) (r .n) else noPlan at
+loopPlan t at = let r = rowF t at in if eqb (r .tag) Tag.For then planF t (noPlan (capped at 1)) (r .n) else noPlan at
 
 plans-by : (b : Bool) (k : Forest) (m n : ℕ)
     → Plans (if b then k else none) (if b then plan m (usings k) (awaits k) (wraps k) else noPlan n)
@@ -83,9 +85,9 @@ plans-by true k m n = (refl, refl, refl)
 plans-by false k m n = (refl, refl, refl)
 
 for-by : (z : List ℕ) (b : Bool) (h : Head) (k : Forest) (a v : List Row) (t : List ℕ)
-    → t ≡ table (a ++ line h (count k) ∷ (rowsOf k ++ v)) z → length a + suc (size k) ≤ 65535 → eqb (h .tag) 4 ≡ b
+    → t ≡ table (a ++ line h (count k) ∷ (rowsOf k ++ v)) z → length a + suc (size k) ≤ 65535 → eqb (h .tag) Tag.Label ≡ b
     → (b ≡ true → Plans (forList k) (planForF t (length a + 1)))
-    → Plans (if b then forList k else if eqb (h .tag) 7 then k else none) (planForF t (length a))
+    → Plans (if b then forList k else if eqb (h .tag) Tag.For then k else none) (planForF t (length a))
 unfolding planForF
 for-by z true h k a v t e q d i =
     let c = ap (λ (n : ℕ). eqb n 4) (tag-here z h k a v t e q) ∙ d in
@@ -93,7 +95,7 @@ for-by z true h k a v t e q d i =
 for-by z false h k a v t e q d i =
     let c = ap (λ (n : ℕ). eqb n 4) (tag-here z h k a v t e q) ∙ d in
     rw (at-loop t (length a) c, row-here z h k a v t e q, plan-below z h k a v t e q)
-    (plans-by (eqb (h .tag) 7) k (length a + suc (size k)) (length a))
+    (plans-by (eqb (h .tag) Tag.For) k (length a + suc (size k)) (length a))
 
 -- WHAT A FOR BELOW LABELS HAS TO TAKE UP
 pub plan-for-law : (z : List ℕ) (f : Forest) (a v : List Row) (t : List ℕ) → Labelled f → t ≡ table (a ++ (rowsOf f ++ v)) z
@@ -105,7 +107,7 @@ plan-for-law z (more h k none) a v t s e q =
     let l = length-snoc a x in
     let v₁ = rowsOf none ++ v in
     let e₁ = parted z h k none a v t e .0 in
-    for-by z (eqb (h .tag) 4) h k a v₁ t e₁ (omega arith) refl
+    for-by z (eqb (h .tag) Tag.Label) h k a v₁ t e₁ (omega arith) refl
     (λ d. rw (← l) (plan-for-law z k (a ++ x ∷ []) v₁ t (s d) (rows-below z h k a v₁ t e₁ (omega arith)) (omega arith)))
 plan-for-law z (more h k (more h₁ k₁ r₁)) a v t s e q = absurd s
 
@@ -136,7 +138,7 @@ size-by false false ctx k u i = absurd (clash refl u)
 size-for : (f : Forest) (ctx : ℕ) → anyUsing (forList f) ≡ true → size (takeUpFor ctx f) ≡ size f + wraps (forList f)
 unfolding takeUpFor forList anyUsing size
 size-for none ctx u = absurd (clash refl u)
-size-for (more h k r) ctx u = omega (arith, size-by (eqb (h .tag) 4) (eqb (h .tag) 7) ctx k u (λ e d. size-for k ctx d))
+size-for (more h k r) ctx u = omega (arith, size-by (eqb (h .tag) Tag.Label) (eqb (h .tag) Tag.For) ctx k u (λ e d. size-for k ctx d))
 
 -- the Labels pass, and the For's list is taken up
 abbrev loopRows : ℕ → ℕ → Buf → Buf
@@ -169,10 +171,10 @@ module _ (z : List ℕ) where
   loop-law none ctx a g v s u q = absurd s
   loop-law (more h k none) ctx a g v s u q =
       let x = line h (count k) in
-      let b = eqb (h .tag) 4 in
+      let b = eqb (h .tag) Tag.Label in
       let k′ = loopBelow b ctx k in
       rw (one-row h k, one-row h k′, count-below b ctx k)
-      (loop-by b (eqb (h .tag) 7) ctx h k a g v u (omega arith)
+      (loop-by b (eqb (h .tag) Tag.For) ctx h k a g v u (omega arith)
       (λ e d i. loop-law k ctx (a ++ x ∷ []) g v (s e) d (omega (arith, length-snoc a x)))
       ∙ simp append-assoc)
   loop-law (more h k (more h₁ k₁ r₁)) ctx a g v s u q = absurd s
@@ -192,7 +194,7 @@ module _ (z : List ℕ) where
       → length a + (wraps (forList (one h k)) + (12 + g)) + suc (size k) ≤ 65535 → p .scope .0 + 2 ≤ 65535
       → forRowsF p (gapped z a (wraps (forList (one h k)) + (12 + g)) (rowsOf (one h k) ++ v))
       ≡ gapped z
-      (a ++ rowsOf (one (hd 11 3 0 0) (block (listScope p) (contextOf p & takeUpFor (p .context .0) (one h k)) & handlersOf p)))
+      (a ++ rowsOf (one (hd Tag.Try Parts.Both 0 0) (block (listScope p) (contextOf p & takeUpFor (p .context .0) (one h k)) & handlersOf p)))
       g v
   unfolding forRowsF takeUpFor size
   for-rows-law h k p a g v o u q s =
@@ -200,5 +202,5 @@ module _ (z : List ℕ) where
       let f = one h k in
       let m = wraps (forList f) in
       rw (labels-gapped f a (m + (12 + g)) v o (omega arith))
-      (frame-law z p h (loopBelow (eqb (h .tag) 4) c k) (loopRows (labels f) c) m a g (rowsOf f ++ v) v (omega (arith, size-for f c u)) s
+      (frame-law z p h (loopBelow (eqb (h .tag) Tag.Label) c k) (loopRows (labels f) c) m a g (rowsOf f ++ v) v (omega (arith, size-for f c u)) s
       (λ a₁ l. loop-law f c a₁ (6 + g) v o u (omega arith)))

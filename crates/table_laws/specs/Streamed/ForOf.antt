@@ -5,6 +5,8 @@ use mathlib.Core.List.{List, [], _∷_, _++_, append-assoc}
 use Prim.Native.Nat.{ℕ, suc, _+_, _-_, _≤_}
 use native.Mathlib.Omega.{arith}
 use lib.ListN.{length, length-append}
+use Rattle.meaning.specs.Numbers.Tag
+use Rattle.meaning.specs.Numbers.Kind
 use Rattle.meaning.specs.Tree.{Head, hd, Forest, none, more, one, count, size, _&_}
 use Rattle.meaning.specs.Shapes.{block, declaration, read}
 use Rattle.meaning.specs.ForOf.{rebind}
@@ -97,7 +99,7 @@ module _ (z : List ℕ) (temp : ℕ) where
       ≡ gapped z
       (a
       ++ line h (count (more h₁ k₁ (more h₂ k₂ rest)))
-      ∷ (rowsOf (one (hd 5 2 0 0) (rebind temp k₁)) ++ rowsOf (one h₂ k₂)))
+      ∷ (rowsOf (one (hd Tag.Declaration Kind.Const 0 0) (rebind temp k₁)) ++ rowsOf (one h₂ k₂)))
       g (rowsOf rest ++ v)
   unfolding rebind count size
   left-rows-law h h₁ none h₂ k₂ rest a g v s q = absurd s
@@ -118,7 +120,7 @@ module _ (z : List ℕ) (temp : ℕ) where
       ∙ ap (copyF (gapped z (a ++ m) g (rowsOf f ++ w)))
       (behind-count k r r₁ h₂ k₂ (omega (arith, count-size k, count-size r, count-size r₁)))
       ∙ copy-all z f (a ++ m) g w (omega (arith, length-append a m, behind-size k r r₁ h₂ k₂))
-      ∙ rw (behind-rows k r r₁ h₂ k₂ (hd 5 2 0 0) d (hd 26 temp 0 0)) (simp append-assoc)
+      ∙ rw (behind-rows k r r₁ h₂ k₂ (hd Tag.Declaration Kind.Const 0 0) d (hd Tag.Name temp 0 0)) (simp append-assoc)
 
   -- ---- the body
 
@@ -143,17 +145,17 @@ module _ (z : List ℕ) (temp : ℕ) where
     held = declaration kind y (read temp)
 
     abbrev upTo : List Row
-    upTo = a ++ line h (count children) ∷ (rowsOf (one (hd 5 2 0 0) (rebind temp k₁)) ++ rowsOf (one h₂ k₂))
+    upTo = a ++ line h (count children) ∷ (rowsOf (one (hd Tag.Declaration Kind.Const 0 0) (rebind temp k₁)) ++ rowsOf (one h₂ k₂))
 
     length-up : length upTo ≡ length a + (3 + (size k₁ + size k₂))
     unfolding size
     length-up =
-        let m = rowsOf (one (hd 5 2 0 0) (rebind temp k₁)) in
+        let m = rowsOf (one (hd Tag.Declaration Kind.Const 0 0) (rebind temp k₁)) in
         omega (
           arith,
           length-append a (line h (count children) ∷ (m ++ rowsOf (one h₂ k₂))),
           length-append m (rowsOf (one h₂ k₂)),
-          length-rows (one (hd 5 2 0 0) (rebind temp k₁)),
+          length-rows (one (hd Tag.Declaration Kind.Const 0 0) (rebind temp k₁)),
           length-rows (one h₂ k₂),
           size-rebind temp k₁,
         )
@@ -161,10 +163,10 @@ module _ (z : List ℕ) (temp : ℕ) where
     -- the rows up to the body, its row, and those behind it
     closed : (h₀ : Head) (l : Forest)
         → upTo ++ line h₀ (count l) ∷ (rowsOf l ++ (rowsOf r ++ v))
-        ≡ a ++ (rowsOf (one h (more (hd 5 2 0 0) (rebind temp k₁) (more h₂ k₂ (one h₀ l & r)))) ++ v)
+        ≡ a ++ (rowsOf (one h (more (hd Tag.Declaration Kind.Const 0 0) (rebind temp k₁) (more h₂ k₂ (one h₀ l & r)))) ++ v)
     unfolding count _&_
     closed h₀ l =
-        rw (sides-rows h (hd 5 2 0 0) (rebind temp k₁) h₂ k₂ (more h₀ l r) v, next-rows h₀ l r v) (simp append-assoc)
+        rw (sides-rows h (hd Tag.Declaration Kind.Const 0 0) (rebind temp k₁) h₂ k₂ (more h₀ l r) v, next-rows h₀ l r v) (simp append-assoc)
 
     held-count : (f : Forest) → suc (count f) ≡ count (held & f)
     unfolding count _&_
@@ -173,7 +175,7 @@ module _ (z : List ℕ) (temp : ℕ) where
     -- the body's list begins with the using
     with-held : (h₀ : Head) (f : Forest) (m : List Row) → m ≡ rowsOf f ++ (rowsOf r ++ v)
         → gapped z ((upTo ++ line h₀ (suc (count f)) ∷ []) ++ rowsOf held) 0 m .t
-        ≡ table (a ++ (rowsOf (one h (more (hd 5 2 0 0) (rebind temp k₁) (more h₂ k₂ (one h₀ (held & f) & r)))) ++ v)) z
+        ≡ table (a ++ (rowsOf (one h (more (hd Tag.Declaration Kind.Const 0 0) (rebind temp k₁) (more h₂ k₂ (one h₀ (held & f) & r)))) ++ v)) z
     unfolding gapped free
     with-held h₀ f m e =
         rw (← closed h₀ (held & f), ← held-count f, rows-& held f, e) (ap (λ (u : List Row). table u z) (simp append-assoc))
@@ -184,7 +186,7 @@ module _ (z : List ℕ) (temp : ℕ) where
         ≡ table
         (a
         ++ (rowsOf
-        (one h (more (hd 5 2 0 0) (rebind temp k₁) (more h₂ k₂ (one h₃ (declaration kind y (read temp) & k₃) & r)))) ++ v))
+        (one h (more (hd Tag.Declaration Kind.Const 0 0) (rebind temp k₁) (more h₂ k₂ (one h₃ (declaration kind y (read temp) & k₃) & r)))) ++ v))
         z
     unfolding insertRowsF size
     insert-rows-law q =
@@ -204,7 +206,7 @@ module _ (z : List ℕ) (temp : ℕ) where
         (a
         ++ (rowsOf
         (one h
-        (more (hd 5 2 0 0) (rebind temp k₁)
+        (more (hd Tag.Declaration Kind.Const 0 0) (rebind temp k₁)
         (more h₂ k₂ (block scope (declaration kind y (read temp) & one h₃ k₃) & r)))) ++ v))
         z
     unfolding wrapRowsF size count
@@ -214,4 +216,4 @@ module _ (z : List ℕ) (temp : ℕ) where
         let l = length-up in
         rw (left-rows-law h h₁ k₁ h₂ k₂ (more h₃ k₃ r) a 5 v s q, emit-gapped z upTo 4 w x (omega arith))
         (ap (λ (b : Buf). b .t) (using-rows-law kind y (upTo ++ x ∷ []) 0 w (omega (arith, length-snoc upTo x)))
-        ∙ with-held (hd 2 scope 0 0) (one h₃ k₃) w (more-rows h₃ k₃ r v))
+        ∙ with-held (hd Tag.Block scope 0 0) (one h₃ k₃) w (more-rows h₃ k₃ r v))

@@ -5,6 +5,8 @@ use mathlib.Core.List.{List, [], _∷_, _++_, append-assoc}
 use Prim.Native.Nat.{ℕ, _+_, _≤_}
 use native.Mathlib.Omega.{arith}
 use lib.ListN.{length, length-append}
+use Rattle.meaning.specs.Numbers.Tag
+use Rattle.meaning.specs.Numbers.Parts
 use Rattle.meaning.specs.Tree.{Head, hd, Forest, one, count, size, _&_}
 use Rattle.meaning.specs.Shapes.{block}
 use Rattle.tables.specs.Table.{closedRowF}
@@ -31,7 +33,7 @@ pub frame-law : (z : List ℕ) (p : Parts) (h : Head) (k : Forest) (write : Buf 
     → ((a₁ : List Row) → length a₁ ≡ length a + 6
     → write (gapped z a₁ (m + (6 + g)) u) ≡ gapped z (a₁ ++ rowsOf (one h k)) (6 + g) v)
     → handlersF p (write (declareContextF p (openTryF (listScope p) 2 (gapped z a (m + (12 + g)) u))))
-    ≡ gapped z (a ++ rowsOf (one (hd 11 3 0 0) (block (listScope p) (contextOf p & one h k) & handlersOf p))) g v
+    ≡ gapped z (a ++ rowsOf (one (hd Tag.Try Parts.Both 0 0) (block (listScope p) (contextOf p & one h k) & handlersOf p))) g v
 frame-law z p h k write m a g u v q s w =
     let a₁ = a ++ (closedRowF 11 3 0 0 3 ∷ closedRowF 2 (listScope p) 0 0 2 ∷ []) in
     let l₁ : length a₁ ≡ length a + 2 = length-append a (closedRowF 11 3 0 0 3 ∷ closedRowF 2 (listScope p) 0 0 2 ∷ []) in

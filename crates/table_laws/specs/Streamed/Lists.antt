@@ -6,6 +6,8 @@ use mathlib.Core.Bool.{false}
 use Prim.Native.Nat.{ℕ, suc, _+_, _≤_}
 use native.Mathlib.Omega.{arith}
 use lib.ListN.{length}
+use Rattle.meaning.specs.Numbers.Tag
+use Rattle.meaning.specs.Numbers.Parts
 use Rattle.meaning.specs.Tree.{Head, hd, Forest, one, single, count, size, _&_}
 use Rattle.meaning.specs.Shapes.{block, tryStatement}
 use Rattle.meaning.specs.Statements.{takeUp}
@@ -22,10 +24,10 @@ use Rattle.table_laws.specs.Streamed.Places.{cap-count, one-row, n-gappe
 
 -- a Try of a first Block and two others
 pub try-rows : (scope : ℕ) (list : Forest) (p : Parts)
-    → rowsOf (one (hd 11 3 0 0) (block scope list & handlersOf p))
+    → rowsOf (one (hd Tag.Try Parts.Both 0 0) (block scope list & handlersOf p))
     ≡ closedRowF 11 3 0 0 3 ∷ closedRowF 2 scope 0 0 (count list) ∷ (rowsOf list ++ rowsOf (handlersOf p))
 unfolding rowsOf count handlersOf _&_
-try-rows scope list p = one-row (hd 11 3 0 0) (block scope list & handlersOf p)
+try-rows scope list p = one-row (hd Tag.Try Parts.Both 0 0) (block scope list & handlersOf p)
 
 module _ (z : List ℕ) where
   -- A BLOCK BECOMES A TRY around its list
@@ -33,7 +35,7 @@ module _ (z : List ℕ) where
       → length a + (wraps k + (11 + g)) + suc (size k) ≤ 65535 → p .scope .0 + 2 ≤ 65535
       → blockRowsF p (gapped z a (wraps k + (11 + g)) (rowsOf (one h k) ++ v))
       ≡ gapped z
-      (a ++ rowsOf (one (hd 11 3 0 0) (block (h .a) (contextOf p & takeUp false (p .context .0) false k) & handlersOf p)))
+      (a ++ rowsOf (one (hd Tag.Try Parts.Both 0 0) (block (h .a) (contextOf p & takeUp false (p .context .0) false k) & handlersOf p)))
       g v
   unfolding blockRowsF contextOf count _&_
   block-rows-law h k p a g v q s =

@@ -9,6 +9,7 @@ use native.Mathlib.Omega.{arith}
 use borrow.Author.Tests.{ne-eqb}
 use lib.Dec.{eqb}
 use lib.ListN.{length}
+use Rattle.meaning.specs.Numbers.Tag
 use Rattle.meaning.specs.Tree.{if_then_else_, Head, hd, Forest, none, more, count, size}
 use Rattle.meaning.specs.Statements.{anyUsing}
 use Rattle.meaning.specs.Contexts.{anyPartUsing, lastBlockScope}
@@ -39,7 +40,7 @@ use Rattle.table_laws.specs.Streamed.Places.{some-both, below-here, rows
 
 -- the rows that a part gets
 abbrev pub ownRows : Head → Forest → ℕ
-ownRows h k = if eqb (h .tag) 2 && anyUsing k then 12 + wraps k else 0
+ownRows h k = if eqb (h .tag) Tag.Block && anyUsing k then 12 + wraps k else 0
 
 -- those of the parts of a list
 unfoldable pub partRows : Forest → ℕ
@@ -48,7 +49,7 @@ partRows (more h k r) = ownRows h k + partRows r
 
 -- and those of a Try's children
 abbrev pub childRows : Head → Forest → ℕ
-childRows h k = if eqb (h .tag) 12 then partRows k else ownRows h k
+childRows h k = if eqb (h .tag) Tag.Catch then partRows k else ownRows h k
 
 unfoldable pub tryRows : Forest → ℕ
 tryRows none = 0
@@ -61,30 +62,30 @@ some-rows true any m n e = rw (ne-eqb (12 + m + n) 0 (λ i. omega arith))
 some-rows false any m n e = rw zero-add e
 
 -- some parts get rows if one has a using
-pub any-parts : (k : Forest) → Lacks 12 k → anyPartUsing k ≡ not (eqb (partRows k) 0)
+pub any-parts : (k : Forest) → Lacks Tag.Catch k → anyPartUsing k ≡ not (eqb (partRows k) 0)
 unfolding anyPartUsing partRows
 any-parts none l = refl
 any-parts (more h k r) l =
-    rw (l .0) (some-rows (eqb (h .tag) 2 && anyUsing k) (anyPartUsing r) (wraps k) (partRows r) (any-parts r (l .1)))
+    rw (l .0) (some-rows (eqb (h .tag) Tag.Block && anyUsing k) (anyPartUsing r) (wraps k) (partRows r) (any-parts r (l .1)))
 
 -- no Catch stands in a Catch
 abbrev pub Catches : Forest → Type 0
 Catches none = Unit {0}
-Catches (more h k r) = (eqb (h .tag) 12 ≡ true → Lacks 12 k) × Catches r
+Catches (more h k r) = (eqb (h .tag) Tag.Catch ≡ true → Lacks Tag.Catch k) × Catches r
 
-try-child : {t : ℕ} (a b c : ℕ) (k r : Forest) → Seen (12 ∷ []) t → (eqb t 12 ≡ true → Lacks 12 k)
+try-child : {t : ℕ} (a b c : ℕ) (k r : Forest) → Seen (Tag.Catch ∷ []) t → (eqb t Tag.Catch ≡ true → Lacks Tag.Catch k)
     → anyPartUsing r ≡ not (eqb (tryRows r) 0)
     → anyPartUsing (more (hd t a b c) k r) ≡ not (eqb (tryRows (more (hd t a b c) k r)) 0)
 unfolding anyPartUsing tryRows
 try-child a b c k r here l i = some-both (anyPartUsing k) (anyPartUsing r) (partRows k) (tryRows r) (any-parts k (l refl)) i
 try-child {t} a b c k r (there e other) l i =
-    rw e (some-rows (eqb t 2 && anyUsing k) (anyPartUsing r) (wraps k) (tryRows r) i)
+    rw e (some-rows (eqb t Tag.Block && anyUsing k) (anyPartUsing r) (wraps k) (tryRows r) i)
 
 -- and so for a Try's children
 pub any-try : (f : Forest) → Catches f → anyPartUsing f ≡ not (eqb (tryRows f) 0)
 unfolding anyPartUsing tryRows
 any-try none l = refl
-any-try (more h k r) l = try-child (h .a) (h .b) (h .c) k r (seen (12 ∷ []) (h .tag)) (l .0) (any-try r (l .1))
+any-try (more h k r) l = try-child (h .a) (h .b) (h .c) k r (seen (Tag.Catch ∷ []) (h .tag)) (l .0) (any-try r (l .1))
 
 -- ---- counted on the rows
 
@@ -95,13 +96,13 @@ rows-by false n i = refl
 module _ (z : List ℕ) (h : Head) (k : Forest) (a v : List Row) (t : List ℕ)
     (e : t ≡ table (a ++ line h (count k) ∷ (rowsOf k ++ v)) z) (q : length a + suc (size k) ≤ 65535) where
   -- A PART, by the plan of its list
-  pub is-part-law : isPartF (line h (count k)) (planF t (noPlan (capped (length a) 1)) (count k)) ≡ (eqb (h .tag) 2 && anyUsing k)
+  pub is-part-law : isPartF (line h (count k)) (planF t (noPlan (capped (length a) 1)) (count k)) ≡ (eqb (h .tag) Tag.Block && anyUsing k)
   unfolding isPartF
   is-part-law = rw (plan-below z h k a v t e q, any-usings k)
 
   own-rows : ownRows h k ≤ 65535 → partRowsF (line h (count k)) (planF t (noPlan (capped (length a) 1)) (count k)) ≡ ownRows h k
   unfolding partRowsF
-  own-rows i = rw (is-part-law, plan-below z h k a v t e q) (rows-by (eqb (h .tag) 2 && anyUsing k) (wraps k) i)
+  own-rows i = rw (is-part-law, plan-below z h k a v t e q) (rows-by (eqb (h .tag) Tag.Block && anyUsing k) (wraps k) i)
 
   plan-part : (s : ℕ) → s + ownRows h k ≤ 65535
       → planPartF t (counting (length a) s) ≡ counting (length (a ++ line h (count k) ∷ rowsOf k)) (s + ownRows h k)
@@ -151,7 +152,7 @@ module _ (z : List ℕ) where
       → planChildF t (counting (length a) s) ≡ counting (length (a ++ line h (count k) ∷ rowsOf k)) (s + childRows h k)
   unfolding planChildF
   plan-child h k a v s t e q i =
-      rw (row-here z h k a v t e q, end-here z h k a v t e q) (child-by (eqb (h .tag) 12) h k a v s t e q i)
+      rw (row-here z h k a v t e q, end-here z h k a v t e q) (child-by (eqb (h .tag) Tag.Catch) h k a v s t e q i)
 
   children-turns : (f : Forest) (a v : List Row) (s : ℕ) (t : List ℕ) → t ≡ table (a ++ (rowsOf f ++ v)) z
       → length a + size f ≤ 65535 → s + tryRows f ≤ 65535

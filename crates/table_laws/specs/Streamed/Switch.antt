@@ -8,6 +8,8 @@ use native.Mathlib.Nat.{zero-add}
 use native.Mathlib.Omega.{arith}
 use lib.Dec.{eqb}
 use lib.ListN.{length}
+use Rattle.meaning.specs.Numbers.Tag
+use Rattle.meaning.specs.Numbers.Parts
 use Rattle.meaning.specs.Tree.{if_then_else_, Head, hd, Forest, none, more, one, count, size, _&_}
 use Rattle.meaning.specs.Shapes.{block}
 use Rattle.meaning.specs.Statements.{anyAwaitUsing, takeUp}
@@ -57,14 +59,14 @@ size-cases : (f : Forest) (ctx : ℕ) (needs : Bool) → size (takeUpCases ctx n
 unfolding takeUpCases caseWraps size
 size-cases none ctx needs = refl
 size-cases (more h k r) ctx needs =
-    let c = eqb (h .tag) 10 in
+    let c = eqb (h .tag) Tag.Case in
     ap size (next-cases c ctx needs h k r) ∙ omega (arith, size-below c ctx needs k, size-cases r ctx (needsAfter c needs k))
 
 count-cases : (f : Forest) (ctx : ℕ) (needs : Bool) → count (takeUpCases ctx needs f) ≡ count f
 unfolding takeUpCases count
 count-cases none ctx needs = refl
 count-cases (more h k r) ctx needs =
-    let c = eqb (h .tag) 10 in
+    let c = eqb (h .tag) Tag.Case in
     ap count (next-cases c ctx needs h k r) ∙ ap suc (count-cases r ctx (needsAfter c needs k))
 
 -- ---- the Cases
@@ -88,14 +90,14 @@ module _ (z : List ℕ) where
 
   take-case : (ctx : ℕ) (needs : Bool) (h : Head) (k : Forest) (a : List Row) (g : ℕ) (v : List Row)
       → length a + (inCase h (wraps k) + g) + suc (size k) ≤ 65535
-      → (let c = eqb (h .tag) 10 in
+      → (let c = eqb (h .tag) Tag.Case in
       takeUpCaseF ctx (casingF (gapped z a (inCase h (wraps k) + g) (line h (count k) ∷ (rowsOf k ++ v))) needs)
       ≡ casingF (gapped z (a ++ line h (count k) ∷ rowsOf (below c ctx needs k)) g v) (needsAfter c needs k))
   unfolding takeUpCaseF
   take-case ctx needs h k a g v q =
       let m = inCase h (wraps k) + g in
       rw (next-gapped z a m (line h (count k)) (rowsOf k ++ v), plan-gapped z h k a m v (omega arith))
-      (case-by (eqb (h .tag) 10) ctx needs h k a g v q)
+      (case-by (eqb (h .tag) Tag.Case) ctx needs h k a g v q)
 
   cases-from : (f : Forest) (ctx : ℕ) (needs : Bool) (a : List Row) (g : ℕ) (v : List Row)
       → length a + (caseWraps f + g) + size f ≤ 65535
@@ -104,7 +106,7 @@ module _ (z : List ℕ) where
   unfolding turns takeUpCases caseWraps count size rowsOf
   cases-from none ctx needs a g v q = rw (zero-add, append-nil)
   cases-from (more h k r) ctx needs a g v q =
-      let c = eqb (h .tag) 10 in
+      let c = eqb (h .tag) Tag.Case in
       let k′ = below c ctx needs k in
       let x = line h (count k) in
       ap (λ (s : CasingF). turns (count r) (takeUpCaseF ctx) s .buf)
@@ -127,7 +129,7 @@ module _ (z : List ℕ) where
       ≡ gapped z
       (a
       ++ rowsOf
-      (one (hd 11 3 0 0) (block (listScope p) (contextOf p & one h (takeUpCases (p .context .0) false k)) & handlersOf p)))
+      (one (hd Tag.Try Parts.Both 0 0) (block (listScope p) (contextOf p & one h (takeUpCases (p .context .0) false k)) & handlersOf p)))
       g v
   unfolding switchRowsF size
   switch-rows-law h k p a g v q s =
