@@ -11,7 +11,7 @@ use Rattle.meaning.specs.File.{scopeRow, Symbol, symbolRow}
 use Rattle.meaning.specs.Reading.{Outcome, accepted, refused, readFile}
 use Rattle.meaning.specs.Scoping.{getBinding, findBinding, blockScopedIn}
 use Rattle.meaning.specs.Walk.{storeOf}
-use Rattle.meaning.specs.Charges.{Figures, figures}
+use Rattle.meaning.specs.Charges.{figures}
 use Rattle.meaning.specs.Lowering.{Lent, Written, figuresOf, admit, admitOutput, lower}
 use Rattle.meaning.specs.Notation.{bytes}
 use Rattle.meaning.specs.Computing.{computing}
