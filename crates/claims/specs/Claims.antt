@@ -60,19 +60,18 @@ use Rattle.lowering.specs.declared.Lowered.{Lowered}
 use Rattle.lowering.specs.declared.Lowered.the-variants.{Written as WrittenIn, Refused}
 use Rattle.lowering.specs.Lower.{finished, zerosFor, writtenOver, lowerOf, lowerF}
 use Rattle.lowering.specs.Law.{last-tagged, last-length}
-use Rattle.lowering.specs.Answers.{
+use Rattle.desk_numbers.specs.Answers.{
   checkedNumbers,
   figuredNumbers,
   startedNumbers,
-  loweredNumbers,
   outcomeNumbers,
   plainNumbers,
   checked-numbers,
   figured-numbers,
   started-numbers,
-  lowered-numbers,
 }
-use Rattle.desk.specs.Numbers.{walkNumbers, walkIn, numbers-kept, begunNumbers}
+use Rattle.lowering.specs.Answers.{loweredNumbers, lowered-numbers}
+use Rattle.desk_numbers.specs.Numbers.{walkNumbers, walkIn, numbers-kept, begunNumbers}
 use Rattle.path.specs.declared.Walk.{Walk}
 use Rattle.claims.specs.Desk.{deskCalls, inNumbers, desk-calls}
 use Rattle.claims.specs.Hinting.{last-hints}

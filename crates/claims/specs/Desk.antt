@@ -12,7 +12,7 @@ use Rattle.tables.specs.Loops.{turns}
 use Rattle.path.specs.Path.{Tables, tables}
 use Rattle.start.specs.Start.{lentIn, startOf, startF}
 use Rattle.walk.specs.Visit.{visitF}
-use Rattle.desk.specs.Numbers.{walkNumbers, walkIn, numbers-kept, Begins, begunNumbers, Visits, visited, visitedNumbers}
+use Rattle.desk_numbers.specs.Numbers.{walkNumbers, walkIn, numbers-kept, Begins, begunNumbers, Visits, visited, visitedNumbers}
 use Rattle.claims.specs.Calls.{firstTables, afterCalls, calls-over}
 
 -- what a call of `desk_visit` leaves of what the call before it left, as its contract says

@@ -21,8 +21,9 @@ ghost use Rattle.start.specs.Start.{startF};
 ghost use Rattle.path.specs.Path.{tables};
 ghost use Rattle.walk.specs.Visit.{visitF};
 ghost use Rattle.lowering.specs.Lower.{lowerF};
-ghost use Rattle.lowering.specs.Answers.{fineNumbers, refusalNumbers, figuresNumbers, checkedNumbers, figuredNumbers};
-ghost use Rattle.desk.specs.Numbers.{walkIn, walkNumbers, begun, begunNumbers, visited, visitedNumbers, finished, finishedNumbers};
+ghost use Rattle.desk_numbers.specs.Answers.{fineNumbers, refusalNumbers, figuresNumbers, checkedNumbers, figuredNumbers};
+ghost use Rattle.desk_numbers.specs.Numbers.{walkIn, walkNumbers, begun, begunNumbers, visited, visitedNumbers};
+ghost use Rattle.desk.specs.Numbers.{finished, finishedNumbers};
 
 // ---- answers in numbers
 
