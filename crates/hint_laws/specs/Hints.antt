@@ -40,12 +40,15 @@ overDeclarators v (more h k r) = (if eqb (h .tag) Tag.Declarator then ofInitiali
 
 -- ---- initializers
 
+abbrev pub isExpression : ℕ → Bool
+isExpression t = oneOf expressions t
+
 -- The expressions as they are written, record by record: an initializer is told by all that stands in it down to the bodies of functions
 -- and to static blocks, which lowering may rewrite.
 unfoldable pub shown : Forest → List ℕ
 shown none = []
 shown (more h k r) =
-    (if oneOf expressions (h .tag) then h .tag ∷ (recordNumbers (row h (count k)) ++ shown k) else []) ++ shown r
+    (if isExpression (h .tag) then h .tag ∷ (recordNumbers (row h (count k)) ++ shown k) else []) ++ shown r
 
 -- A ForOf's using has no initializer in the source; lowering gives it a Read of a symbol that it makes, so its row is behind the rows read.
 unfoldable pub asInSource : ℕ → List ℕ → List ℕ

@@ -9,11 +9,10 @@ use lib.ListN.{length, take, getD, length-append}
 use lib.Dec.{eqb, leb, ltb}
 use borrow.Author.Tests.{eqb-true, leb-true, lt-ltb}
 use Rattle.meaning.specs.Numbers.Tag
-use Rattle.meaning.specs.Tree.{if_then_else_, oneOf, Head, hd, Forest, none, more, count, size, Row, row, flatten}
+use Rattle.meaning.specs.Tree.{if_then_else_, Head, hd, Forest, none, more, count, size, Row, row, flatten}
 use Rattle.meaning.specs.File.{Scope, Symbol, File, numbersOf, hasChildren, ownNumbers, recordNumbers, written}
-use Rattle.meaning.specs.Grammar.{expressions}
 use Rattle.spec_laws.specs.Tags.{and-left}
-use Rattle.hint_laws.specs.Hints.{sumOver, namesOf, ofInitializer, overDeclarators, shown, ofSource, called, callsIn, calls, given}
+use Rattle.hint_laws.specs.Hints.{sumOver, namesOf, ofInitializer, overDeclarators, isExpression, shown, ofSource, called, callsIn, calls, given}
 use Rattle.readback_laws.specs.ReadBack.{
   Read,
   readAs,
@@ -206,7 +205,7 @@ shown-kept (more h k r) =
     let same : h .tag ∷ (recordNumbers (row h′ (count (plain k))) ++ shown (plain k)) ≡ h .tag ∷ (recordNumbers (row h (count k)) ++ shown k) =
     ap (λ (ns : List ℕ). h .tag ∷ ns)
     (ap₂ _++_ (record-written h (count (plain k)) ∙ ap (λ (n : ℕ). recordNumbers (row h n)) (plain-count k)) (shown-kept k)) in
-    ap₂ _++_ (ap (λ (ns : List ℕ). if oneOf expressions (h .tag) then ns else []) same) (shown-kept r)
+    ap₂ _++_ (ap (λ (ns : List ℕ). if isExpression (h .tag) then ns else []) same) (shown-kept r)
 
 module _ (w : List ℕ → List ℕ → ℕ → ℕ) (read : ℕ) where
   called-kept : (names : List ℕ) (h : Head) (k : Forest) → called w read names (plainHead h) (plain k) ≡ called w read names h k

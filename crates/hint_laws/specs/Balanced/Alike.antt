@@ -19,6 +19,7 @@ use Rattle.hint_laws.specs.Hints.{
   namesOf,
   ofInitializer,
   overDeclarators,
+  isExpression,
   shown,
   wanted,
   letterFor,
@@ -40,7 +41,7 @@ record Tagless (t : ℕ) : Type 0 where
   five : eqb t Tag.Declaration ≡ false
   six : eqb t Tag.Declarator ≡ false
   name : eqb t Tag.Name ≡ false
-  expression : oneOf expressions t ≡ false
+  expression : isExpression t ≡ false
   call : eqb t Tag.Call ≡ false
 
 no-call : {t : ℕ} → Seen (Tag.Call ∷ []) t → oneOf expressions t ≡ false → eqb t Tag.Call ≡ false
@@ -105,9 +106,9 @@ shown-same (more h k r) (more h′ k′ r′) s =
     (⊎-elim
     (λ e.
     ap₂
-    (λ (n : ℕ) (ns : List ℕ). if oneOf expressions (h .tag) then h .tag ∷ (recordNumbers (row h n) ++ ns) else [])
+    (λ (n : ℕ) (ns : List ℕ). if isExpression (h .tag) then h .tag ∷ (recordNumbers (row h n) ++ ns) else [])
     (count-same k k′ (e .1)) (shown-same k k′ (e .1))
-    ∙ ap (λ (x : Head). if oneOf expressions (x .tag) then x .tag ∷ (recordNumbers (row x (count k′)) ++ shown k′) else []) (e .0))
+    ∙ ap (λ (x : Head). if isExpression (x .tag) then x .tag ∷ (recordNumbers (row x (count k′)) ++ shown k′) else []) (e .0))
     (λ n. let m = tagless h (n .0) .expression in let m′ = tagless h′ (n .1) .expression in rw (m, m′))
     (s .0))
     (shown-same r r′ (s .1))

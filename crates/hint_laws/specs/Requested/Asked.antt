@@ -11,13 +11,12 @@ use borrow.Author.Tests.{leb-true, le-ltb}
 use Rattle.meaning.specs.Numbers.Tag
 use Rattle.meaning.specs.Tree.{if_then_else_, oneOf, Head, hd, Forest, none, more, one, count, row}
 use Rattle.meaning.specs.File.{File, numbersOf, hasChildren, ownNumbers, recordNumbers}
-use Rattle.meaning.specs.Grammar.{expressions}
 use Rattle.meaning.specs.Reading.{accepted, readFile}
 use Rattle.meaning.specs.Hint.{syncDispose, asyncDispose, hintOf, letterOf}
 use Rattle.meaning.specs.Statements.{isUsing, isAwaitUsing, letterIf}
 use Rattle.meaning.specs.ForOf.{bindsIdentifier}
 use Rattle.spec_laws.specs.Tags.{Seen, other, here, there, seen, and-left}
-use Rattle.hint_laws.specs.Hints.{sumOver, namesOf, ofInitializer, overDeclarators, shown, asInSource, ofSource, wanted, letterFor, usingsIn, forOfUsing, asksFor, asked, called, callsIn, calls}
+use Rattle.hint_laws.specs.Hints.{sumOver, namesOf, ofInitializer, overDeclarators, isExpression, shown, asInSource, ofSource, wanted, letterFor, usingsIn, forOfUsing, asksFor, asked, called, callsIn, calls}
 use Rattle.hint_laws.specs.Requested.Everywhere.{Everywhere, everywhere, sums-same}
 use Rattle.hint_laws.specs.Requested.Known.{Known, accepted-known}
 use Rattle.spec_laws.specs.Bools.{if-same}
@@ -98,7 +97,7 @@ module _ (n : ℕ) (w : List ℕ → List ℕ → ℕ → ℕ) where
       → asInSource n (shown (one (hd t a b c) k)) ≡ shown (one (hd t a b c) k)
   unfolding asInSource shown count recordNumbers ownNumbers hasChildren numbersOf
   in-source a b c k here o = let e = le-ltb n a (leb-true a n (o refl)) in rw e
-  in-source {t} a b c k (there e other) o = other-in-source (oneOf expressions t) _
+  in-source {t} a b c k (there e other) o = other-in-source (isExpression t) _
     where
       other-in-source : (x : Bool) (ns : List ℕ)
           → asInSource n ((if x then t ∷ ns else []) ++ []) ≡ (if x then t ∷ ns else []) ++ []
