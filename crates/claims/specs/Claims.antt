@@ -45,7 +45,7 @@ use Rattle.start.specs.Filled.{admitted}
 use Rattle.walk.specs.Visit.{visitF}
 use Rattle.walk.specs.Over.{isOverIn, over-stays}
 use Rattle.walk.specs.Plain.{visitSomeF, some-visits}
-use Rattle.hint_laws.specs.Hints.{ofRead, asked, given}
+use Rattle.hint_laws.specs.Hints.{asked, given}
 use Rattle.bound_laws.specs.Last.{last-spot, last-is}
 use Rattle.readback_laws.specs.ReadBack.{fieldsOf, fieldCount, isRecord}
 use Rattle.readback_laws.specs.Decoded.{treeIn}
@@ -174,19 +174,22 @@ lowering-is-01 bytes r s y o f e h =
 
 -- THE HINTS. In the tree that the written bytes say, the Declarators outside a switch whose initializer lowering has wrapped are those of
 -- the source's usings that are taken up (in lists and Fors, Program's recorded ones, and ForOf's), and each Call has the letter of the
--- hint that TC39 gives the source's declaration. Said with weights: whatever a Declarator's names and a letter are weighted by, the sum
--- over the one side is the sum over the other, so each pair of names and letter is there as often. `given` counts Calls through contexts
--- that lowering made (their symbols are behind those read), of names that are symbols read.
-pub hints : (w : List ℕ → ℕ → ℕ) (bytes r s y : List ℕ) (f : File) → Bytes bytes → admit bytes (lentIn r s y) ≡ accepted f
+-- hint that TC39 gives the source's declaration. Said with weights: whatever a Declarator's names, its initializer and a letter are
+-- weighted by, the sum over the one side is the sum over the other, so each Declarator is there as often with each letter. An
+-- initializer is known by the expressions in it, as they are written; a function or class among them has a scope row of its own, so only
+-- Declarators of the same names and the same text count alike. `given` counts every Call that is an initializer through a context that
+-- lowering made (its symbol is behind those read), so lowering wraps no initializer that the source does not ask for, under a made name
+-- (`_default`) either.
+pub hints : (w : List ℕ → List ℕ → ℕ → ℕ) (bytes r s y : List ℕ) (f : File) → Bytes bytes → admit bytes (lentIn r s y) ≡ accepted f
     → let read = length (f .symbols) in
-    given (ofRead read w) read (treeIn (written (fileAt (lastSpot f)))) ≡ asked w (f .tree)
+    given w read (treeIn (written (fileAt (lastSpot f)))) ≡ asked w (f .tree)
 unfolding fileAt
 hints w bytes r s y f b e =
     let read = length (f .symbols) in
     let read-is = admitted bytes r s y f e .0 in
     let childless : Childless (treeAt (lastSpot f)) =
     rw (last-spot f) (accepted-childless bytes f (2 * finalFigures f .records) read-is) in
-    hints-back (ofRead read w) read (fileAt (lastSpot f)) (last-tagged bytes r s y f b e) childless ∙ last-hints w bytes f read-is
+    hints-back w read (fileAt (lastSpot f)) (last-tagged bytes r s y f b e) childless ∙ last-hints w bytes f read-is
 
 -- ---- DEMAND 3
 

@@ -16,8 +16,8 @@ use Rattle.meaning.specs.Walk.{Spot, at, leaving, over, isOver, visits, start, 
 use Rattle.meaning.specs.Charges.{finalFigures}
 use Rattle.meaning.specs.Lowering.{lastSpot}
 use Rattle.spec_laws.specs.Tags.{clash}
-use Rattle.hint_laws.specs.Hints.{sumOver, overDeclarators, takesUp, ofRead, asked, called, given}
-use Rattle.hint_laws.specs.Requested.Asked.{OldCalls, accepted-old, overs-none, calls-none, asked-by-kind, asked-of-read}
+use Rattle.hint_laws.specs.Hints.{sumOver, overDeclarators, takesUp, ofSource, asked, called, given}
+use Rattle.hint_laws.specs.Requested.Asked.{OldCalls, accepted-old, overs-none, calls-none, asked-by-kind, asked-of-source}
 use Rattle.hint_laws.specs.Balanced.Balance.{letterIn, waits, doneIn, gives, balanceOf, balance}
 use Rattle.hint_laws.specs.Balanced.Visit.{visits-balance}
 use Rattle.hint_laws.specs.Balanced.Settled.{Settled, settled-gives}
@@ -32,7 +32,7 @@ both u v (more h k r) = omega (arith, both u v k, both u v r)
 
 -- ---- the source gives nothing
 
-module _ (w : List ℕ → ℕ → ℕ) (read : ℕ) where
+module _ (w : List ℕ → List ℕ → ℕ → ℕ) (read : ℕ) where
   if-none : (b : Bool) (n m : ℕ) → n ≡ 0 → m ≡ 0 → (if b then n else 0) + m ≡ 0
   if-none true n m e d = omega arith
   if-none false n m e d = omega arith
@@ -74,31 +74,31 @@ quiet-end f k (leaving k₁ h d r p st) e o = absurd (clash refl o)
 
 -- ---- the two agree
 
-module _ (w : List ℕ → ℕ → ℕ) (b : List ℕ) (f : File) (e : readFile b ≡ accepted f) where
+module _ (w : List ℕ → List ℕ → ℕ → ℕ) (b : List ℕ) (f : File) (e : readFile b ≡ accepted f) where
   abbrev read : ℕ
   read = length (f .symbols)
 
-  abbrev old : List ℕ → ℕ → ℕ
-  old = ofRead read w
+  abbrev ofFile : List ℕ → List ℕ → ℕ → ℕ
+  ofFile = ofSource read w
 
   at-source : balance w read (f .tree) ≡ asked w (f .tree)
   unfolding balance balanceOf waits letterIn
   at-source =
-      both (waits old) (gives old read) (f .tree)
+      both (waits ofFile) (gives ofFile read) (f .tree)
       ∙ omega (
         arith,
-        gives-none old read (f .tree) (accepted-old b f e),
-        asked-by-kind old b f e,
-        asked-of-read w b f e,
+        gives-none ofFile read (f .tree) (accepted-old b f e),
+        asked-by-kind ofFile b f e,
+        asked-of-source w b f e,
       )
 
-  at-end : (t : Forest) → AllQuiet t → balance w read t ≡ given old read t
-  unfolding balance balanceOf waits
+  at-end : (t : Forest) → AllQuiet t → balance w read t ≡ given w read t
+  unfolding balance balanceOf waits given
   at-end t q =
-      both (waits old) (gives old read) t ∙ omega (arith, nothing-asked old letterIn t q, settled-gives old read t (quiet-settled t q))
+      both (waits ofFile) (gives ofFile read) t ∙ omega (arith, nothing-asked ofFile letterIn t q, settled-gives ofFile read t (quiet-settled t q))
 
   -- WHAT THE LOWERED TREE CALLS IS WHAT THE SOURCE ASKS FOR.
-  pub last-hints : given old read (treeAt (lastSpot f)) ≡ asked w (f .tree)
+  pub last-hints : given w read (treeAt (lastSpot f)) ≡ asked w (f .tree)
   last-hints =
       let n = 2 * finalFigures f .records in
       let q : AllQuiet (treeAt (lastSpot f)) = quiet-end f n (lastSpot f) (sym (last-spot f)) (last-over b f e) in

@@ -1,13 +1,17 @@
 -- What 01 shuts out by name. Each wrong lowering is written down here and refuted on a file: it is not 01's.
 -- Assumes nothing.
 use mathlib.Core.Path.{_≡_, refl, ap, _∙_}
-use mathlib.Core.Bool.{Bool, true, false}
-use mathlib.Core.List.{List, []}
-use Prim.Native.Nat.{ℕ, zero, suc}
+use mathlib.Core.Bool.{Bool, true, false, _&&_}
+use mathlib.Core.List.{List, [], _∷_}
+use Prim.Native.Nat.{ℕ, zero, suc, _-_}
 use native.Mathlib.Omega.{arith}
-use lib.ListN.{length}
-use Rattle.meaning.specs.Tree.{Forest, none}
-use Rattle.meaning.specs.File.{File, written}
+use lib.ListN.{length, getD}
+use lib.Dec.{eqb}
+use Rattle.meaning.specs.Numbers.Tag
+use Rattle.meaning.specs.Numbers.KnownName
+use Rattle.meaning.specs.Tree.{if_then_else_, hd, Forest, none, more}
+use Rattle.meaning.specs.File.{File, Symbol, written}
+use Rattle.meaning.specs.Statements.{wrapInitializer}
 use Rattle.meaning.specs.Reading.{Outcome, accepted, refused, _>>=_, _>>_, readFile}
 use Rattle.meaning.specs.Walk.{Spot, isOver, visits, start, fileAt}
 use Rattle.meaning.specs.Charges.{Figures, figures, figuresAt, finalFigures}
@@ -20,7 +24,9 @@ use Rattle.path.specs.Path.{Tables}
 use Rattle.representation.specs.Spots.Spots.{Rest, held}
 use Rattle.walk.specs.Over.{isOverIn}
 use Rattle.simulation.specs.Visit.{over-told}
-use Rattle.hint_laws.specs.Hints.{sumOver, namesOf, ofInitializer, overDeclarators, usingsIn, asksFor, asked}
+use Rattle.hint_laws.specs.Hints.{sumOver, namesOf, ofInitializer, overDeclarators, shown, asInSource, usingsIn, asksFor, asked, called, callsIn, calls, given}
+use Rattle.readback_laws.specs.ReadBack.{numbersIn, fieldsIn, fieldsOf}
+use Rattle.readback_laws.specs.Decoded.{recordsOf, rowOf, treesFrom, treeIn}
 
 -- ---- two files and what is seen of an answer
 
@@ -243,17 +249,20 @@ no-inventing-contexts e = omega (arith, invented-contexts, whole-contexts, ap (�
 
 -- ---- one letter for all (excluded by `hints`)
 
+abbrev Weight : Type 0
+Weight = List ℕ → List ℕ → ℕ → ℕ
+
 -- a block with an `await using`
 abbrev awaited : List ℕ
 awaited = bytes "40:1,0 41:0,16 41:1,0 42:10,6,2,0 1:1,1 2:2,1 5:4,1 6:0,1,2 26:1 24:7,0"
 
 -- every using is taken for a plain one
-unfoldable pub askedPlain : (List ℕ → ℕ → ℕ) → Forest → ℕ
+unfoldable pub askedPlain : Weight → Forest → ℕ
 askedPlain w tree = sumOver (asksFor w (λ _. 0)) tree
 
 -- each using counts its letter
-abbrev byLetter : List ℕ → ℕ → ℕ
-byLetter names letter = letter
+abbrev byLetter : Weight
+byLetter names e letter = letter
 
 asked-letter : asked byLetter (fileOf (readFile awaited) .tree) ≡ 1
 unfolding asked sumOver asksFor usingsIn overDeclarators ofInitializer namesOf hintOf letterOf computing
@@ -269,5 +278,121 @@ no-one-letter e =
       arith,
       asked-letter,
       plain-letter,
-      ap (λ (a : (List ℕ → ℕ → ℕ) → Forest → ℕ). a byLetter (fileOf (readFile awaited) .tree)) e,
+      ap (λ (a : Weight → Forest → ℕ). a byLetter (fileOf (readFile awaited) .tree)) e,
     )
+
+-- ---- hints in the written file
+
+-- what is written; nothing for a refusal
+abbrev bytesOf : Outcome Written → List ℕ
+bytesOf (accepted w) = w .file
+bytesOf (refused c p) = []
+
+-- what the source asks for, and what is called in the file that a lowering writes
+abbrev askedIn : List ℕ → Weight → ℕ
+askedIn file w = asked w (fileOf (readFile file) .tree)
+
+abbrev givenBy : Lowering → List ℕ → Weight → ℕ
+givenBy l file w = given w (length (fileOf (readFile file) .symbols)) (treeIn (bytesOf (on l file)))
+
+-- what `hints` says of a lowering, on a file
+abbrev Hinted : Lowering → List ℕ → Type 0
+Hinted l file = (w : Weight) → givenBy l file w ≡ askedIn file w
+
+-- a lowering that changes the lowered tree before it is written
+abbrev withTree : File → Forest → File
+withTree f tree = record { mode = f .mode; isModule = f .isModule; scopes = f .scopes; symbols = f .symbols; tree = tree }
+
+abbrev changing : (List Symbol → Forest → Forest) → Lowering
+changing change file lent out = do
+  f ← admit file lent
+  checkOutput out (finalFigures f)
+  accepted
+      (record {
+        file = written (withTree (fileAt (lastSpot f)) (change (fileAt (lastSpot f) .symbols) (fileAt (lastSpot f) .tree)));
+        figures = finalFigures f;
+      })
+
+-- ---- the letters of two declarations swapped (excluded by `hints`)
+
+-- a Block with `using [] = 7` and `await using [] = 8`, whose Declarators both bind no name
+abbrev twins : List ℕ
+twins = bytes "40:1,0 41:0,16 41:1,0 1:1,1 2:2,2 5:3,1 6:1,0,1 24:7,0 5:4,1 6:1,0,1 24:8,0"
+
+-- each Call has the other letter
+unfoldable pub otherLetters : Forest → Forest
+otherLetters none = none
+otherLetters (more h k r) =
+    more (if eqb (h .tag) Tag.Call then hd Tag.Call (1 - h .a) (h .b) 0 else h) (otherLetters k) (otherLetters r)
+
+unfoldable pub swapping : Lowering
+swapping file lent out = changing (λ _ tree. otherLetters tree) file lent out
+
+-- the letter of the declaration whose initializer is `24:8`
+abbrev ofEight : Weight
+ofEight names e letter = if eqb (getD e 1 0) 8 then letter else 0
+
+twins-asked : askedIn twins ofEight ≡ 1
+unfolding asked sumOver asksFor usingsIn overDeclarators ofInitializer namesOf shown hintOf letterOf computing
+twins-asked = refl
+
+twins-swapped : givenBy swapping twins ofEight ≡ 0
+unfolding swapping otherLetters given sumOver calls callsIn overDeclarators ofInitializer namesOf called shown asInSource treeIn treesFrom recordsOf rowOf fieldsOf fieldsIn numbersIn computing
+twins-swapped = refl
+
+twins-lowered : givenBy lower twins ofEight ≡ 1
+unfolding given sumOver calls callsIn overDeclarators ofInitializer namesOf called shown asInSource treeIn treesFrom recordsOf rowOf fieldsOf fieldsIn numbersIn computing
+twins-lowered = refl
+
+pub no-swapped-letters : swapping ≡ lower → ⊥
+no-swapped-letters e = omega (arith, twins-lowered, twins-swapped, ap (λ (l : Lowering). givenBy l twins ofEight) e)
+
+-- its file has not what `hints` says
+pub swapped-not-hinted : Hinted swapping twins → ⊥
+swapped-not-hinted e = omega (arith, twins-asked, twins-swapped, e ofEight)
+
+-- ---- the value of `_default` wrapped (excluded by `hints`)
+
+-- a module with a using and an exported value
+abbrev exporting : List ℕ
+exporting = bytes "40:1,1 41:0,17 42:10,6,1,0 1:1,2 5:3,1 6:0,1,2 26:1 24:7,0 18:1 24:5,0"
+
+-- the row of the first symbol with a name
+unfoldable pub rowNamed : ℕ → ℕ → List Symbol → ℕ
+rowNamed name i [] = 0
+rowNamed name i (y ∷ ys) = if eqb (y .name) name then i else rowNamed name (suc i) ys
+
+-- the initializer of `_default` is called through the context, too
+unfoldable pub wrapDefault : List Symbol → Forest → Forest
+wrapDefault ys none = none
+wrapDefault ys (more h k r) =
+    more h
+    (if eqb (h .tag) Tag.Declarator && eqb (getD (namesOf 1 k) 0 0) (rowNamed KnownName.DefaultValue 1 ys) then
+    wrapInitializer 0 (rowNamed KnownName.UsingCtx 1 ys) 1 k
+    else wrapDefault ys k)
+    (wrapDefault ys r)
+
+unfoldable pub wrappingDefault : Lowering
+wrappingDefault file lent out = changing wrapDefault file lent out
+
+-- every initializer that is called counts
+abbrev anyCalled : Weight
+anyCalled names e letter = 1
+
+default-asked : askedIn exporting anyCalled ≡ 1
+unfolding asked sumOver asksFor usingsIn overDeclarators ofInitializer namesOf shown hintOf letterOf computing
+default-asked = refl
+
+default-wrapped : givenBy wrappingDefault exporting anyCalled ≡ 2
+unfolding wrappingDefault wrapDefault rowNamed given sumOver calls callsIn overDeclarators ofInitializer namesOf called shown asInSource treeIn treesFrom recordsOf rowOf fieldsOf fieldsIn numbersIn computing
+default-wrapped = refl
+
+default-lowered : givenBy lower exporting anyCalled ≡ 1
+unfolding given sumOver calls callsIn overDeclarators ofInitializer namesOf called shown asInSource treeIn treesFrom recordsOf rowOf fieldsOf fieldsIn numbersIn computing
+default-lowered = refl
+
+pub no-wrapped-default : wrappingDefault ≡ lower → ⊥
+no-wrapped-default e = omega (arith, default-lowered, default-wrapped, ap (λ (l : Lowering). givenBy l exporting anyCalled) e)
+
+pub wrapped-not-hinted : Hinted wrappingDefault exporting → ⊥
+wrapped-not-hinted e = omega (arith, default-asked, default-wrapped, e anyCalled)

@@ -11,5 +11,6 @@ pub mod ForOf
 pub mod Items
 pub mod Program
 pub mod Entered
+pub mod Once
 pub mod Visit
 pub mod Settled

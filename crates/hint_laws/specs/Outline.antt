@@ -7,13 +7,14 @@ use mathlib.Core.Logic.{_⊎_, inl, inr}
 use Prim.Native.Nat.{ℕ}
 use Rattle.meaning.specs.Numbers.Tag
 use Rattle.meaning.specs.Tree.{oneOf, Head, Forest, none, more, _&_}
+use Rattle.meaning.specs.Grammar.{expressions}
 use Rattle.meaning.specs.Statements.{isUsing, anyUsing}
 use Rattle.spec_laws.specs.Bools.{no-summand}
-use Rattle.hint_laws.specs.Hints.{overDeclarators, usingsIn}
+use Rattle.hint_laws.specs.Hints.{overDeclarators, wanted, usingsIn}
 
--- neither a Declaration nor a Declarator, a Name or a Call
+-- neither a Declaration nor a Declarator, a Name or an expression
 abbrev pub Neutral : Head → Type 0
-Neutral h = oneOf (Tag.Declaration ∷ Tag.Declarator ∷ Tag.Name ∷ Tag.Call ∷ []) (h .tag) ≡ false
+Neutral h = oneOf (Tag.Declaration ∷ Tag.Declarator ∷ Tag.Name ∷ expressions) (h .tag) ≡ false
 
 -- record by record: the same head above the same outline, or two neutral heads above anything
 unfoldable pub Same : Forest → Forest → Type 0
@@ -46,8 +47,8 @@ same-neutral h h′ k k′ r n n′ = (inr (n, n′), same-refl r)
 -- ---- lists without usings
 
 -- ask for nothing
-pub no-usings : (w : List ℕ → ℕ → ℕ) (letter : Head → ℕ) (f : Forest) → anyUsing f ≡ false → usingsIn w letter f ≡ 0
+pub no-usings : (w : List ℕ → List ℕ → ℕ → ℕ) (letter : Head → ℕ) (f : Forest) → anyUsing f ≡ false → usingsIn w letter f ≡ 0
 unfolding usingsIn anyUsing
 no-usings w letter none e = refl
 no-usings w letter (more h k r) e =
-    no-summand (isUsing h) (anyUsing r) (overDeclarators (λ names _. w names (letter h)) k) (usingsIn w letter r) e (no-usings w letter r)
+    no-summand (isUsing h) (anyUsing r) (overDeclarators (wanted w (letter h)) k) (usingsIn w letter r) e (no-usings w letter r)

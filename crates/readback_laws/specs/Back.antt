@@ -7,12 +7,12 @@ use Prim.Native.Nat.{ℕ, zero, suc, _+_, _≤_}
 use native.Mathlib.Omega.{arith}
 use lib.ListN.{length, take, getD, length-append}
 use lib.Dec.{eqb, leb, ltb}
-use borrow.Author.Tests.{eqb-true, leb-true}
+use borrow.Author.Tests.{eqb-true, leb-true, lt-ltb}
 use Rattle.meaning.specs.Numbers.Tag
 use Rattle.meaning.specs.Tree.{if_then_else_, Head, hd, Forest, none, more, count, size, Row, row, flatten}
 use Rattle.meaning.specs.File.{Scope, Symbol, File, numbersOf, hasChildren, ownNumbers, recordNumbers, written}
 use Rattle.spec_laws.specs.Tags.{and-left}
-use Rattle.hint_laws.specs.Hints.{sumOver, namesOf, ofInitializer, overDeclarators, called, callsIn, calls, given}
+use Rattle.hint_laws.specs.Hints.{sumOver, namesOf, ofInitializer, overDeclarators, isExpression, shown, ofSource, called, callsIn, calls, given}
 use Rattle.readback_laws.specs.ReadBack.{
   Read,
   readAs,
@@ -180,20 +180,47 @@ names-kept (suc m) none = refl
 names-kept (suc m) (more h k r) =
     ap₂ _∷_ (if-same (eqb (h .tag) Tag.Name) (plainHead h .a) (h .a) (keeps-a h 26 refl)) (names-kept m r)
 
-module _ (w : List ℕ → ℕ → ℕ) (read : ℕ) where
-  called-kept : (names : List ℕ) (h : Head) → called w read names (plainHead h) ≡ called w read names h
+-- what is written of a record is what was written of it
+numbers-kept : (own x y z : ℕ)
+    → take own ((if ltb 0 own then x else 0) ∷ (if ltb 1 own then y else 0) ∷ (if ltb 2 own then z else 0) ∷ [])
+    ≡ take own (x ∷ y ∷ z ∷ [])
+numbers-kept zero x y z = refl
+numbers-kept (suc zero) x y z = refl
+numbers-kept (suc (suc zero)) x y z = refl
+numbers-kept (suc (suc (suc n))) x y z =
+    let own = suc (suc (suc n)) in
+    rw (lt-ltb 0 own (omega arith), lt-ltb 1 own (omega arith), lt-ltb 2 own (omega arith))
+
+record-written : (h : Head) (n : ℕ) → recordNumbers (row (plainHead h) n) ≡ recordNumbers (row h n)
+unfolding recordNumbers plainHead
+record-written h n =
+    let t = h .tag in
+    ap (λ (ns : List ℕ). ns ++ (if hasChildren t then n ∷ [] else [])) (numbers-kept (ownNumbers t) (h .a) (h .b) (h .c))
+
+shown-kept : (f : Forest) → shown (plain f) ≡ shown f
+unfolding shown plain plainHead
+shown-kept none = refl
+shown-kept (more h k r) =
+    let h′ = plainHead h in
+    let same : h .tag ∷ (recordNumbers (row h′ (count (plain k))) ++ shown (plain k)) ≡ h .tag ∷ (recordNumbers (row h (count k)) ++ shown k) =
+    ap (λ (ns : List ℕ). h .tag ∷ ns)
+    (ap₂ _++_ (record-written h (count (plain k)) ∙ ap (λ (n : ℕ). recordNumbers (row h n)) (plain-count k)) (shown-kept k)) in
+    ap₂ _++_ (ap (λ (ns : List ℕ). if isExpression (h .tag) then ns else []) same) (shown-kept r)
+
+module _ (w : List ℕ → List ℕ → ℕ → ℕ) (read : ℕ) where
+  called-kept : (names : List ℕ) (h : Head) (k : Forest) → called w read names (plainHead h) (plain k) ≡ called w read names h k
   unfolding called plainHead ownNumbers hasChildren numbersOf
-  called-kept names h = go (eqb (h .tag) Tag.Call) refl
+  called-kept names h k = go (eqb (h .tag) Tag.Call) refl
     where
-      go : (b : Bool) → eqb (h .tag) Tag.Call ≡ b → called w read names (plainHead h) ≡ called w read names h
-      go true e = rw (keeps-a h 27 refl e, keeps-b h 27 refl e)
+      go : (b : Bool) → eqb (h .tag) Tag.Call ≡ b → called w read names (plainHead h) (plain k) ≡ called w read names h k
+      go true e = rw (keeps-a h 27 refl e, keeps-b h 27 refl e, shown-kept k)
       go false e = rw e
 
   initializer-kept : (names : List ℕ) (m : ℕ) (k : Forest)
       → ofInitializer (called w read names) m (plain k) ≡ ofInitializer (called w read names) m k
   unfolding ofInitializer plain
   initializer-kept names m none = refl
-  initializer-kept names zero (more h k r) = called-kept names h
+  initializer-kept names zero (more h k r) = called-kept names h k
   initializer-kept names (suc m) (more h k r) = initializer-kept names m r
 
   declarators-kept : (f : Forest) → overDeclarators (called w read) (plain f) ≡ overDeclarators (called w read) f
@@ -215,13 +242,13 @@ module _ (w : List ℕ → ℕ → ℕ) (read : ℕ) where
   unfolding calls plainHead
   record-kept h k = rw (calls-kept k)
 
-  -- What is not written changes no hint.
-  pub plain-gives : (f : Forest) → given w read (plain f) ≡ given w read f
-  unfolding given sumOver plain
+  plain-gives : (f : Forest) → sumOver (calls w read) (plain f) ≡ sumOver (calls w read) f
+  unfolding sumOver plain
   plain-gives none = refl
   plain-gives (more h k r) = ap₂ _+_ (record-kept h k) (ap₂ _+_ (plain-gives k) (plain-gives r))
 
-  -- The tree read off the written bytes gives the hints of the tree.
-  pub hints-back : (g : File) → Tagged (g .tree) → Childless (g .tree)
-      → given w read (treeIn (written g)) ≡ given w read (g .tree)
-  hints-back g q c = ap (given w read) (tree-back g q c) ∙ plain-gives (g .tree)
+-- The tree read off the written bytes gives the hints of the tree: what is not written changes none.
+pub hints-back : (w : List ℕ → List ℕ → ℕ → ℕ) (read : ℕ) (g : File) → Tagged (g .tree) → Childless (g .tree)
+    → given w read (treeIn (written g)) ≡ given w read (g .tree)
+unfolding given
+hints-back w read g q c = ap (given w read) (tree-back g q c) ∙ plain-gives (ofSource read w) read (g .tree)

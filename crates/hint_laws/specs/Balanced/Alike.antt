@@ -2,21 +2,26 @@
 -- Assumes nothing.
 use mathlib.Core.Path.{_≡_, refl, sym, ap, ap₂, _∙_}
 use mathlib.Core.Bool.{Bool, true, false, not, _&&_}
-use mathlib.Core.List.{List, [], _∷_}
+use mathlib.Core.List.{List, [], _∷_, _++_}
 use mathlib.Core.Logic.{_⊎_, ⊎-elim}
 use Prim.Native.Nat.{ℕ, zero, suc, _+_}
 use native.Mathlib.Omega.{arith}
-use lib.Dec.{eqb}
+use lib.Dec.{eqb, ltb}
 use Rattle.meaning.specs.Numbers.Tag
-use Rattle.meaning.specs.Tree.{if_then_else_, oneOf, Head, Forest, none, more, _&_}
+use Rattle.meaning.specs.Tree.{if_then_else_, oneOf, Head, Forest, none, more, one, count, row, _&_}
+use Rattle.meaning.specs.File.{recordNumbers}
+use Rattle.meaning.specs.Grammar.{expressions}
 use Rattle.meaning.specs.Statements.{isUsing}
 use Rattle.meaning.specs.ForOf.{bindsIdentifier}
 use Rattle.meaning.specs.Walk.{Crumb, crumb, plug}
-use Rattle.spec_laws.specs.Tags.{or-none}
+use Rattle.spec_laws.specs.Tags.{Seen, other, here, there, seen, clash, or-none}
 use Rattle.hint_laws.specs.Hints.{
   namesOf,
   ofInitializer,
   overDeclarators,
+  isExpression,
+  shown,
+  wanted,
   letterFor,
   usingsIn,
   forOfUsing,
@@ -36,15 +41,20 @@ record Tagless (t : ℕ) : Type 0 where
   five : eqb t Tag.Declaration ≡ false
   six : eqb t Tag.Declarator ≡ false
   name : eqb t Tag.Name ≡ false
+  expression : isExpression t ≡ false
   call : eqb t Tag.Call ≡ false
+
+no-call : {t : ℕ} → Seen (Tag.Call ∷ []) t → oneOf expressions t ≡ false → eqb t Tag.Call ≡ false
+no-call here e = absurd (clash e refl)
+no-call (there n other) e = n
 
 tagless : (h : Head) → Neutral h → Tagless (h .tag)
 tagless h n =
     let t = h .tag in
-    let n₅ = or-none (eqb t Tag.Declaration) (oneOf (Tag.Declarator ∷ Tag.Name ∷ Tag.Call ∷ []) t) n in
-    let n₆ = or-none (eqb t Tag.Declarator) (oneOf (Tag.Name ∷ Tag.Call ∷ []) t) (n₅ .1) in
-    let n₂₆ = or-none (eqb t Tag.Name) (oneOf (Tag.Call ∷ []) t) (n₆ .1) in
-    record { five = n₅ .0; six = n₆ .0; name = n₂₆ .0; call = or-none (eqb t Tag.Call) false (n₂₆ .1) .0 }
+    let n₅ = or-none (eqb t Tag.Declaration) (oneOf (Tag.Declarator ∷ Tag.Name ∷ expressions) t) n in
+    let n₆ = or-none (eqb t Tag.Declarator) (oneOf (Tag.Name ∷ expressions) t) (n₅ .1) in
+    let n₂₆ = or-none (eqb t Tag.Name) (oneOf expressions t) (n₆ .1) in
+    record { five = n₅ .0; six = n₆ .0; name = n₂₆ .0; expression = n₂₆ .1; call = no-call (seen (Tag.Call ∷ []) t) (n₂₆ .1) }
 
 pub neutral-using : (h : Head) → Neutral h → isUsing h ≡ false
 unfolding isUsing
@@ -78,20 +88,45 @@ names-same (suc m) (more h k r) (more h′ k′ r′) s =
     (alike-value (λ x. eqb (x .tag) Tag.Name) (λ x _. x .a) h h′ k k′ (λ x n. tagless x n .name) (λ x _. refl) (s .0))
     (names-same m r r′ (s .1))
 
--- a value of initializers that neutral ones share
-abbrev Blind : (Head → ℕ) → Type 0
-Blind v = (h h′ : Head) → Neutral h → Neutral h′ → v h ≡ v h′
+count-same : (f g : Forest) → Same f g → count f ≡ count g
+unfolding Same count
+count-same none none s = refl
+count-same none (more h′ k′ r′) s = absurd s
+count-same (more h k r) none s = absurd s
+count-same (more h k r) (more h′ k′ r′) s = ap suc (count-same r r′ (s .1))
 
-initializer-same : (v : Head → ℕ) (m : ℕ) (f g : Forest) → Blind v → Same f g → ofInitializer v m f ≡ ofInitializer v m g
+-- the expressions are written alike
+shown-same : (f g : Forest) → Same f g → shown f ≡ shown g
+unfolding Same shown
+shown-same none none s = refl
+shown-same none (more h′ k′ r′) s = absurd s
+shown-same (more h k r) none s = absurd s
+shown-same (more h k r) (more h′ k′ r′) s =
+    ap₂ _++_
+    (⊎-elim
+    (λ e.
+    ap₂
+    (λ (n : ℕ) (ns : List ℕ). if isExpression (h .tag) then h .tag ∷ (recordNumbers (row h n) ++ ns) else [])
+    (count-same k k′ (e .1)) (shown-same k k′ (e .1))
+    ∙ ap (λ (x : Head). if isExpression (x .tag) then x .tag ∷ (recordNumbers (row x (count k′)) ++ shown k′) else []) (e .0))
+    (λ n. let m = tagless h (n .0) .expression in let m′ = tagless h′ (n .1) .expression in rw (m, m′))
+    (s .0))
+    (shown-same r r′ (s .1))
+
+-- a value that initializers with the same outline share
+abbrev Blind : (Head → Forest → ℕ) → Type 0
+Blind v = (h h′ : Head) (k k′ : Forest) → Alike h k h′ k′ → v h k ≡ v h′ k′
+
+initializer-same : (v : Head → Forest → ℕ) (m : ℕ) (f g : Forest) → Blind v → Same f g → ofInitializer v m f ≡ ofInitializer v m g
 unfolding Same ofInitializer
 initializer-same v zero none none b s = refl
 initializer-same v (suc m) none none b s = refl
 initializer-same v m none (more h′ k′ r′) b s = absurd s
 initializer-same v m (more h k r) none b s = absurd s
-initializer-same v zero (more h k r) (more h′ k′ r′) b s = ⊎-elim (λ e. ap v (e .0)) (λ n. b h h′ (n .0) (n .1)) (s .0)
+initializer-same v zero (more h k r) (more h′ k′ r′) b s = b h h′ k k′ (s .0)
 initializer-same v (suc m) (more h k r) (more h′ k′ r′) b s = initializer-same v m r r′ b (s .1)
 
-declarators-same : (v : List ℕ → Head → ℕ) (f g : Forest) → ((names : List ℕ) → Blind (v names)) → Same f g
+declarators-same : (v : List ℕ → Head → Forest → ℕ) (f g : Forest) → ((names : List ℕ) → Blind (v names)) → Same f g
     → overDeclarators v f ≡ overDeclarators v g
 unfolding Same overDeclarators
 declarators-same v none none b s = refl
@@ -110,10 +145,18 @@ and-if : (a b : Bool) (n : ℕ) → (if a && b then n else 0) ≡ (if a then if 
 and-if true b n = refl
 and-if false b n = refl
 
-module _ (w : List ℕ → ℕ → ℕ) (read : ℕ) where
+module _ (w : List ℕ → List ℕ → ℕ → ℕ) (read : ℕ) where
   called-blind : (names : List ℕ) → Blind (called w read names)
   unfolding called
-  called-blind names h h′ n n′ = let m = tagless h n .call in let m′ = tagless h′ n′ .call in rw (m, m′)
+  called-blind names h h′ k k′ a =
+      alike-value (λ x. eqb (x .tag) Tag.Call && ltb read (x .b)) (λ x kids. w names (shown kids) (x .a)) h h′ k k′
+      (λ x n. let m = tagless x n .call in rw m)
+      (λ x s. ap (λ (e : List ℕ). w names e (x .a)) (shown-same k k′ s))
+      a
+
+  wanted-blind : (letter : ℕ) (names : List ℕ) → Blind (wanted w letter names)
+  unfolding Same
+  wanted-blind letter names h h′ k k′ a = ap (λ (e : List ℕ). w names e letter) (shown-same (one h k) (one h′ k′) (a, tt))
 
   usings-same : (letter : Head → ℕ) (f g : Forest) → Same f g → usingsIn w letter f ≡ usingsIn w letter g
   unfolding Same usingsIn
@@ -122,8 +165,8 @@ module _ (w : List ℕ → ℕ → ℕ) (read : ℕ) where
   usings-same letter (more h k r) none s = absurd s
   usings-same letter (more h k r) (more h′ k′ r′) s =
       ap₂ _+_
-      (alike-value isUsing (λ x kids. overDeclarators (λ names _. w names (letter x)) kids) h h′ k k′ neutral-using
-      (λ x e. declarators-same (λ names _. w names (letter x)) k k′ (λ names y y′ _ _. refl) e)
+      (alike-value isUsing (λ x kids. overDeclarators (wanted w (letter x)) kids) h h′ k k′ neutral-using
+      (λ x e. declarators-same (wanted w (letter x)) k k′ (wanted-blind (letter x)) e)
       (s .0))
       (usings-same letter r r′ (s .1))
 
@@ -157,7 +200,7 @@ module _ (w : List ℕ → ℕ → ℕ) (read : ℕ) where
   -- what the Declarators of its using ask for
   unfoldable pub heldBy : ℕ → Forest → ℕ
   heldBy letter none = 0
-  heldBy letter (more d kids s) = if eqb (d .tag) Tag.Declarator && eqb (d .a) 0 then w (namesOf 1 kids) letter else 0
+  heldBy letter (more d kids s) = if eqb (d .tag) Tag.Declarator && eqb (d .a) 0 then w (namesOf 1 kids) [] letter else 0
 
   held-same : (letter : ℕ) (f g : Forest) → Same f g → heldBy letter f ≡ heldBy letter g
   unfolding Same heldBy
@@ -165,9 +208,9 @@ module _ (w : List ℕ → ℕ → ℕ) (read : ℕ) where
   held-same letter none (more h′ k′ r′) s = absurd s
   held-same letter (more h k r) none s = absurd s
   held-same letter (more h k r) (more h′ k′ r′) s =
-      alike-value (λ x. eqb (x .tag) Tag.Declarator && eqb (x .a) 0) (λ _ kids. w (namesOf 1 kids) letter) h h′ k k′
+      alike-value (λ x. eqb (x .tag) Tag.Declarator && eqb (x .a) 0) (λ _ kids. w (namesOf 1 kids) [] letter) h h′ k k′
       (λ x n. let e = tagless x n .six in rw e)
-      (λ x e. ap (λ (names : List ℕ). w names letter) (names-same 1 k k′ e))
+      (λ x e. ap (λ (names : List ℕ). w names [] letter) (names-same 1 k k′ e))
       (s .0)
 
   of-two : (h₁ : Head) (k₁ : Forest) (h₂ : Head) (k₂ : Forest) → forOfUsing w (more h₁ k₁ (more h₂ k₂ none)) ≡ 0
@@ -183,7 +226,7 @@ module _ (w : List ℕ → ℕ → ℕ) (read : ℕ) where
       no-value : (b : Bool) → _≡_ {A = ℕ} 0 (if b then 0 else 0)
       no-value true = refl
       no-value false = refl
-  of-three h₁ (more d kids s) h₂ k₂ h₃ k₃ r = and-if (isUsing h₁) (eqb (d .tag) Tag.Declarator && eqb (d .a) 0) (w (namesOf 1 kids) (letterFor h₁))
+  of-three h₁ (more d kids s) h₂ k₂ h₃ k₃ r = and-if (isUsing h₁) (eqb (d .tag) Tag.Declarator && eqb (d .a) 0) (w (namesOf 1 kids) [] (letterFor h₁))
 
   for-of-same : (f g : Forest) → Same f g → forOfUsing w f ≡ forOfUsing w g
   unfolding Same forOfUsing

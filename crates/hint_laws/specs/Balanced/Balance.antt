@@ -7,13 +7,13 @@ use lib.Dec.{eqb}
 use Rattle.meaning.specs.Numbers.Tag
 use Rattle.meaning.specs.Tree.{if_then_else_, Head, Forest, none, more}
 use Rattle.meaning.specs.Statements.{isUsing, isAwaitUsing, letterIf}
-use Rattle.hint_laws.specs.Hints.{sumOver, overDeclarators, letterFor, takesUp, ofRead, asksFor, called, calls}
+use Rattle.hint_laws.specs.Hints.{sumOver, overDeclarators, letterFor, takesUp, ofSource, asksFor, called, calls}
 
 -- The letter with which a using in a list will be called, by the tag of the list's record: Program's are recorded with their kinds.
 unfoldable pub letterIn : ℕ → Head → ℕ
 letterIn t h = if eqb t Tag.Program then letterFor h else letterIf (isAwaitUsing h)
 
-module _ (w : List ℕ → ℕ → ℕ) where
+module _ (w : List ℕ → List ℕ → ℕ → ℕ) where
   -- what a record still asks for
   unfoldable pub waits : Head → Forest → ℕ
   waits h k = asksFor w (letterIn (h .tag)) h k
@@ -31,6 +31,6 @@ module _ (w : List ℕ → ℕ → ℕ) where
   unfoldable pub balanceOf : ℕ → Forest → ℕ
   balanceOf read tree = sumOver (λ h k. waits h k + gives read h k) tree
 
--- WHAT A TREE GIVES AND STILL ASKS FOR, for names of rows read.
-unfoldable pub balance : (w : List ℕ → ℕ → ℕ) → ℕ → Forest → ℕ
-balance w read tree = balanceOf (ofRead read w) read tree
+-- WHAT A TREE GIVES AND STILL ASKS FOR.
+unfoldable pub balance : (w : List ℕ → List ℕ → ℕ → ℕ) → ℕ → Forest → ℕ
+balance w read tree = balanceOf (ofSource read w) read tree

@@ -28,7 +28,7 @@ use Rattle.hint_laws.specs.Balanced.Balance.{letterIn, waits, doneIn, gi
 use Rattle.hint_laws.specs.Balanced.Sums.{ownLetter, worth, balance-more, balance-none}
 use Rattle.hint_laws.specs.Balanced.Tries.{listed, try-listed, taken-listed}
 
-module _ (w : List ℕ → ℕ → ℕ) (read : ℕ) where
+module _ (w : List ℕ → List ℕ → ℕ → ℕ) (read : ℕ) where
   -- what comes of a record counts what it counted
   abbrev pub Keeps : Head → Forest → Node × Store → Type 0
   Keeps h k e = balanceOf w read (single (e .0)) ≡ balanceOf w read (one h k)

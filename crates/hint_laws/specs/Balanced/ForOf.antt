@@ -3,9 +3,10 @@
 use mathlib.Core.Path.{_≡_, refl, ap, _∙_}
 use mathlib.Core.Bool.{Bool, true, false}
 use mathlib.Core.List.{List, [], _∷_}
-use Prim.Native.Nat.{ℕ, _+_}
+use Prim.Native.Nat.{ℕ, _+_, _≤_, _<_}
 use native.Mathlib.Omega.{arith}
 use lib.Dec.{eqb}
+use lib.ListN.{length}
 use borrow.Author.Tests.{eqb-true}
 use Rattle.meaning.specs.Numbers.Tag
 use Rattle.meaning.specs.Numbers.Kind
@@ -24,6 +25,7 @@ use Rattle.hint_laws.specs.Hints.{
   namesOf,
   ofInitializer,
   overDeclarators,
+  shown,
   letterFor,
   usingsIn,
   forOfUsing,
@@ -38,10 +40,10 @@ use Rattle.hint_laws.specs.Balanced.Lists.{worth-plain}
 use Rattle.hint_laws.specs.Balanced.Tries.{listed}
 use Rattle.hint_laws.specs.Balanced.Contexts.{Keeps, Counts}
 
-module _ (w : List ℕ → ℕ → ℕ) (read : ℕ) where
+module _ (w : List ℕ → List ℕ → ℕ → ℕ) (read : ℕ) where
   -- what the using of a ForOf asks for, by its symbol and kind
   abbrev asks : ℕ → ℕ → ℕ
-  asks y kind = w (y ∷ []) (letterOf (hintOf kind))
+  asks y kind = w (y ∷ []) [] (letterOf (hintOf kind))
 
   held-asks : (kind : ℕ) (k : Forest) → bindsIdentifier k ≡ true → Named k → Begins k
       → heldBy w read (letterOf (hintOf kind)) k ≡ asks (boundSymbol k) kind
@@ -50,13 +52,18 @@ module _ (w : List ℕ → ℕ → ℕ) (read : ℕ) where
   held-asks kind (more d none r) b n s = absurd s
   held-asks kind (more d (more x k r₁) r) b n s = rw (b, n)
 
+  -- a Read of a new symbol is taken for no initializer
+  abbrev pub Unseen : Type 0
+  Unseen = (y t letter : ℕ) → read < t → w (y ∷ []) (shown (Rattle.meaning.specs.Shapes.read t)) letter ≡ w (y ∷ []) [] letter
+
   -- the using that goes into the body
-  made-using : {kind : ℕ} (y temp : ℕ) (g : Forest) → Seen (Kind.Using ∷ Kind.AwaitUsing ∷ []) kind → oneOf (Kind.Using ∷ Kind.AwaitUsing ∷ []) kind ≡ true
+  made-using : {kind : ℕ} (y temp : ℕ) (g : Forest) → Unseen → read < temp
+      → Seen (Kind.Using ∷ Kind.AwaitUsing ∷ []) kind → oneOf (Kind.Using ∷ Kind.AwaitUsing ∷ []) kind ≡ true
       → listed w read (declaration kind y (Rattle.meaning.specs.Shapes.read temp) & g) ≡ asks y kind + listed w read g
   unfolding balanceOf sumOver waits gives asksFor calls callsIn usingsIn doneIn overDeclarators ofInitializer namesOf isUsing isAwaitUsing ownLetter hintOf letterOf _&_
-  made-using y temp g here e = omega arith
-  made-using y temp g (there e₃ here) e = omega arith
-  made-using y temp g (there e₃ (there e₄ other)) e = absurd (clash (rw (e₃, e₄)) e)
+  made-using y temp g seen new here e = omega (arith, seen y temp 0 new)
+  made-using y temp g seen new (there e₃ here) e = omega (arith, seen y temp 1 new)
+  made-using y temp g seen new (there e₃ (there e₄ other)) e = absurd (clash (rw (e₃, e₄)) e)
 
   -- ---- the left side
 
@@ -126,15 +133,20 @@ module _ (w : List ℕ → ℕ → ℕ) (read : ℕ) where
           ap (λ (t : ℕ). worth w read t k₁) five,
         )
 
-    pub insert-keeps : h₃ .tag ≡ Tag.Block → Keeps w read h sides (enterForOfStatement false h sides st)
+    -- its new symbol is behind the rows read
+    new-symbol : read ≤ length (st .symbols) → read < (createSymbol (symbolIn st (boundSymbol k₁) .name) 6 (h .a) 1 st) .0
+    unfolding createSymbol
+    new-symbol new = omega arith
+
+    pub insert-keeps : Unseen → read ≤ length (st .symbols) → h₃ .tag ≡ Tag.Block → Keeps w read h sides (enterForOfStatement false h sides st)
     unfolding enterForOfStatement insertUsing _&_
-    insert-keeps e =
+    insert-keeps seen-as new e =
         let t = (createSymbol (symbolIn st (boundSymbol k₁) .name) 6 (h .a) 1 st) .0 in
         let list = declaration (h₁ .a) (boundSymbol k₁) (Rattle.meaning.specs.Shapes.read t) & k₃ in
         sides-keep t h₃ list
         (omega (
           arith,
-          made-using (boundSymbol k₁) t k₃ (seen (Kind.Using ∷ Kind.AwaitUsing ∷ []) (h₁ .a)) kind,
+          made-using (boundSymbol k₁) t k₃ seen-as (new-symbol new) (seen (Kind.Using ∷ Kind.AwaitUsing ∷ []) (h₁ .a)) kind,
           balance-more w read h₃ k₃ none,
           balance-more w read h₃ list none,
           ap (λ (x : ℕ). worth w read x k₃) e,
@@ -143,19 +155,19 @@ module _ (w : List ℕ → ℕ → ℕ) (read : ℕ) where
           worth-list w read list,
         ))
 
-    pub wrap-keeps : eqb (h₃ .tag) Tag.Declaration ≡ false → Keeps w read h sides (enterForOfStatement true h sides st)
+    pub wrap-keeps : Unseen → read ≤ length (st .symbols) → eqb (h₃ .tag) Tag.Declaration ≡ false → Keeps w read h sides (enterForOfStatement true h sides st)
     unfolding enterForOfStatement wrapBody _&_
-    wrap-keeps e =
+    wrap-keeps seen-as new e =
         let m = createSymbol (symbolIn st (boundSymbol k₁) .name) 6 (h .a) 1 st in
         let t = m .0 in
-        let new = (insertScopeBelow (h .a) (one h₃ k₃) (m .1)) .0 in
+        let scope = (insertScopeBelow (h .a) (one h₃ k₃) (m .1)) .0 in
         let list = declaration (h₁ .a) (boundSymbol k₁) (Rattle.meaning.specs.Shapes.read t) & one h₃ k₃ in
-        sides-keep t (hd Tag.Block new 0 0) list
+        sides-keep t (hd Tag.Block scope 0 0) list
         (omega (
           arith,
-          made-using (boundSymbol k₁) t (one h₃ k₃) (seen (Kind.Using ∷ Kind.AwaitUsing ∷ []) (h₁ .a)) kind,
+          made-using (boundSymbol k₁) t (one h₃ k₃) seen-as (new-symbol new) (seen (Kind.Using ∷ Kind.AwaitUsing ∷ []) (h₁ .a)) kind,
           plain-one w read h₃ k₃ e,
-          balance-more w read (hd Tag.Block new 0 0) list none,
+          balance-more w read (hd Tag.Block scope 0 0) list none,
           balance-none w read,
           worth-list w read list,
         ))

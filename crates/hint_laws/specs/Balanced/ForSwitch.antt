@@ -28,7 +28,7 @@ use Rattle.hint_laws.specs.Balanced.Lists.{worth-plain, taken-kept}
 use Rattle.hint_laws.specs.Balanced.Tries.{try-listed, taken-listed}
 use Rattle.hint_laws.specs.Balanced.Contexts.{Keeps, Counts, new-context}
 
-module _ (w : List ℕ → ℕ → ℕ) (read : ℕ) where
+module _ (w : List ℕ → List ℕ → ℕ → ℕ) (read : ℕ) where
   -- ---- For
 
   loop-one : {t : ℕ} (a b c : ℕ) (k r : Forest) (ctx : ℕ) → read < ctx → Seen (Tag.Label ∷ Tag.For ∷ []) t

@@ -1,12 +1,11 @@
 -- What the items of a Program count, and what is made of them.
 -- Assumes nothing.
 use mathlib.Core.Path.{_≡_, refl, sym, ap}
-use mathlib.Core.Bool.{Bool, true, false, _&&_}
+use mathlib.Core.Bool.{Bool, true, false}
 use mathlib.Core.List.{List, [], _∷_}
-use Prim.Native.Nat.{ℕ, _+_, _≤_, _<_}
+use Prim.Native.Nat.{ℕ, _+_}
 use native.Mathlib.Omega.{arith}
-use lib.ListN.{length}
-use lib.Dec.{eqb, ltb}
+use lib.Dec.{eqb}
 use Rattle.meaning.specs.Numbers.Tag
 use Rattle.meaning.specs.Numbers.Kind
 use Rattle.meaning.specs.Numbers.Form
@@ -26,13 +25,14 @@ use Rattle.meaning.specs.Program.{
 }
 use Rattle.spec_laws.specs.Tags.{Seen, other, here, there, seen, clash}
 use Rattle.hint_laws.specs.Hints.{namesOf, ofInitializer, overDeclarators, letterFor, takesUp, usingsIn, called, callsIn}
+use Rattle.hint_laws.specs.Requested.Asked.{OldCall, called-none}
 use Rattle.hint_laws.specs.Balanced.Balance.{doneIn, balanceOf}
 use Rattle.hint_laws.specs.Balanced.Sums.{ownLetter, worth, balance-more, balance-none, plain-one}
 use Rattle.hint_laws.specs.Balanced.Lists.{worth-plain}
 use Rattle.hint_laws.specs.Balanced.Tries.{listed}
 use Rattle.spec_laws.specs.Trees.{expression-tag}
 
-module _ (w : List ℕ → ℕ → ℕ) (read : ℕ) where
+module _ (w : List ℕ → List ℕ → ℕ → ℕ) (read : ℕ) where
   -- items with what they count for their Program
   abbrev pub itemed : Forest → ℕ
   itemed f = usingsIn w letterFor f + (doneIn w read f + balanceOf w read f)
@@ -60,7 +60,7 @@ module _ (w : List ℕ → ℕ → ℕ) (read : ℕ) where
 
   -- `var y = e`
   declared : (y : ℕ) (h : Head) (k : Forest)
-      → listed w read (declaration Kind.Var y (one h k)) ≡ called w read (y ∷ []) h + (callsIn w read (one h k) + balanceOf w read (one h k))
+      → listed w read (declaration Kind.Var y (one h k)) ≡ called w read (y ∷ []) h k + (callsIn w read (one h k) + balanceOf w read (one h k))
   unfolding usingsIn doneIn callsIn overDeclarators ofInitializer namesOf isUsing
   declared y h k =
       let name = hd Tag.Name y 0 0 in
@@ -150,20 +150,20 @@ module _ (w : List ℕ → ℕ → ℕ) (read : ℕ) where
   export-counts h k e p q =
       omega (arith, plain-item h k e, balance-more w read h k none, balance-none w read, worth-plain w read (h .tag) k p q)
 
-  module _ (old : (y letter : ℕ) → read < y → w (y ∷ []) letter ≡ 0) where
-    -- a new name counts nothing
-    called-new : (y : ℕ) (h : Head) → read < y → called w read (y ∷ []) h ≡ 0
-    unfolding called
-    called-new y h new = by-test (eqb (h .tag) Tag.Call && ltb read (h .b))
-      where
-        by-test : (b : Bool) → (if b then w (y ∷ []) (h .a) else 0) ≡ 0
-        by-test true = old y (h .a) new
-        by-test false = refl
+  -- a value that was read is not called through a context that lowering made
+  old-expression : (b : Bool) (h : Head) → OldCall read h → OldCall read (if b then hd Tag.Class Form.Expression (h .b) (h .c) else h)
+  old-expression true h o = λ e. absurd (clash refl e)
+  old-expression false h o = o
 
-    pub value-counts : (h : Head) (k : Forest) (st : Store) → read ≤ length (st .symbols)
-        → listed w read ((defaultValue h k st) .0 .moved) ≡ callsIn w read (one h k) + balanceOf w read (one h k)
-    unfolding defaultValue asExpression createSymbol
-    value-counts h k st new =
-        let y = (createSymbol 4 1 1 0 st) .0 in
-        let h′ = asExpression h in
-        omega (arith, declared y h′ k, called-new y h′ (omega arith), retagged h h′ k (expression-tag (eqb (h .tag) Tag.Class) h refl))
+  pub value-counts : (h : Head) (k : Forest) (st : Store) → OldCall read h
+      → listed w read ((defaultValue h k st) .0 .moved) ≡ callsIn w read (one h k) + balanceOf w read (one h k)
+  unfolding defaultValue asExpression
+  value-counts h k st o =
+      let y = (createSymbol 4 1 1 0 st) .0 in
+      let h′ = asExpression h in
+      omega (
+        arith,
+        declared y h′ k,
+        called-none w read (y ∷ []) h′ k (old-expression (eqb (h .tag) Tag.Class) h o),
+        retagged h h′ k (expression-tag (eqb (h .tag) Tag.Class) h refl),
+      )

@@ -17,6 +17,7 @@ use Rattle.hint_laws.specs.Hints.{
   namesOf,
   ofInitializer,
   overDeclarators,
+  wanted,
   takesUp,
   usingsIn,
   asksFor,
@@ -39,7 +40,7 @@ by-tests : (s e o : Bool) (a b c d : ℕ) → s ≡ false → e ≡ false → o 
     → (if s then a else if e then b else 0) + (if s then c else if o then 0 else d) ≡ d
 by-tests s e o a b c d p q r = rw (p, q, r) (omega arith)
 
-module _ (w : List ℕ → ℕ → ℕ) (read : ℕ) where
+module _ (w : List ℕ → List ℕ → ℕ → ℕ) (read : ℕ) where
   -- the balance
   abbrev sum : Forest → ℕ
   sum f = balanceOf w read f
@@ -136,7 +137,7 @@ module _ (w : List ℕ → ℕ → ℕ) (read : ℕ) where
   module _ (ctx : ℕ) (new : read < ctx) where
     -- a wrapped initializer is called through the context
     initializer-called : (names : List ℕ) (letter m : ℕ) (f : Forest)
-        → ofInitializer (called w read names) m (wrapInitializer letter ctx m f) ≡ ofInitializer (λ _. w names letter) m f
+        → ofInitializer (called w read names) m (wrapInitializer letter ctx m f) ≡ ofInitializer (wanted w letter names) m f
     unfolding ofInitializer wrapInitializer called _&_
     initializer-called names letter zero none = refl
     initializer-called names letter (suc m) none = refl
@@ -146,21 +147,21 @@ module _ (w : List ℕ → ℕ → ℕ) (read : ℕ) where
     declarator-called : (b : Bool) (letter m : ℕ) (k : Forest)
         → let k′ = (if b then wrapInitializer letter ctx m k else k) in
         (if b then ofInitializer (called w read (namesOf m k′)) m k′ else 0)
-        ≡ (if b then ofInitializer (λ _. w (namesOf m k) letter) m k else 0)
+        ≡ (if b then ofInitializer (wanted w letter (namesOf m k)) m k else 0)
     declarator-called true letter m k =
         ap (λ (names : List ℕ). ofInitializer (called w read names) m (wrapInitializer letter ctx m k)) (names-wrapped k letter ctx m)
         ∙ initializer-called (namesOf m k) letter m k
     declarator-called false letter m k = refl
 
     initializers-called : (letter : ℕ) (f : Forest)
-        → overDeclarators (called w read) (wrapInitializers letter ctx f) ≡ overDeclarators (λ names _. w names letter) f
+        → overDeclarators (called w read) (wrapInitializers letter ctx f) ≡ overDeclarators (wanted w letter) f
     unfolding overDeclarators wrapInitializers
     initializers-called letter none = refl
     initializers-called letter (more h k r) = ap₂ _+_ (declarator-called (eqb (h .tag) Tag.Declarator) letter (h .b) k) (initializers-called letter r)
 
     const-done : (b : Bool) (letter : ℕ) (k r : Forest)
         → doneIn w read (more (hd Tag.Declaration (if b then Kind.Const else Kind.Var) 0 0) (wrapInitializers letter ctx k) r)
-        ≡ overDeclarators (λ names _. w names letter) k + doneIn w read r
+        ≡ overDeclarators (wanted w letter) k + doneIn w read r
     unfolding doneIn isUsing
     const-done true letter k r = ap (λ (n : ℕ). n + doneIn w read r) (initializers-called letter k)
     const-done false letter k r = ap (λ (n : ℕ). n + doneIn w read r) (initializers-called letter k)

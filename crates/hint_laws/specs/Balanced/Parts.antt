@@ -37,7 +37,7 @@ part-grows : (cur hoist : ℕ) (h : Head) (k : Forest) (st : Store)
 unfolding transformTryParts
 part-grows cur hoist h k st = parts-grow (one h k) cur hoist st
 
-module _ (w : List ℕ → ℕ → ℕ) (read : ℕ) where
+module _ (w : List ℕ → List ℕ → ℕ → ℕ) (read : ℕ) where
   part-keeps : (cur hoist a b c : ℕ) (k : Forest) (st : Store) → read ≤ length (st .symbols)
       → Keeps w read (hd Tag.Block a b c) k (transformTryBlock cur hoist (hd Tag.Block a b c) k st)
   unfolding transformTryBlock transformStatements createTryStmt worth waits gives asksFor usingsIn doneIn isUsing

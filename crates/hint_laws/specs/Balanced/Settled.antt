@@ -10,7 +10,7 @@ use Rattle.meaning.specs.Numbers.Tag
 use Rattle.meaning.specs.Tree.{if_then_else_, oneOf, Head, Forest, none, more}
 use Rattle.meaning.specs.Statements.{isUsing, anyUsing}
 use Rattle.spec_laws.specs.Tags.{Seen, other, here, there, seen, clash}
-use Rattle.hint_laws.specs.Hints.{sumOver, overDeclarators, takesUp, called, callsIn, calls, given}
+use Rattle.hint_laws.specs.Hints.{sumOver, overDeclarators, takesUp, called, callsIn, calls}
 use Rattle.hint_laws.specs.Balanced.Balance.{doneIn, gives}
 
 -- no using stands directly in a list that takes up usings
@@ -38,7 +38,7 @@ no-other (there e₁ (there e₂ (there e₇ here))) e = refl
 no-other (there e₁ (there e₂ (there e₇ (there e₁₄ here)))) e = refl
 no-other (there e₁ (there e₂ (there e₇ (there e₁₄ (there e₁₆ other))))) e = absurd (clash (rw (e₁, e₂, e₇, e₁₄, e₁₆)) e)
 
-module _ (w : List ℕ → ℕ → ℕ) (read : ℕ) where
+module _ (w : List ℕ → List ℕ → ℕ → ℕ) (read : ℕ) where
   -- what is done in a list without usings are its calls
   all-done : (k : Forest) → anyUsing k ≡ false → doneIn w read k ≡ callsIn w read k
   unfolding doneIn callsIn anyUsing
@@ -53,8 +53,8 @@ module _ (w : List ℕ → ℕ → ℕ) (read : ℕ) where
       (λ e. (all-done k (p e), no-other (seen (Tag.Program ∷ Tag.Block ∷ Tag.For ∷ Tag.Body ∷ Tag.StaticBlock ∷ []) (h .tag)) e))
 
 -- WHAT THE RECORDS OF SUCH A TREE GIVE IS WHAT IT CALLS.
-pub settled-gives : (w : List ℕ → ℕ → ℕ) (read : ℕ) (f : Forest) → Settled f → sumOver (λ h k. gives w read h k) f ≡ given w read f
-unfolding Settled sumOver given
+pub settled-gives : (w : List ℕ → List ℕ → ℕ → ℕ) (read : ℕ) (f : Forest) → Settled f → sumOver (λ h k. gives w read h k) f ≡ sumOver (calls w read) f
+unfolding Settled sumOver
 settled-gives w read none q = refl
 settled-gives w read (more h k r) q =
     omega (arith, gives-calls w read h k (q .0), settled-gives w read k (q .1), settled-gives w read r (q .2))

@@ -16,7 +16,7 @@ use Rattle.hint_laws.specs.Balanced.Balance.{letterIn, waits, doneIn, gi
 unfoldable pub ownLetter : Head → ℕ
 ownLetter h = letterIf (isAwaitUsing h)
 
-module _ (w : List ℕ → ℕ → ℕ) (read : ℕ) where
+module _ (w : List ℕ → List ℕ → ℕ → ℕ) (read : ℕ) where
   -- what a record of a tag counts by itself
   unfoldable pub worth : ℕ → Forest → ℕ
   worth t k = waits w (hd t 0 0 0) k + gives w read (hd t 0 0 0) k

@@ -19,7 +19,7 @@ use Rattle.hint_laws.specs.Balanced.Balance.{letterIn, waits, doneIn, gi
 use Rattle.hint_laws.specs.Balanced.Sums.{ownLetter, inList}
 use Rattle.hint_laws.specs.Balanced.Lists.{taken-kept, taken-done}
 
-module _ (w : List ℕ → ℕ → ℕ) (read : ℕ) where
+module _ (w : List ℕ → List ℕ → ℕ → ℕ) (read : ℕ) where
   -- a list with what it counts for its record
   abbrev pub listed : Forest → ℕ
   listed f = inList w read f + balanceOf w read f

@@ -6,8 +6,8 @@ use mathlib.Core.List.{List, [], _∷_}
 use Prim.Native.Nat.{ℕ, zero, suc, _≤_, _<_}
 use native.Mathlib.Omega.{arith}
 use lib.ListN.{length}
-use borrow.Author.Tests.{lt-leb}
-use Rattle.meaning.specs.Tree.{if_then_else_, Head, Forest, none, more, one, Node, _&_}
+use borrow.Author.Tests.{lt-ltb}
+use Rattle.meaning.specs.Tree.{if_then_else_, Head, Forest, none, more, one, Node, count, _&_}
 use Rattle.meaning.specs.File.{File}
 use Rattle.meaning.specs.Scoping.{Store}
 use Rattle.meaning.specs.Reading.{accepted, readFile}
@@ -37,12 +37,15 @@ use Rattle.meaning.specs.Charges.{Figures, figuresIn, figuresAt}
 use Rattle.charge_laws.specs.Counts.Visits.{&-none, &-assoc}
 use Rattle.charge_laws.specs.Counts.Pending.{Pending, spot-fits}
 use Rattle.charge_laws.specs.Fit.Accepted.{accepted-fit, accepted-after}
-use Rattle.hint_laws.specs.Hints.{allRead, ofRead}
+use Rattle.meaning.specs.File.{numbersOf, hasChildren, ownNumbers, recordNumbers}
+use Rattle.hint_laws.specs.Hints.{shown, asInSource, ofSource}
 use Rattle.hint_laws.specs.Outline.{same-&}
 use Rattle.hint_laws.specs.Balanced.Balance.{balanceOf, balance}
 use Rattle.hint_laws.specs.Balanced.Sums.{balance-&, beside}
 use Rattle.hint_laws.specs.Balanced.Alike.{plug-same}
+use Rattle.hint_laws.specs.Balanced.ForOf.{Unseen}
 use Rattle.hint_laws.specs.Balanced.Entered.{Opens, enter-keeps, leave-keeps}
+use Rattle.hint_laws.specs.Balanced.Once.{SourceAt, visits-source}
 use Rattle.spec_laws.specs.Trees.{visits-last as more-visits}
 
 -- ---- the tree at a spot
@@ -65,7 +68,7 @@ settled (c ∷ p) d (more h k r) st = refl
 
 -- ---- one visit
 
-module _ (w : List ℕ → ℕ → ℕ) (read : ℕ) where
+module _ (w : List ℕ → List ℕ → ℕ → ℕ) (read : ℕ) where
   -- a record is replaced in the tree
   replaced : (d : Forest) (h : Head) (k r : Forest) (p : List Crumb) (e : Node × Store) → Opens w read h k e
       → balanceOf w read (plug (d & more (e .0 .head) (e .0 .children) r) p) ≡ balanceOf w read (plug (d & more h k r) p)
@@ -81,30 +84,30 @@ module _ (w : List ℕ → ℕ → ℕ) (read : ℕ) where
         beside w read h h′ k k′ r r (o .0) refl,
       )))
 
-  kept-at : ((y letter : ℕ) → read < y → w (y ∷ []) letter ≡ 0) → (s : Spot) → Pending s → read ≤ length (storeAt s .symbols)
+  kept-at : Unseen w read → (s : Spot) → SourceAt read s → Pending s → read ≤ length (storeAt s .symbols)
       → balanceOf w read (treeAt (visit s)) ≡ balanceOf w read (treeAt s)
   unfolding visit treeAt storeAt plug _&_
-  kept-at old (over tree st) q new = refl
-  kept-at old (at d h k r p st) q new =
+  kept-at unseen (over tree st) src q new = refl
+  kept-at unseen (at d h k r p st) src q new =
       let e = enter (currentScope p) (hoistScope p) h k st in
       ap (balanceOf w read) (settled (crumb (e .0 .head) d r ∷ p) none (e .0 .children) (e .1))
-      ∙ replaced d h k r p e (enter-keeps w read old (currentScope p) (hoistScope p) h k st new (q .0 .0))
-  kept-at old (leaving k h d r p st) q new =
+      ∙ replaced d h k r p e (enter-keeps w read unseen (currentScope p) (hoistScope p) h k st new src (q .0 .0))
+  kept-at unseen (leaving k h d r p st) src q new =
       let e = leave h k st in
       let single = one (e .0 .head) (e .0 .children) in
       ap (balanceOf w read) (settled p (d & single) r (e .1) ∙ ap (λ (f : Forest). plug f p) (&-assoc d single r))
       ∙ replaced d h k r p e (leave-keeps w read h k st new (q .0))
 
-  -- a new name has no weight
-  new-name : (y letter : ℕ) → read < y → ofRead read w (y ∷ []) letter ≡ 0
-  unfolding ofRead allRead
-  new-name y letter new = let e = lt-leb y read new in rw e
+  -- a Read of a new symbol is taken for no initializer
+  unseen-read : Unseen (ofSource read w) read
+  unfolding asInSource shown count recordNumbers ownNumbers hasChildren numbersOf
+  unseen-read y t letter new = let e = lt-ltb read t new in rw e
 
 -- A VISIT KEEPS WHAT THE TREE GIVES AND STILL ASKS FOR.
-pub visit-balance : (w : List ℕ → ℕ → ℕ) (read : ℕ) (s : Spot) → Pending s → read ≤ length (storeAt s .symbols)
+pub visit-balance : (w : List ℕ → List ℕ → ℕ → ℕ) (read : ℕ) (s : Spot) → SourceAt read s → Pending s → read ≤ length (storeAt s .symbols)
     → balance w read (treeAt (visit s)) ≡ balance w read (treeAt s)
 unfolding balance
-visit-balance w read s q new = kept-at (ofRead read w) read (new-name w read) s q new
+visit-balance w read s src q new = kept-at (ofSource read w) read (unseen-read w read) s src q new
 
 -- ---- all visits
 
@@ -113,8 +116,8 @@ symbols-grow : (b : List ℕ) (f : File) (k : ℕ) → readFile b ≡ accepted f
 unfolding figuresAt figuresIn fileAt
 symbols-grow b f k e = omega (arith, ap (λ (x : Figures). x .symbols) (accepted-after b f k e))
 
--- SO THE WALK OF AN ACCEPTED FILE KEEPS WHAT ITS TREE ASKS FOR AND GIVES, for names of rows read.
-pub visits-balance : (w : List ℕ → ℕ → ℕ) (b : List ℕ) (f : File) (k : ℕ) → readFile b ≡ accepted f
+-- SO THE WALK OF AN ACCEPTED FILE KEEPS WHAT ITS TREE ASKS FOR AND GIVES.
+pub visits-balance : (w : List ℕ → List ℕ → ℕ → ℕ) (b : List ℕ) (f : File) (k : ℕ) → readFile b ≡ accepted f
     → balance w (length (f .symbols)) (treeAt (visits k (start f))) ≡ balance w (length (f .symbols)) (f .tree)
 unfolding visits start plug _&_
 visits-balance w b f zero e = ap (balance w (length (f .symbols))) (settled [] none (f .tree) (storeOf f))
@@ -122,5 +125,5 @@ visits-balance w b f (suc k) e =
     let read = length (f .symbols) in
     let s = visits k (start f) in
     ap (λ (x : Spot). balance w read (treeAt x)) (more-visits k (start f))
-    ∙ visit-balance w read s (spot-fits k f (accepted-fit b f e)) (symbols-grow b f k e)
+    ∙ visit-balance w read s (visits-source b f k e) (spot-fits k f (accepted-fit b f e)) (symbols-grow b f k e)
     ∙ visits-balance w b f k e

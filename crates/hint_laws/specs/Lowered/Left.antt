@@ -8,6 +8,7 @@ use lib.Dec.{eqb}
 use borrow.Author.Tests.{eqb-true}
 use Rattle.meaning.specs.Numbers.Tag
 use Rattle.meaning.specs.Numbers.Kind
+use Rattle.meaning.specs.Grammar.{expressions}
 use Rattle.meaning.specs.Tree.{if_then_else_, oneOf, Head, hd, Forest, none, more, one, node, _&_}
 use Rattle.meaning.specs.Scoping.{Store, return, insertScopeBetween, moveBinding, setScopeFlags}
 use Rattle.meaning.specs.Shapes.{declaration}
@@ -132,7 +133,7 @@ left-if : (b : Bool) (h : Head) (k : Forest) (st : Store) → anyUsing k ≡ b �
 unfolding AllQuiet exitStaticBlock
 left-if true h k st u e p = (
   exit-quiet h k st p,
-  (λ r. same-neutral h _ k _ r (ap (λ (t : ℕ). oneOf (Tag.Declaration ∷ Tag.Declarator ∷ Tag.Name ∷ Tag.Call ∷ []) t) e) refl),
+  (λ r. same-neutral h _ k _ r (ap (λ (t : ℕ). oneOf (Tag.Declaration ∷ Tag.Declarator ∷ Tag.Name ∷ expressions) t) e) refl),
 )
 left-if false h k st u e p = ((quiet-list h k (ap (λ (t : ℕ). eqb t Tag.ForOf) e) u, p, tt), (λ r. same-refl (more h k r)))
 

@@ -3,7 +3,7 @@
 use mathlib.Core.Path.{_≡_, refl}
 use mathlib.Core.Bool.{Bool, true, false, _&&_}
 use Prim.Native.Nat.{ℕ}
-use mathlib.Core.List.{List}
+use mathlib.Core.List.{List, []}
 use native.Mathlib.Omega.{arith}
 use lib.Dec.{eqb}
 use Rattle.meaning.specs.Numbers.Tag
@@ -49,7 +49,7 @@ by-test true t m n p q = p refl
 by-test false true m n p q = q refl
 by-test false false m n p q = refl
 
-module _ (w : List ℕ → ℕ → ℕ) where
+module _ (w : List ℕ → List ℕ → ℕ → ℕ) where
   no-held : (k : Forest) → heldUsing k ≡ false → forOfUsing w k ≡ 0
   unfolding forOfUsing heldUsing
   no-held none e = refl
@@ -57,7 +57,7 @@ module _ (w : List ℕ → ℕ → ℕ) where
   no-held (more h₁ none (more h₂ k₂ r)) e = refl
   no-held (more h₁ (more d kids s) (more h₂ k₂ none)) e = refl
   no-held (more h₁ (more d kids s) (more h₂ k₂ (more h₃ k₃ r))) e =
-      no-value (isUsing h₁ && bindsIdentifier (more d kids s)) (w (namesOf 1 kids) (letterFor h₁)) e
+      no-value (isUsing h₁ && bindsIdentifier (more d kids s)) (w (namesOf 1 kids) [] (letterFor h₁)) e
 
   asks-nothing : (letter : Head → ℕ) (h : Head) (k : Forest) → Quiet h k → asksFor w letter h k ≡ 0
   unfolding asksFor Quiet

@@ -1,4 +1,4 @@
--- The symbols that the Names and Calls of an accepted file have are rows of it, and its Declarations are not recorded.
+-- The symbols that the Reads and Calls of an accepted file have are rows of it, and its Declarations are not recorded.
 -- Assumes nothing.
 use mathlib.Core.Path.{_≡_, refl}
 use mathlib.Core.Bool.{true, _&&_}
@@ -18,43 +18,43 @@ use Rattle.parsing.specs.Parsed.{Parsed, parsed-none, parsed-more}
 use Rattle.parsing.specs.Files.{file-parsed}
 use Rattle.hint_laws.specs.Requested.Everywhere.{Everywhere}
 
--- A Declaration has no mark, the symbol of a Name is one of so many rows, and so is the context of a Call.
+-- A Declaration has no mark, the symbol of a Read is one of so many rows, and so is the context of a Call.
 pub record Known (syms : ℕ) (h : Head) : Type 0 where
   pub unmarked : eqb (h .tag) Tag.Declaration ≡ true → h .b ≡ 0
-  pub name : eqb (h .tag) Tag.Name ≡ true → leb (h .a) syms ≡ true
+  pub symbol : eqb (h .tag) Tag.Read ≡ true → leb (h .a) syms ≡ true
   pub context : eqb (h .tag) Tag.Call ≡ true → leb (h .b) syms ≡ true
 
 -- ---- a field
 
 module _ (p : Place) (syms : ℕ) where
-  known-as : {t : ℕ} (a b c d next : ℕ) → Seen (Tag.Declaration ∷ Tag.Name ∷ Tag.Call ∷ []) t
+  known-as : {t : ℕ} (a b c d next : ℕ) → Seen (Tag.Declaration ∷ Tag.Read ∷ Tag.Call ∷ []) t
       → let x : Field = record { tag = t; a = a; b = b; c = c; d = d; next = next } in
       right p syms x ≡ true → Known syms (headOf x)
   unfolding right headOf ownNumbers hasChildren numbersOf
   known-as a b c d next here e =
-      record { unmarked = λ _. refl; name = λ s. absurd (clash refl s); context = λ s. absurd (clash refl s) }
+      record { unmarked = λ _. refl; symbol = λ s. absurd (clash refl s); context = λ s. absurd (clash refl s) }
   known-as a b c d next (there e₅ here) e =
       record {
         unmarked = λ s. absurd (clash refl s);
-        name = λ _. and-right (leb 1 a) (leb a syms) e;
+        symbol = λ _. and-right (leb 1 a) (leb a syms) e;
         context = λ s. absurd (clash refl s);
       }
-  known-as a b c d next (there e₅ (there e₂₆ here)) e =
+  known-as a b c d next (there e₅ (there e₂₅ here)) e =
       record {
         unmarked = λ s. absurd (clash refl s);
-        name = λ s. absurd (clash refl s);
+        symbol = λ s. absurd (clash refl s);
         context =
             λ _. and-right (leb 1 b) (leb b syms) (and-right (leb a 1) (isRow syms b) (and-left (leb a 1 && isRow syms b) (eqb c 1) e));
       }
-  known-as a b c d next (there e₅ (there e₂₆ (there e₂₇ other))) e =
+  known-as a b c d next (there e₅ (there e₂₅ (there e₂₇ other))) e =
       record {
         unmarked = λ s. absurd (clash e₅ s);
-        name = λ s. absurd (clash e₂₆ s);
+        symbol = λ s. absurd (clash e₂₅ s);
         context = λ s. absurd (clash e₂₇ s);
       }
 
   known : (x : Field) → right p syms x ≡ true → Known syms (headOf x)
-  known x = known-as (x .a) (x .b) (x .c) (x .d) (x .next) (seen (Tag.Declaration ∷ Tag.Name ∷ Tag.Call ∷ []) (x .tag))
+  known x = known-as (x .a) (x .b) (x .c) (x .d) (x .next) (seen (Tag.Declaration ∷ Tag.Read ∷ Tag.Call ∷ []) (x .tag))
 
 -- ---- reading
 
