@@ -4,3 +4,6 @@ pub mod Spots
 pub mod Stored
 pub mod Turns
 pub mod Case
+pub mod Shown
+pub mod Puts
+pub mod ShownBack
