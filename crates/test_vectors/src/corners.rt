@@ -4,7 +4,6 @@
 use crate::lines;
 use crate::lines::Seen;
 use figures::FinalFigures;
-use libc::STDOUT_FILENO;
 use lowering::Lowered;
 
 fn show_file(name: &[u8], file: &[u8]) {
@@ -12,7 +11,9 @@ fn show_file(name: &[u8], file: &[u8]) {
     if 0 < file.len() {
         lines::put(b" ");
     }
-    notation::show(STDOUT_FILENO, file);
+    let mut text = io::large_buffer();
+    let n = notation::show(file, &mut text);
+    lines::put(lines::part(&text, 0, n));
     lines::put(b"\n");
 }
 

@@ -5,18 +5,6 @@ use Rattle.notation.specs.Puts.{put-one, put-both}
 use Rattle.notation.proofs.put_byte.Statement.{statement}
 use Rattle.notation.proofs.put_byte.Tie as tie
 
-put-decimal-requires : tie.Need-put-decimal-requires
-put-decimal-requires c κs = search needs
-
-put-requires : tie.Need-put-requires
-put-requires c κs = search needs
-
-add-result : tie.Need-add-result
-add-result c = search needs
-
-same-length : tie.Need-same-length
-same-length c = search needs
-
 returns : tie.Need-returns
 unfolding shownByte
 returns c =
@@ -26,4 +14,4 @@ returns c =
 
 pub put-byte-spec : {M : Type 1} → statement M
 put-byte-spec =
-    tie.close (tie.spec put-decimal-requires put-requires add-result same-length returns)
+    tie.close (tie.spec (λ c κs. search needs) (λ c κs. search needs) (λ c. search needs) (λ c. search needs) returns)

@@ -1,12 +1,12 @@
 -- `notation::put_bytes` meets its contract. Assumes nothing.
 use mathlib.Core.Path.{_≡_, refl, _∙_}
-use mathlib.Core.List.{[], _∷_}
 use Prim.Native.Nat.{_+_, _*_, _-_, _≤_}
 use native.Mathlib.Omega.{arith}
 use lib.ListN.{length, drop}
 use borrow.Author.Needs.{needs}
 use Rattle.notation.specs.Shown.{shownBytes}
-use Rattle.notation.specs.Puts.{Left, left-all, put-both, left-more, left-none, bytes-more, bytes-none}
+use Rattle.notation.specs.Puts.{Left, left-all, left-more, left-none}
+use Rattle.notation.specs.ShownTurns.{bytes-more, bytes-none}
 use Rattle.notation.proofs.put_bytes.Statement.{statement}
 use Rattle.notation.proofs.put_bytes.Tie as tie
 
@@ -21,18 +21,6 @@ abbrev μ-loop : tie.MeasureT-loop
 loop-holds : tie.Need-loop-holds Inv-loop μ-loop
 loop-holds c = (omega arith, refl, omega arith, left-all _ _ _)
 
-shared-slice-read-put-byte : tie.Need-shared-slice-read-put-byte Inv-loop μ-loop
-shared-slice-read-put-byte c = search needs
-
-put-byte-requires : tie.Need-put-byte-requires Inv-loop μ-loop
-put-byte-requires c κs = search needs
-
-add-i : tie.Need-add-i Inv-loop μ-loop
-add-i c = search needs
-
-loop-less : tie.Need-loop-less Inv-loop μ-loop
-loop-less c = search needs
-
 loop-again : tie.Need-loop-again Inv-loop μ-loop
 loop-again c =
     let at-put-byte = c .before .before in
@@ -44,9 +32,6 @@ loop-again c =
       left-more _ _ _ _ _ _ _ _ _ _ (at-loop .loop .inv .3) (bytes-more _ _ (at-loop-test .loop-test .taken)) (at-put-byte .put-byte .ensures .0),
     )
 
-same-length : tie.Need-same-length Inv-loop μ-loop
-same-length c = search needs
-
 returns : tie.Need-returns Inv-loop μ-loop
 returns c = left-none _ _ _ _ _ _ (c .before .loop .inv .3) (bytes-none _ _ (c .loop-test .left))
 
@@ -57,10 +42,10 @@ put-bytes-spec =
     Inv-loop
     μ-loop
     loop-holds
-    shared-slice-read-put-byte
-    put-byte-requires
-    add-i
-    loop-less
+    (λ c. search needs)
+    (λ c κs. search needs)
+    (λ c. search needs)
+    (λ c. search needs)
     loop-again
-    same-length
+    (λ c. search needs)
     returns)

@@ -1,6 +1,7 @@
 -- `notation::put_gap` meets its contract. Assumes nothing.
 use borrow.Author.Needs.{needs}
-use Rattle.notation.specs.Puts.{put-none, put-one, gap-none, gap-some}
+use Rattle.notation.specs.Puts.{put-none, put-one}
+use Rattle.notation.specs.ShownTurns.{gap-none, gap-some}
 use Rattle.notation.proofs.put_gap.Statement.{statement}
 use Rattle.notation.proofs.put_gap.Tie as tie
 

@@ -1,13 +1,13 @@
 -- `notation::put_numbers` meets its contract. Assumes nothing.
 use mathlib.Core.Path.{_≡_, refl, _∙_}
-use mathlib.Core.List.{[], _∷_}
 use Prim.Native.Nat.{_+_, _*_, _-_, _≤_}
 use native.Mathlib.Omega.{arith}
 use lib.ListN.{length, drop}
 use borrow.Author.Needs.{needs}
 use Rattle.notation.specs.Shown.{numbersIn, shownNumbers}
 use Rattle.notation.specs.Notation.{colon}
-use Rattle.notation.specs.Puts.{Left, left-all, put-one, put-both, left-more, left-none, numbers-more, numbers-none}
+use Rattle.notation.specs.Puts.{Left, left-all, put-one, put-both, left-more, left-none}
+use Rattle.notation.specs.ShownTurns.{numbers-more, numbers-none}
 use Rattle.notation.proofs.put_numbers.Statement.{statement}
 use Rattle.notation.proofs.put_numbers.Tie as tie
 
@@ -21,27 +21,6 @@ abbrev μ-loop : tie.MeasureT-loop
 
 loop-holds : tie.Need-loop-holds Inv-loop μ-loop
 loop-holds c = (omega arith, refl, omega arith, left-all _ _ _)
-
-add-loop : tie.Need-add-loop Inv-loop μ-loop
-add-loop c = search needs
-
-put-requires : tie.Need-put-requires Inv-loop μ-loop
-put-requires c κs = search needs
-
-add-put-decimal : tie.Need-add-put-decimal Inv-loop μ-loop
-add-put-decimal c = search needs
-
-read-two-requires : tie.Need-read-two-requires Inv-loop μ-loop
-read-two-requires c κs = search needs
-
-put-decimal-requires : tie.Need-put-decimal-requires Inv-loop μ-loop
-put-decimal-requires c κs = search needs
-
-add-i : tie.Need-add-i Inv-loop μ-loop
-add-i c = search needs
-
-loop-less : tie.Need-loop-less Inv-loop μ-loop
-loop-less c = search needs
 
 loop-again : tie.Need-loop-again Inv-loop μ-loop
 loop-again c =
@@ -57,9 +36,6 @@ loop-again c =
           (put-both _ _ _ _ _ _ _ _ (put-one _ _ _ _ (at-put .put .ensures)) (at-put-decimal .put-decimal .ensures .0)),
     )
 
-same-length : tie.Need-same-length Inv-loop μ-loop
-same-length c = search needs
-
 returns : tie.Need-returns Inv-loop μ-loop
 returns c = (left-none _ _ _ _ _ _ (c .before .loop .inv .3) (numbers-none _ _ _ (c .loop-test .left)), search needs)
 
@@ -70,13 +46,13 @@ put-numbers-spec =
     Inv-loop
     μ-loop
     loop-holds
-    add-loop
-    put-requires
-    add-put-decimal
-    read-two-requires
-    put-decimal-requires
-    add-i
-    loop-less
+    (λ c. search needs)
+    (λ c κs. search needs)
+    (λ c. search needs)
+    (λ c κs. search needs)
+    (λ c κs. search needs)
+    (λ c. search needs)
+    (λ c. search needs)
     loop-again
-    same-length
+    (λ c. search needs)
     returns)

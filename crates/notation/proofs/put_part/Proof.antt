@@ -3,7 +3,8 @@ use mathlib.Core.Path.{sym}
 use native.Mathlib.Omega.{arith}
 use lib.Seq.{length-take-le}
 use borrow.Author.Needs.{needs}
-use Rattle.notation.specs.Puts.{put-both, rest-is}
+use Rattle.notation.specs.Puts.{put-both}
+use Rattle.notation.specs.ShownTurns.{rest-is}
 use Rattle.notation.proofs.put_part.Statement.{statement}
 use Rattle.notation.proofs.put_part.Tie as tie
 
@@ -15,23 +16,11 @@ put-field-requires c κs =
     let args = c .before .before .before .before .args in
     rw (length-take-le (args .n) (args .bytes .now) (search needs)) (search needs, search needs)
 
-sub-put-gap : tie.Need-sub-put-gap
-sub-put-gap c = search needs
-
-part-put-gap-start : tie.Need-part-put-gap-start
-part-put-gap-start c = search needs
-
-part-put-gap-end : tie.Need-part-put-gap-end
-part-put-gap-end c = search needs
-
 put-gap-requires : tie.Need-put-gap-requires
 put-gap-requires c κs =
     let at-put-field = c .before .before .before .before in
     let args = at-put-field .before .before .before .before .before .args in
     omega (arith, at-put-field .put-field .ensures .1, length-take-le (args .n) (args .bytes .now) (search needs))
-
-same-length : tie.Need-same-length
-same-length c = search needs
 
 returns : tie.Need-returns
 returns c =
@@ -48,9 +37,9 @@ put-part-spec =
     (tie.spec
     slice-aggregate-put-field
     put-field-requires
-    sub-put-gap
-    part-put-gap-start
-    part-put-gap-end
+    (λ c. search needs)
+    (λ c. search needs)
+    (λ c. search needs)
     put-gap-requires
-    same-length
+    (λ c. search needs)
     returns)

@@ -1,12 +1,13 @@
 -- `notation::show` meets its contract. Assumes nothing.
 use mathlib.Core.Path.{_≡_, refl, _∙_}
-use Prim.Native.Nat.{_+_, _*_, _-_, _≤_}
+use Prim.Native.Nat.{_*_, _-_, _≤_}
 use native.Mathlib.Omega.{arith}
 use lib.ListN.{length, drop}
 use borrow.Author.Tests.{lt-leb}
 use borrow.Author.Needs.{needs}
 use Rattle.notation.specs.Shown.{shownFrom, shown}
-use Rattle.notation.specs.Puts.{Left, left-more, left-last, left-none, rest-length, turn-bytes, turn-fits, turn-field, turn-end, turn-first, shown-put}
+use Rattle.notation.specs.Puts.{Left, left-more, left-last, left-none}
+use Rattle.notation.specs.ShownTurns.{rest-length, turn-bytes, turn-fits, turn-field, turn-end, turn-first, shown-put}
 use Rattle.notation.proofs.show.Statement.{statement}
 use Rattle.notation.proofs.show.Tie as tie
 
@@ -25,26 +26,11 @@ returns c = rw (lt-leb _ _ (c .if1 .taken)) (refl, refl)
 loop-holds : tie.Need-loop-holds Inv-loop μ-loop
 loop-holds c = (omega arith, refl, omega arith, turn-first _ (c .before .before .before .args .file .now))
 
-sub-rest : tie.Need-sub-rest Inv-loop μ-loop
-sub-rest c = search needs
-
-part-rest-start : tie.Need-part-rest-start Inv-loop μ-loop
-part-rest-start c = search needs
-
-part-rest-end : tie.Need-part-rest-end Inv-loop μ-loop
-part-rest-end c = search needs
-
-whole-field-requires : tie.Need-whole-field-requires Inv-loop μ-loop
-whole-field-requires c κs = search needs
-
 put-bytes-requires : tie.Need-put-bytes-requires Inv-loop μ-loop
 put-bytes-requires c κs =
     let at-loop = c .before .before .before .before .before in
     let file = at-loop .before .before .before .before .args .file .now in
     omega (arith, rest-length file (at-loop .loop .at))
-
-same-length : tie.Need-same-length Inv-loop μ-loop
-same-length c = search needs
 
 returns-2 : tie.Need-returns-2 Inv-loop μ-loop
 returns-2 c =
@@ -107,9 +93,6 @@ loop-again c =
           (at-put-part .put-part .ensures .0),
     )
 
-same-length-2 : tie.Need-same-length-2 Inv-loop μ-loop
-same-length-2 c = search needs
-
 returns-3 : tie.Need-returns-3 Inv-loop μ-loop
 returns-3 c =
     let file = c .before .before .before .before .before .args .file .now in
@@ -123,16 +106,16 @@ show-spec =
     μ-loop
     returns
     loop-holds
-    sub-rest
-    part-rest-start
-    part-rest-end
-    whole-field-requires
+    (λ c. search needs)
+    (λ c. search needs)
+    (λ c. search needs)
+    (λ c κs. search needs)
     put-bytes-requires
-    same-length
+    (λ c. search needs)
     returns-2
     put-part-requires
     add-at
     loop-less
     loop-again
-    same-length-2
+    (λ c. search needs)
     returns-3)

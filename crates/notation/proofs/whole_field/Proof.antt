@@ -2,7 +2,7 @@
 use mathlib.Core.Path.{sym}
 use native.Mathlib.Omega.{arith}
 use borrow.Author.Needs.{needs}
-use Rattle.notation.specs.Puts.{whole-cut, whole-odd, whole-is}
+use Rattle.notation.specs.ShownTurns.{whole-cut, whole-odd, whole-is}
 use Rattle.notation.proofs.whole_field.Statement.{statement}
 use Rattle.notation.proofs.whole_field.Tie as tie
 
