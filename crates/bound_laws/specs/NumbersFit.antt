@@ -10,7 +10,7 @@ use lib.Dec.{eqb, leb, ltb}
 use borrow.Author.Tests.{leb-true, leb-false, ne-eqb}
 use Rattle.meaning.specs.Numbers.Tag
 use Rattle.meaning.specs.Tree.{Forest, none}
-use Rattle.meaning.specs.File.{File, numbersOf, ownNumbers}
+use Rattle.meaning.specs.File.{scopeBytes, File, numbersOf, ownNumbers}
 use Rattle.meaning.specs.Grammar.{two, number, fieldOf, right, headOf, parentIn}
 use Rattle.meaning.specs.Reading.{accepted, scopesIn, symbolsIn, readFile}
 use Rattle.meaning.specs.declared.Place.{Place}
@@ -84,7 +84,7 @@ module _ (f : List ℕ) (bytes : Bytes f) where
   scopes-within : (n s : ℕ) → All (ScopeWithin 65535) (scopesIn f n s)
   unfolding scopesIn parentIn
   scopes-within zero s = tt
-  scopes-within (suc n) s = ((two-most (7 * s + 3), two-most (7 * s + 5)), scopes-within n (suc s))
+  scopes-within (suc n) s = ((two-most (scopeBytes * s + 3), two-most (scopeBytes * s + 5)), scopes-within n (suc s))
 
   symbols-within : (n at : ℕ) → All (SymbolWithin 65535) (symbolsIn f n at)
   unfolding symbolsIn

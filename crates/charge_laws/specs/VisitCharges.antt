@@ -7,11 +7,23 @@ use lib.ListN.{length, replicate}
 use lib.Dec.{eqb}
 use Rattle.meaning.specs.Numbers.Tag
 use Rattle.meaning.specs.Numbers.Mode
-use Rattle.meaning.specs.Tree.{if_then_else_, oneOf, Head, Forest, none, more, one}
+use Rattle.meaning.specs.Tree.{if_then_else_, Head, Forest, none, more, one}
 use Rattle.meaning.specs.File.{Symbol, File}
 use Rattle.meaning.specs.Statements.{isUsing, anyUsing}
 use Rattle.meaning.specs.ForOf.{ForOfAct, asIs, insert, wrap}
-use Rattle.meaning.specs.Program.{boundNames, keepsDefault}
+use Rattle.meaning.specs.Program.{
+  boundNames,
+  ItemAct,
+  stay,
+  move,
+  lowerClass,
+  lowerDeclaration,
+  exportDeclaration,
+  exportClass,
+  exportDefaultClass,
+  exportDefaultValue,
+  itemAct,
+}
 use Rattle.meaning.specs.Walk.{
   isStaticBlock,
   Act,
@@ -117,44 +129,26 @@ module _ (asRead : List Symbol) where
       }
 
   -- what a Program's item leaves among the items that stay: itself, or an export with a Specifier for each name
-  unfoldable pub visitsExport : Head → Forest → Forest → Visits
-  visitsExport h k none = visitsStanding h k
-  visitsExport h k (more h₁ k₁ r₁) =
-      if eqb (h₁ .tag) Tag.Class then around (free 2) skipped []
-      else if eqb (h₁ .tag) Tag.Declaration then around (free (1 + length (boundNames k₁))) skipped []
-      else visitsStanding h k
-
-  unfoldable pub visitsDefault : Head → Forest → Forest → Visits
-  visitsDefault h k none = visitsStanding h k
-  visitsDefault h k (more h₁ k₁ r₁) =
-      if keepsDefault h₁ then visitsStanding h k else around (free 2) skipped []
-
-  unfoldable pub visitsKept : Head → Forest → Visits
-  visitsKept h k =
-      if oneOf (Tag.Function ∷ Tag.ModuleLine ∷ []) (h .tag) then visitsStanding h k
-      else if eqb (h .tag) Tag.DefaultExport then visitsDefault h k k
-      else if eqb (h .tag) Tag.ExportedDeclaration then visitsExport h k k
-      else around [] skipped []
+  unfoldable pub visitsKept : ItemAct → Head → Forest → Visits
+  visitsKept stay h k = visitsStanding h k
+  visitsKept move h k = around [] skipped []
+  visitsKept lowerClass h k = around [] skipped []
+  visitsKept lowerDeclaration h k = around [] skipped []
+  visitsKept (exportDeclaration k₁) h k = around (free (1 + length (boundNames k₁))) skipped []
+  visitsKept (exportClass h₁ k₁) h k = around (free 2) skipped []
+  visitsKept (exportDefaultClass h₁ k₁) h k = around (free 2) skipped []
+  visitsKept (exportDefaultValue h₁ k₁) h k = around (free 2) skipped []
 
   -- what it leaves in the Block: for a class or a default export, a Declaration, a Declarator and a Name before it
-  unfoldable pub visitsMovedExport : Forest → Visits
-  visitsMovedExport none = around [] skipped []
-  visitsMovedExport (more h₁ k₁ r₁) =
-      if eqb (h₁ .tag) Tag.Class then around (free 3) standing []
-      else if eqb (h₁ .tag) Tag.Declaration then around [] standing []
-      else around [] skipped []
-
-  unfoldable pub visitsMovedDefault : Forest → Visits
-  visitsMovedDefault none = around [] skipped []
-  visitsMovedDefault (more h₁ k₁ r₁) = if keepsDefault h₁ then around [] skipped [] else around (free 3) standing []
-
-  unfoldable pub visitsMoved : Head → Forest → Visits
-  visitsMoved h k =
-      if oneOf (Tag.Function ∷ Tag.ModuleLine ∷ []) (h .tag) then around [] skipped []
-      else if eqb (h .tag) Tag.DefaultExport then visitsMovedDefault k
-      else if eqb (h .tag) Tag.ExportedDeclaration then visitsMovedExport k
-      else if eqb (h .tag) Tag.Class then behindFree 3 (visitsStanding h k)
-      else visitsTakenUp h k
+  unfoldable pub visitsMoved : ItemAct → Head → Forest → Visits
+  visitsMoved stay h k = around [] skipped []
+  visitsMoved move h k = visitsStanding h k
+  visitsMoved lowerClass h k = behindFree 3 (visitsStanding h k)
+  visitsMoved lowerDeclaration h k = visitsTakenUp h k
+  visitsMoved (exportDeclaration k₁) h k = around [] standing []
+  visitsMoved (exportClass h₁ k₁) h k = around (free 3) standing []
+  visitsMoved (exportDefaultClass h₁ k₁) h k = around (free 3) standing []
+  visitsMoved (exportDefaultValue h₁ k₁) h k = around (free 3) standing []
 
   unfoldable pub visitsOf : Treatment → Head → Forest → Visits
   visitsOf standing h k = visitsStanding h k
@@ -168,8 +162,8 @@ module _ (asRead : List Symbol) where
       if eqb (h .tag) Tag.Catch then around (free 1) parts []
       else if eqb (h .tag) Tag.Block && anyUsing k then inTry (free 2) takenUp
       else visitsStanding h k
-  visitsOf kept h k = visitsKept h k
-  visitsOf moved h k = visitsMoved h k
+  visitsOf kept h k = visitsKept (itemAct h k) h k
+  visitsOf moved h k = visitsMoved (itemAct h k) h k
   visitsOf skipped h k = around [] skipped []
   visitsOf (left a) h k = visitsStanding h k
   visitsOf (right a) h k = visitsStanding h k

@@ -3,6 +3,7 @@
 use mathlib.Core.Path.{_≡_}
 use Prim.Native.Nat.{ℕ, _+_, _*_}
 use native.Mathlib.Omega.{arith}
+use Rattle.meaning.specs.File.{settingsBytes, scopeBytes, symbolBytes}
 use Rattle.figures.specs.Tally.{tallyFigures}
 use Rattle.figures.specs.declared.tally.Tally.{Tally}
 use Rattle.figures.specs.declared.FinalFigures.{FinalFigures}
@@ -30,7 +31,7 @@ pub final-is : {mode : ℕ} {t : Tally} {contexts helper cb fb ib cr fr ir ns cs
       scopes = scopes + ns;
       symbols = symbols + (cs + is) + helper;
       contexts = contexts;
-      bytes = 7 + 7 * scopes + 11 * symbols + (cb + fb + ib) + 11 * helper;
+      bytes = settingsBytes + scopeBytes * scopes + symbolBytes * symbols + (cb + fb + ib) + symbolBytes * helper;
     })
     (finalF mode scopes symbols t)
 unfolding finalF tallyFigures
@@ -39,5 +40,5 @@ final-is {mode} {t} {contexts} {helper} {cb} {fb} {ib} {cr} {fr} {ir} {ns} {cs} 
     let records : cr + fr + ir ≡ finalF mode scopes symbols t .records = omega arith in
     let scopes′ : scopes + ns ≡ finalF mode scopes symbols t .scopes = omega arith in
     let symbols′ : symbols + (cs + is) + helper ≡ finalF mode scopes symbols t .symbols = omega arith in
-    let bytes : 7 + 7 * scopes + 11 * symbols + (cb + fb + ib) + 11 * helper ≡ finalF mode scopes symbols t .bytes = omega arith in
+    let bytes : settingsBytes + scopeBytes * scopes + symbolBytes * symbols + (cb + fb + ib) + symbolBytes * helper ≡ finalF mode scopes symbols t .bytes = omega arith in
     λ i. record { records = records i; scopes = scopes′ i; symbols = symbols′ i; contexts = p .are-contexts i; bytes = bytes i }

@@ -8,6 +8,8 @@ use native.Mathlib.Omega.{arith}
 use lib.ListN.{length, getD, take, drop}
 use lib.Dec.{leb}
 use borrow.Author.Tests.{leb-true, eqb-true}
+use Rattle.tables.specs.Columns.RecordTable
+use Rattle.tables.specs.Columns.SymbolTable
 use Rattle.meaning.specs.Tree.{if_then_else_, Head, Forest, none, more, count, row, flatten}
 use Rattle.meaning.specs.File.{
   Scope,
@@ -30,7 +32,7 @@ use Rattle.tables.specs.declared.Row.{Row}
 use Rattle.representation.specs.Gap.Cells.{table, free, line, rowsOf}
 use Rattle.representation.specs.Store.Held.{scopeCells, symbolCells}
 use Rattle.representation.specs.Spots.Spots.{Rest, visitedAt, restAt, walkAt, held}
-use Rattle.writing.specs.Writing.{fieldWith, scopeBytes, symbolBytes, ownOr, recordBytes, rowsBytes, recordAt, fileBytes}
+use Rattle.writing.specs.Writing.{fieldWith, scopeField, symbolField, ownOr, recordField, rowsBytes, recordAt, fileBytes}
 use Rattle.readback_laws.specs.ReadBack.{isRecord, Tagged}
 use Rattle.readback_laws.specs.Length.{complete, record-complete}
 
@@ -47,54 +49,54 @@ module _ (f g : ℕ → List ℕ) (e : (k : ℕ) → f (k + 1) ≡ g k) where
 
 -- ---- scope and symbol rows
 
-next-scope : (p f : ℕ) (t : List ℕ) (k : ℕ) → scopeBytes (p ∷ f ∷ t) (k + 1) ≡ scopeBytes t k
-unfolding scopeBytes
+next-scope : (p f : ℕ) (t : List ℕ) (k : ℕ) → scopeField (p ∷ f ∷ t) (k + 1) ≡ scopeField t k
+unfolding scopeField
 next-scope p f t k =
     let e₀ : (k + 1) * 2 ≡ suc (suc (k * 2)) = omega arith in
     let e₁ : suc (suc (k * 2)) + 1 ≡ suc (suc (k * 2 + 1)) = omega arith in
     rw (e₀, e₁)
 
-first-scope : (p f : ℕ) (t : List ℕ) → scopeBytes (p ∷ f ∷ t) 0 ≡ field 41 (p ∷ f ∷ [])
-unfolding scopeBytes fieldWith numbersOf
+first-scope : (p f : ℕ) (t : List ℕ) → scopeField (p ∷ f ∷ t) 0 ≡ field 41 (p ∷ f ∷ [])
+unfolding scopeField fieldWith numbersOf
 first-scope p f t = refl
 
-scopes-are : (ss : List Scope) (z : List ℕ) → rowsBytes (scopeBytes (scopeCells ss z)) 0 (length ss) ≡ scopeFields ss
+scopes-are : (ss : List Scope) (z : List ℕ) → rowsBytes (scopeField (scopeCells ss z)) 0 (length ss) ≡ scopeFields ss
 unfolding rowsBytes scopeCells scopeFields
 scopes-are [] z = refl
 scopes-are (s ∷ ss) z =
     let t = scopeCells ss z in
     ap₂ _++_ (first-scope (s .parent) (s .flags) t)
-    (behind-first (scopeBytes (s .parent ∷ s .flags ∷ t)) (scopeBytes t) (next-scope (s .parent) (s .flags) t) (length ss) ∙ scopes-are ss z)
+    (behind-first (scopeField (s .parent ∷ s .flags ∷ t)) (scopeField t) (next-scope (s .parent) (s .flags) t) (length ss) ∙ scopes-are ss z)
 
-next-symbol : (a b c d e : ℕ) (t : List ℕ) (k : ℕ) → symbolBytes (a ∷ b ∷ c ∷ d ∷ e ∷ t) (k + 1) ≡ symbolBytes t k
-unfolding symbolBytes
+next-symbol : (a b c d e : ℕ) (t : List ℕ) (k : ℕ) → symbolField (a ∷ b ∷ c ∷ d ∷ e ∷ t) (k + 1) ≡ symbolField t k
+unfolding symbolField
 next-symbol a b c d e t k =
-    let e₀ : (k + 1) * 5 ≡ suc (suc (suc (suc (suc (k * 5))))) = omega arith in
-    let e₁ : suc (suc (suc (suc (suc (k * 5))))) + 1 ≡ suc (suc (suc (suc (suc (k * 5 + 1))))) = omega arith in
-    let e₂ : suc (suc (suc (suc (suc (k * 5))))) + 2 ≡ suc (suc (suc (suc (suc (k * 5 + 2))))) = omega arith in
-    let e₃ : suc (suc (suc (suc (suc (k * 5))))) + 3 ≡ suc (suc (suc (suc (suc (k * 5 + 3))))) = omega arith in
+    let e₀ : (k + 1) * SymbolTable.Numbers ≡ suc (suc (suc (suc (suc (k * SymbolTable.Numbers))))) = omega arith in
+    let e₁ : suc (suc (suc (suc (suc (k * SymbolTable.Numbers))))) + 1 ≡ suc (suc (suc (suc (suc (k * SymbolTable.Numbers + 1))))) = omega arith in
+    let e₂ : suc (suc (suc (suc (suc (k * SymbolTable.Numbers))))) + 2 ≡ suc (suc (suc (suc (suc (k * SymbolTable.Numbers + 2))))) = omega arith in
+    let e₃ : suc (suc (suc (suc (suc (k * SymbolTable.Numbers))))) + 3 ≡ suc (suc (suc (suc (suc (k * SymbolTable.Numbers + 3))))) = omega arith in
     rw (e₀, e₁, e₂, e₃)
 
-first-symbol : (a b c d e : ℕ) (t : List ℕ) → symbolBytes (a ∷ b ∷ c ∷ d ∷ e ∷ t) 0 ≡ field 42 (a ∷ b ∷ c ∷ d ∷ [])
-unfolding symbolBytes fieldWith numbersOf
+first-symbol : (a b c d e : ℕ) (t : List ℕ) → symbolField (a ∷ b ∷ c ∷ d ∷ e ∷ t) 0 ≡ field 42 (a ∷ b ∷ c ∷ d ∷ [])
+unfolding symbolField fieldWith numbersOf
 first-symbol a b c d e t = refl
 
-symbols-are : (ys rs : List Symbol) (z : List ℕ) → rowsBytes (symbolBytes (symbolCells ys rs z)) 0 (length ys) ≡ symbolFields ys
+symbols-are : (ys rs : List Symbol) (z : List ℕ) → rowsBytes (symbolField (symbolCells ys rs z)) 0 (length ys) ≡ symbolFields ys
 unfolding rowsBytes symbolCells symbolFields
 symbols-are [] rs z = refl
 symbols-are (y ∷ ys) rs z =
     let t = symbolCells ys (drop 1 rs) z in
     let r = getD rs 0 noSymbol .scope in
     ap₂ _++_ (first-symbol (y .name) (y .flags) (y .scope) (y .made) r t)
-    (behind-first _ (symbolBytes t) (next-symbol (y .name) (y .flags) (y .scope) (y .made) r t) (length ys) ∙ symbols-are ys (drop 1 rs) z)
+    (behind-first _ (symbolField t) (next-symbol (y .name) (y .flags) (y .scope) (y .made) r t) (length ys) ∙ symbols-are ys (drop 1 rs) z)
 
 -- ---- records
 
 unfoldable bytesOf : List Row → List ℕ
 bytesOf [] = []
-bytesOf (r ∷ rs) = recordBytes r ++ bytesOf rs
+bytesOf (r ∷ rs) = recordField r ++ bytesOf rs
 
-seven : (i f : ℕ) → (i + 1) * 7 + f ≡ suc (suc (suc (suc (suc (suc (suc (i * 7 + f)))))))
+seven : (i f : ℕ) → (i + 1) * RecordTable.Numbers + f ≡ suc (suc (suc (suc (suc (suc (suc (i * RecordTable.Numbers + f)))))))
 seven i f = omega arith
 
 next-record : (r : Row) (t : List ℕ) (k : ℕ)
@@ -106,7 +108,7 @@ records-are : (rs vs : List Row) (z : List ℕ) → rowsBytes (recordAt (table (
 unfolding rowsBytes table bytesOf rowF columnF
 records-are [] vs z = refl
 records-are (r ∷ rs) vs z =
-    ap (_++_ (recordBytes r))
+    ap (_++_ (recordField r))
     (behind-first _ (recordAt (table (rs ++ vs) z)) (next-record r (table (rs ++ vs) z)) (length rs) ∙ records-are rs vs z)
 
 bytes-++ : (rs qs : List Row) → bytesOf (rs ++ qs) ≡ bytesOf rs ++ bytesOf qs
@@ -134,8 +136,8 @@ own-numbers (suc (suc (suc zero))) true a b c n h = refl
 own-numbers (suc (suc (suc zero))) false a b c n h = refl
 own-numbers (suc (suc (suc (suc m)))) has a b c n h = absurd (omega arith)
 
-record-is : (h : Head) (n : ℕ) → isRecord (h .tag) ≡ true → recordBytes (line h n) ≡ field (h .tag) (recordNumbers (row h n))
-unfolding recordBytes fieldWith recordNumbers complete
+record-is : (h : Head) (n : ℕ) → isRecord (h .tag) ≡ true → recordField (line h n) ≡ field (h .tag) (recordNumbers (row h n))
+unfolding recordField fieldWith recordNumbers complete
 record-is h n e =
     let t = h .tag in
     let c = record-complete t e in

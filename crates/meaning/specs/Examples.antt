@@ -11,7 +11,7 @@ use Rattle.meaning.specs.File.{scopeRow, Symbol, symbolRow}
 use Rattle.meaning.specs.Reading.{Outcome, accepted, refused, readFile}
 use Rattle.meaning.specs.Scoping.{getBinding, findBinding, blockScopedIn}
 use Rattle.meaning.specs.Walk.{storeOf}
-use Rattle.meaning.specs.Charges.{Figures, figures}
+use Rattle.meaning.specs.Charges.{figures}
 use Rattle.meaning.specs.Lowering.{Lent, Written, figuresOf, admit, admitOutput, lower}
 use Rattle.meaning.specs.Notation.{bytes}
 use Rattle.meaning.specs.Computing.{computing}
@@ -132,6 +132,13 @@ pub body-wrapped
     ≡ gives 27 7 5 1 308 "40:1,0 41:0,16 41:1,0 41:4,0 41:2,0 41:2,2 41:5,0 41:2,0 42:10,6,4,0 42:10,2,3,0 42:10,6,2,1 42:5,1,1,1 42:2,17,6,0 1:1,1 8:2,0,3 5:2,1 6:0,1,1 26:3 24:7,0 11:3,3 2:4,3 5:0,1 6:0,1,2 26:4 28:1,0 5:2,1 6:0,1,2 26:1 27:0,4,1 25:3 2:3,1 5:1,1 6:0,1,1 26:2 12:5,1,0,2 26:5 2:6,1 29:0,4,5 2:7,1 29:1,4,0"
 unfolding computing
 body-wrapped = refl
+
+-- by the rows as read: the second ForOf's body is wrapped, although the first visit moved the row that binds its name
+pub rows-as-read
+    : lowered "40:1,0 41:0,16 41:1,0 41:2,0 41:1,0 41:4,0 42:10,6,5,0 42:10,6,4,0 1:1,2 8:2,0,3 5:3,1 6:0,1,1 26:1 24:7,0 2:3,0 8:4,0,3 5:3,1 6:0,1,1 26:2 24:8,0 2:5,0"
+    ≡ gives 46 12 8 2 517 "40:1,0 41:0,16 41:1,0 41:2,0 41:1,0 41:9,0 41:2,2 41:6,0 41:2,0 41:4,0 41:4,2 41:10,0 41:4,0 42:10,6,3,0 42:10,6,9,0 42:10,6,2,1 42:5,1,1,1 42:2,17,7,0 42:10,6,4,1 42:5,1,1,1 42:2,17,11,0 1:1,2 8:2,0,3 5:2,1 6:0,1,1 26:3 24:7,0 11:3,3 2:3,2 5:0,1 6:0,1,2 26:4 28:1,0 5:2,1 6:0,1,2 26:1 27:0,4,1 25:3 12:6,1,0,2 26:5 2:7,1 29:0,4,5 2:8,1 29:1,4,0 8:4,0,3 5:2,1 6:0,1,1 26:6 24:8,0 11:3,3 2:9,3 5:0,1 6:0,1,2 26:7 28:1,0 5:2,1 6:0,1,2 26:2 27:0,7,1 25:6 2:5,0 12:10,1,0,2 26:8 2:11,1 29:0,7,8 2:12,1 29:1,7,0"
+unfolding computing
+rows-as-read = refl
 
 -- a direct declaration becomes var; what is exported comes first, and the Block last
 pub kept-first

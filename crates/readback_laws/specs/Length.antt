@@ -11,6 +11,8 @@ use lib.Dec.{eqb, leb}
 use borrow.Author.Tests.{eqb-true, eqb-false, leb-true}
 use Rattle.meaning.specs.Tree.{if_then_else_, Forest, none, more, Row, row, count, flatten}
 use Rattle.meaning.specs.File.{
+  scopeBytes,
+  symbolBytes,
   Scope,
   Symbol,
   File,
@@ -74,14 +76,14 @@ numbers-length r e =
 
 -- ---- fields
 
-scopes-length : (ss : List Scope) → length (scopeFields ss) ≡ 7 * length ss
+scopes-length : (ss : List Scope) → length (scopeFields ss) ≡ scopeBytes * length ss
 unfolding scopeFields
 scopes-length [] = refl
 scopes-length (s ∷ ss) =
     let ns = s .parent ∷ s .flags ∷ [] in
     omega (arith, length-append (field 41 ns) (scopeFields ss), field-length 41 ns, scopes-length ss)
 
-symbols-length : (ys : List Symbol) → length (symbolFields ys) ≡ 11 * length ys
+symbols-length : (ys : List Symbol) → length (symbolFields ys) ≡ symbolBytes * length ys
 unfolding symbolFields
 symbols-length [] = refl
 symbols-length (y ∷ ys) =

@@ -12,6 +12,8 @@ use borrow.Author.Tests.{eqb-true, leb-true, le-leb}
 use Rattle.meaning.specs.Numbers.Tag
 use Rattle.meaning.specs.Tree.{if_then_else_, Head, Forest, count, Row, row, flatten}
 use Rattle.meaning.specs.File.{
+  scopeBytes,
+  symbolBytes,
   File,
   numbersOf,
   hasChildren,
@@ -230,29 +232,29 @@ module _ (f : List ℕ) (bytes : Bytes f) where
       let e : from + width * 0 ≡ from = omega arith in
       subst (FieldAt f p) e (rows 0 (omega arith))
 
-  scopes-cut : (n s : ℕ) → ((j : ℕ) → j < n → FieldAt f ScopeRow (7 * s + 7 * j))
-      → Cut f (7 * s) (scopeFields (scopesIn f n s)) (7 * s + 7 * n)
+  scopes-cut : (n s : ℕ) → ((j : ℕ) → j < n → FieldAt f ScopeRow (scopeBytes * s + scopeBytes * j))
+      → Cut f (scopeBytes * s) (scopeFields (scopesIn f n s)) (scopeBytes * s + scopeBytes * n)
   unfolding scopesIn scopeFields parentIn
-  scopes-cut zero s rows = let e : 7 * s ≡ 7 * s + 0 = omega arith in ap (λ (i : ℕ). drop i f) e
+  scopes-cut zero s rows = let e : scopeBytes * s ≡ scopeBytes * s + 0 = omega arith in ap (λ (i : ℕ). drop i f) e
   scopes-cut (suc n) s rows =
-      let e : 7 * s + 7 ≡ 7 * suc s = omega arith in
-      let d : 7 * suc s + 7 * n ≡ 7 * s + 7 * suc n = omega arith in
-      let rest = scopes-cut n (suc s) (subst (λ (a : ℕ). (j : ℕ) → j < n → FieldAt f ScopeRow (a + 7 * j)) e (behind 7 (7 * s) n rows)) in
-      let row = field Tag.Scope (two f (7 * s + 3) ∷ two f (7 * s + 5) ∷ []) in
-      cut-then f (7 * s) (7 * suc s) (7 * s + 7 * suc n) row (scopeFields (scopesIn f n (suc s)))
-      (subst (λ (i : ℕ). Cut f (7 * s) row i) e (scope-cut (7 * s) (first 7 (7 * s) n rows)))
-      (subst (λ (i : ℕ). Cut f (7 * suc s) (scopeFields (scopesIn f n (suc s))) i) d rest)
+      let e : scopeBytes * s + scopeBytes ≡ scopeBytes * suc s = omega arith in
+      let d : scopeBytes * suc s + scopeBytes * n ≡ scopeBytes * s + scopeBytes * suc n = omega arith in
+      let rest = scopes-cut n (suc s) (subst (λ (a : ℕ). (j : ℕ) → j < n → FieldAt f ScopeRow (a + scopeBytes * j)) e (behind scopeBytes (scopeBytes * s) n rows)) in
+      let row = field Tag.Scope (two f (scopeBytes * s + 3) ∷ two f (scopeBytes * s + 5) ∷ []) in
+      cut-then f (scopeBytes * s) (scopeBytes * suc s) (scopeBytes * s + scopeBytes * suc n) row (scopeFields (scopesIn f n (suc s)))
+      (subst (λ (i : ℕ). Cut f (scopeBytes * s) row i) e (scope-cut (scopeBytes * s) (first scopeBytes (scopeBytes * s) n rows)))
+      (subst (λ (i : ℕ). Cut f (scopeBytes * suc s) (scopeFields (scopesIn f n (suc s))) i) d rest)
 
-  symbols-cut : (n from : ℕ) → ((j : ℕ) → j < n → FieldAt f SymbolRow (from + 11 * j))
-      → Cut f from (symbolFields (symbolsIn f n from)) (from + 11 * n)
+  symbols-cut : (n from : ℕ) → ((j : ℕ) → j < n → FieldAt f SymbolRow (from + symbolBytes * j))
+      → Cut f from (symbolFields (symbolsIn f n from)) (from + symbolBytes * n)
   unfolding symbolsIn symbolFields
   symbols-cut zero from rows = let e : from ≡ from + 0 = omega arith in ap (λ (i : ℕ). drop i f) e
   symbols-cut (suc n) from rows =
-      let d : from + 11 + 11 * n ≡ from + 11 * suc n = omega arith in
+      let d : from + symbolBytes + symbolBytes * n ≡ from + symbolBytes * suc n = omega arith in
       let row = field Tag.Symbol (two f (from + 3) ∷ two f (from + 5) ∷ two f (from + 7) ∷ two f (from + 9) ∷ []) in
-      cut-then f from (from + 11) (from + 11 * suc n) row (symbolFields (symbolsIn f n (from + 11)))
+      cut-then f from (from + symbolBytes) (from + symbolBytes * suc n) row (symbolFields (symbolsIn f n (from + symbolBytes)))
       (symbol-cut from (first 11 from n rows))
-      (subst (λ (i : ℕ). Cut f (from + 11) (symbolFields (symbolsIn f n (from + 11))) i) d (symbols-cut n (from + 11) (behind 11 from n rows)))
+      (subst (λ (i : ℕ). Cut f (from + symbolBytes) (symbolFields (symbolsIn f n (from + symbolBytes))) i) d (symbols-cut n (from + symbolBytes) (behind 11 from n rows)))
 
 -- ---- the file
 

@@ -8,6 +8,7 @@ use native.Mathlib.Omega.{arith}
 use lib.ListN.{getD}
 use lib.Dec.{eqb, leb}
 use borrow.Author.Tests.{eq-eqb, ne-eqb, le-leb, lt-leb}
+use Rattle.tables.specs.Columns.SymbolTable
 use Rattle.meaning.specs.Tree.{if_then_else_}
 use Rattle.meaning.specs.Scoping.{noScope, noSymbol, rowAt, binds, lastBinding, getBinding, findBinding}
 use Rattle.tables.specs.Loops.{one-less}
@@ -66,7 +67,7 @@ made-is t f n y = number-is (symbolAt t f) (symbolsF t f) noSymbol (λ r. r .mad
 pub name-is : (t : List ℕ) (f n y : ℕ) → rowAt noSymbol (symbolsF t f n 0) y .name ≡ symbolNumber t n y 0
 unfolding symbolsF symbolAt symbolNumber
 name-is t f n y =
-    let z : (y - 1) * 5 + 0 ≡ (y - 1) * 5 = omega arith in
+    let z : (y - 1) * SymbolTable.Numbers + 0 ≡ (y - 1) * SymbolTable.Numbers = omega arith in
     rw z (number-is (symbolAt t f) (symbolsF t f) noSymbol (λ r. r .name) refl (λ j. refl) (λ m j. refl) n y)
 
 -- ---- a name seen from a scope

@@ -9,6 +9,7 @@ use native.Mathlib.Omega.{arith}
 use lib.ListN.{getD}
 use lib.Dec.{eqb}
 use borrow.Author.Tests.{eq-eqb, ne-eqb, eqb-true, eqb-false}
+use Rattle.tables.specs.Columns.SymbolTable
 use Rattle.meaning.specs.Tree.{if_then_else_}
 use Rattle.meaning.specs.Scoping.{binds, getBinding, isAmongBindings}
 use Rattle.tables.specs.Table.{capped}
@@ -33,11 +34,11 @@ by-test F i r false g = g refl
 -- ---- n rows, from row k on
 
 module _ (t : List ℕ) (f want n : ℕ) where
-  pub next-here : (k : ℕ) → k < n → getD t (k * 5 + f) 0 ≡ want → nextRowF t f want (n - k) k ≡ k
+  pub next-here : (k : ℕ) → k < n → getD t (k * SymbolTable.Numbers + f) 0 ≡ want → nextRowF t f want (n - k) k ≡ k
   unfolding nextRowF
   next-here k h e = rw (one-less n k h, eq-eqb _ _ e)
 
-  pub next-turn : (k : ℕ) → k < n → (getD t (k * 5 + f) 0 ≡ want → ⊥) → nextRowF t f want (n - k) k ≡ nextRowF t f want (n - (k + 1)) (k + 1)
+  pub next-turn : (k : ℕ) → k < n → (getD t (k * SymbolTable.Numbers + f) 0 ≡ want → ⊥) → nextRowF t f want (n - k) k ≡ nextRowF t f want (n - (k + 1)) (k + 1)
   unfolding nextRowF
   next-turn k h d = rw (one-less n k h, ne-eqb _ _ d, add-one)
 
@@ -49,39 +50,39 @@ module _ (t : List ℕ) (f want n : ℕ) where
   next-after : (m i : ℕ) → i ≤ nextRowF t f want m i
   unfolding nextRowF
   next-after zero i = omega arith
-  next-after (suc m) i = if-after (eqb (getD t (i * 5 + f) 0) want) i _ (omega (arith, next-after m (suc i)))
+  next-after (suc m) i = if-after (eqb (getD t (i * SymbolTable.Numbers + f) 0) want) i _ (omega (arith, next-after m (suc i)))
 
   pub next-less : (i r : ℕ) → i < n → r ≡ nextRowF t f want (n - (i + 1)) (i + 1) → n - r < n - i
   next-less i r h e = omega (arith, next-after (n - (i + 1)) (i + 1))
 
   -- what no row without the number changes is the same at the next row with it
-  next-same : {X : Type 0} (F : ℕ → X) → ((j : ℕ) → j < n → (getD t (j * 5 + f) 0 ≡ want → ⊥) → F j ≡ F (j + 1))
+  next-same : {X : Type 0} (F : ℕ → X) → ((j : ℕ) → j < n → (getD t (j * SymbolTable.Numbers + f) 0 ≡ want → ⊥) → F j ≡ F (j + 1))
       → (m i : ℕ) → m ≤ n - i → F i ≡ F (nextRowF t f want m i)
   unfolding nextRowF
   next-same F same zero i h = refl
   next-same F same (suc m) i h =
-      by-test F i _ (eqb (getD t (i * 5 + f) 0) want)
+      by-test F i _ (eqb (getD t (i * SymbolTable.Numbers + f) 0) want)
       (λ q. rw add-one at (same i (omega arith) (eqb-false _ _ q)) ∙ next-same F same m (suc i) (omega arith))
 
   -- m of them: the search goes on at the row that they give, and ends there if it is one of them
   pub next-on : (m k r : ℕ) → m ≤ n - k → r ≡ nextRowF t f want m k → nextRowF t f want (n - k) k ≡ nextRowF t f want (n - r) r
   next-on m k r h e = rw e (next-same (λ j. nextRowF t f want (n - j) j) next-turn m k h)
 
-  found-here : (m k : ℕ) (b : Bool) → eqb (getD t (k * 5 + f) 0) want ≡ b → (if b then k else nextRowF t f want m (suc k)) < k + suc m
-      → (nextRowF t f want m (suc k) < suc k + m → getD t (nextRowF t f want m (suc k) * 5 + f) 0 ≡ want)
-      → getD t ((if b then k else nextRowF t f want m (suc k)) * 5 + f) 0 ≡ want
+  found-here : (m k : ℕ) (b : Bool) → eqb (getD t (k * SymbolTable.Numbers + f) 0) want ≡ b → (if b then k else nextRowF t f want m (suc k)) < k + suc m
+      → (nextRowF t f want m (suc k) < suc k + m → getD t (nextRowF t f want m (suc k) * SymbolTable.Numbers + f) 0 ≡ want)
+      → getD t ((if b then k else nextRowF t f want m (suc k)) * SymbolTable.Numbers + f) 0 ≡ want
   found-here m k true q l more = eqb-true _ _ q
   found-here m k false q l more = more (omega arith)
 
-  next-found : (m k : ℕ) → nextRowF t f want m k < k + m → getD t (nextRowF t f want m k * 5 + f) 0 ≡ want
+  next-found : (m k : ℕ) → nextRowF t f want m k < k + m → getD t (nextRowF t f want m k * SymbolTable.Numbers + f) 0 ≡ want
   unfolding nextRowF
   next-found zero k l = absurd (omega arith)
-  next-found (suc m) k l = found-here m k (eqb (getD t (k * 5 + f) 0) want) refl l (next-found m (suc k))
+  next-found (suc m) k l = found-here m k (eqb (getD t (k * SymbolTable.Numbers + f) 0) want) refl l (next-found m (suc k))
 
   pub next-some : (m k r : ℕ) → k + m ≤ n → r ≡ nextRowF t f want m k → r < k + m → nextRowF t f want (n - k) k ≡ r
   next-some m k r h e l = next-on m k r (omega arith) e ∙ next-here r (omega arith) (rw e (next-found m k (rw e at l)))
 
-  next-pass : {X : Type 0} (F : ℕ → X) → ((j : ℕ) → j < n → (getD t (j * 5 + f) 0 ≡ want → ⊥) → F j ≡ F (j + 1))
+  next-pass : {X : Type 0} (F : ℕ → X) → ((j : ℕ) → j < n → (getD t (j * SymbolTable.Numbers + f) 0 ≡ want → ⊥) → F j ≡ F (j + 1))
       → (i r : ℕ) → r ≡ nextRowF t f want (n - i) i → F i ≡ F r
   next-pass F same i r e = rw e (next-same F same (n - i) i (omega arith))
 
@@ -92,9 +93,9 @@ module _ (t : List ℕ) (f n scope name : ℕ) (m : n ≤ 65535) where
   from i found = bindingFrom t f n scope name i found
 
   -- rows without the name are left out
-  unnamed : (j : ℕ) → (getD t (j * 5 + 0) 0 ≡ name → ⊥) → binds (symbolAt t f j) scope name ≡ false
+  unnamed : (j : ℕ) → (getD t (j * SymbolTable.Numbers + 0) 0 ≡ name → ⊥) → binds (symbolAt t f j) scope name ≡ false
   unfolding symbolAt binds
-  unnamed j d = let z : j * 5 + 0 ≡ j * 5 = omega arith in rw (ne-eqb _ _ (rw z at d), and-false)
+  unnamed j d = let z : j * SymbolTable.Numbers + 0 ≡ j * SymbolTable.Numbers = omega arith in rw (ne-eqb _ _ (rw z at d), and-false)
 
   pub binding-pass : (found i r : ℕ) → r ≡ nextRowF t 0 name (n - i) i → from i found ≡ from r found
   binding-pass found =
@@ -114,8 +115,8 @@ module _ (t : List ℕ) (f n scope name : ℕ) (m : n ≤ 65535) where
   binding-behind i h b = binding-first t f n scope name ∙ from-row i h b i 0 0 (omega arith)
 
 -- a row with made 0 is bound if no row behind it binds its name
-pub bound-last : (t : List ℕ) (n scope name i last : ℕ) → i < n → n ≤ 65535 → getD t (i * 5 + 2) 0 ≡ scope → getD t (i * 5 + 3) 0 ≡ 0
-    → getD t (i * 5) 0 ≡ name → last ≡ bindingFrom t 2 n scope name (i + 1) (i + 1)
+pub bound-last : (t : List ℕ) (n scope name i last : ℕ) → i < n → n ≤ 65535 → getD t (i * SymbolTable.Numbers + 2) 0 ≡ scope → getD t (i * SymbolTable.Numbers + 3) 0 ≡ 0
+    → getD t (i * SymbolTable.Numbers) 0 ≡ name → last ≡ bindingFrom t 2 n scope name (i + 1) (i + 1)
     → eqb last (i + 1) ≡ isAmongBindings (symbolsF t 2 n 0) scope (capped i 1) (symbolAt t 2 i)
 unfolding isAmongBindings binds symbolAt capped
 bound-last t n scope name i last h m s z e l =
@@ -126,9 +127,9 @@ bound-last t n scope name i last h m s z e l =
 -- ---- the rows that have a name
 
 module _ (t : List ℕ) (n name : ℕ) (m : n ≤ 65535) where
-  unseen : (seen : Candidates) (j i : ℕ) → (getD t (j * 5 + 0) 0 ≡ name → ⊥) → addCandidateF (symbolAt t 2 j) name i seen ≡ seen
+  unseen : (seen : Candidates) (j i : ℕ) → (getD t (j * SymbolTable.Numbers + 0) 0 ≡ name → ⊥) → addCandidateF (symbolAt t 2 j) name i seen ≡ seen
   unfolding symbolAt addCandidateF
-  unseen seen j i d = let z : j * 5 + 0 ≡ j * 5 = omega arith in rw (ne-eqb _ _ (rw z at d))
+  unseen seen j i d = let z : j * SymbolTable.Numbers + 0 ≡ j * SymbolTable.Numbers = omega arith in rw (ne-eqb _ _ (rw z at d))
 
   pub candidates-pass : (seen : Candidates) (i r : ℕ) → r ≡ nextRowF t 0 name (n - i) i
       → candidatesFrom t n name i seen ≡ candidatesFrom t n name r seen
@@ -139,7 +140,7 @@ module _ (t : List ℕ) (n name : ℕ) (m : n ≤ 65535) where
 -- ---- the rows of a scope
 
 module _ (x : Ctx) (n to from : ℕ) (t : List ℕ) where
-  elsewhere : (j : ℕ) → (getD t (j * 5 + 2) 0 ≡ from → ⊥) → moveOne x from to (moving t j) ≡ moving t (j + 1)
+  elsewhere : (j : ℕ) → (getD t (j * SymbolTable.Numbers + 2) 0 ≡ from → ⊥) → moveOne x from to (moving t j) ≡ moving t (j + 1)
   unfolding moveOne moveBoundF movesF isAmongBindings symbolAt
   elsewhere j d = rw (ne-eqb _ _ d)
 

@@ -6,6 +6,8 @@ use Prim.Native.Nat.{ℕ, zero, suc, _+_, _*_, _-_}
 use native.Mathlib.Nat.{zero-add}
 use native.Mathlib.Omega.{arith}
 use lib.ListN.{length, replicate}
+use Rattle.tables.specs.Columns.RecordTable
+use Rattle.tables.specs.Columns.SymbolTable
 use Rattle.meaning.specs.Tree.{none, size, _&_}
 use Rattle.meaning.specs.File.{File}
 use Rattle.meaning.specs.Reading.{accepted}
@@ -32,11 +34,11 @@ scope-zeros (suc n) m =
     let e : 2 * suc n + m ≡ suc (suc (2 * n + m)) = omega arith in
     rw e (ap (λ (t : List ℕ). 0 ∷ 0 ∷ t) (scope-zeros n m))
 
-symbol-zeros : (n m : ℕ) → replicate (5 * n + m) 0 ≡ freeSymbols n (replicate m 0)
+symbol-zeros : (n m : ℕ) → replicate (SymbolTable.Numbers * n + m) 0 ≡ freeSymbols n (replicate m 0)
 unfolding freeSymbols
 symbol-zeros zero m = rw zero-add
 symbol-zeros (suc n) m =
-    let e : 5 * suc n + m ≡ suc (suc (suc (suc (suc (5 * n + m))))) = omega arith in
+    let e : SymbolTable.Numbers * suc n + m ≡ suc (suc (suc (suc (suc (SymbolTable.Numbers * n + m))))) = omega arith in
     rw e (ap (λ (t : List ℕ). 0 ∷ 0 ∷ 0 ∷ 0 ∷ 0 ∷ t) (symbol-zeros n m))
 
 -- behind the rows that it takes the tables are 0
@@ -44,9 +46,9 @@ abbrev pub zerosAfter : File → List ℕ → List ℕ → List ℕ → Rest
 zerosAfter f r s y =
     let x = finalFigures f in
     record {
-      records = replicate (length r - 7 * x .records) 0;
+      records = replicate (length r - RecordTable.Numbers * x .records) 0;
       scopes = replicate (length s - 2 * x .scopes) 0;
-      symbols = replicate (length y - 5 * x .symbols) 0;
+      symbols = replicate (length y - SymbolTable.Numbers * x .symbols) 0;
     }
 
 -- ---- the tables before the first visit
@@ -72,7 +74,7 @@ module _ (bytes r s y : List ℕ) (f : File) (e : admit bytes (lentIn r s y) ≡
       let m₁ = x .scopes - length (f .scopes) in
       let m₂ = x .symbols - length (f .symbols) in
       let e₁ : length s - 2 * length (f .scopes) ≡ 2 * m₁ + (length s - 2 * x .scopes) = omega (arith, admitted bytes r s y f e, m, i) in
-      let e₂ : length y - 5 * length (f .symbols) ≡ 5 * m₂ + (length y - 5 * x .symbols) = omega (arith, admitted bytes r s y f e, m, i) in
+      let e₂ : length y - SymbolTable.Numbers * length (f .symbols) ≡ SymbolTable.Numbers * m₂ + (length y - SymbolTable.Numbers * x .symbols) = omega (arith, admitted bytes r s y f e, m, i) in
       rw (
         start-size f,
         l₁,
@@ -80,7 +82,7 @@ module _ (bytes r s y : List ℕ) (f : File) (e : admit bytes (lentIn r s y) ≡
         e₁,
         e₂,
         scope-zeros m₁ (length s - 2 * x .scopes),
-        symbol-zeros m₂ (length y - 5 * x .symbols),
+        symbol-zeros m₂ (length y - SymbolTable.Numbers * x .symbols),
       )
 
   -- THE VISITS AFTER START. If start admits a file, the tables that it leaves hold after any number of visits what 01 has after so many.

@@ -6,6 +6,7 @@ use Prim.Native.Nat.{ℕ, zero, suc, _+_, _*_, _-_, _≤_}
 use native.Mathlib.Omega.{arith}
 use lib.ListN.{length, replicate}
 use lib.Seq.{append-snoc}
+use Rattle.tables.specs.Columns.RecordTable
 use Rattle.meaning.specs.Grammar.{fieldOf}
 use Rattle.tables.specs.Loops.{turns}
 use Rattle.tables.specs.Table.{setRowF}
@@ -40,13 +41,13 @@ blank-rows zero z = refl
 blank-rows (suc n) z = ap (λ (t : List ℕ). 0 ∷ 0 ∷ 0 ∷ 0 ∷ 0 ∷ 0 ∷ 0 ∷ t) (blank-rows n z)
 
 pub records-are : (f : List ℕ) (rs : List Row) (at next g end : ℕ) (t : List ℕ) → Run f at rs next → g + length rs ≡ end
-    → end * 7 ≤ length t
-    → recordsF f g end at (cleared t) ≡ table (free g ++ rs) (replicate (length t - 7 * end) 0)
+    → end * RecordTable.Numbers ≤ length t
+    → recordsF f g end at (cleared t) ≡ table (free g ++ rs) (replicate (length t - RecordTable.Numbers * end) 0)
 unfolding recordsF
 records-are f rs at next g end t i e h =
     let n = length rs in
-    let z = replicate {A = ℕ} (length t - end * 7) 0 in
-    let d : 7 * end ≡ end * 7 = omega arith in
+    let z = replicate {A = ℕ} (length t - end * RecordTable.Numbers) 0 in
+    let d : RecordTable.Numbers * end ≡ end * RecordTable.Numbers = omega arith in
     let m : end - g ≡ n = omega arith in
     let w : cleared t ≡ table (free g ++ free n) z =
     cleared-is 7 end t h ∙ blank-rows end z ∙ ap (λ (k : ℕ). table (free k) z) (sym e) ∙ ap (λ (v : List Row). table v z) (free-++ g n)

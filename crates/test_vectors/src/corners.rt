@@ -1,10 +1,10 @@
 // A line that begins with # is printed as it is, and `zeros` is a file that is too long; any other is a file in the notation of 01, and an
 // empty one the empty file. What comes of it is printed. The tables lent have 64 records, 24 scopes and 16 symbols, the output 700 bytes:
 // enough for every case but those that show refusals 9 and 10.
-use crate::lines;
-use crate::lines::Seen;
 use figures::FinalFigures;
 use lowering::Lowered;
+use test_lines::lines;
+use test_lines::lines::Seen;
 
 fn show_file(name: &[u8], file: &[u8]) {
     lines::put(name);

@@ -2,14 +2,14 @@
 // lowerings.rt, corners.rt). A further file is one line more in `replay_all`.
 mod checks;
 mod corners;
-mod lines;
 mod lowerings;
 mod walks;
 
-use crate::lines::Seen;
+use test_lines::lines;
+use test_lines::lines::Seen;
 
 // A file is read in pieces of whole lines, at most so many bytes each; the lines of a walk have to stand in one piece.
-const ROOM: usize = 524288;
+const ROOM: usize = 262144;
 
 const MOST_PIECES: u32 = 1000;
 

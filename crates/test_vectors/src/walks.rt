@@ -1,238 +1,13 @@
 // A walk is a line `file FILE` in the notation of 01, and a line for what `start` leaves and for each `visit` after it: `K R,S,Y TREE`, the
 // visits made, how many records, scopes and symbols there are, and the scope rows, symbol rows and records in the notation, or `same`.
-use crate::lines;
-use crate::lines::Seen;
-use meaning::RecordId;
-use meaning::tag;
-use path::Walk;
-use start::Started;
-use tables::Row;
-
-// How many rows of each kind there are.
-struct Rows {
-    records: u16,
-    scopes: u16,
-    symbols: u16,
-}
+use test_lines::lines;
+use test_lines::lines::Seen;
+use test_lines::states;
+use test_lines::states::Begun;
+use test_lines::states::Stand;
 
 // A walk has at most so many states.
 const MOST_STATES: u32 = 100000;
-
-// A tree has at most so many fields.
-const MOST_FIELDS: u32 = 100000;
-
-// ---- rows expected
-
-// The k-th number of the field at an offset.
-fn number(tree: &[u8], at: usize, k: u8) -> u16 {
-    fields::read_two(tree, lines::plus(at, 3 + 2 * (k as usize)))
-}
-
-fn own_number(tree: &[u8], at: usize, own: u8, k: u8) -> u16 {
-    if k < own {
-        return number(tree, at, k);
-    }
-    0
-}
-
-// The number of children, which stands behind a record's own numbers.
-fn children(tree: &[u8], at: usize, own: u8) -> u16 {
-    own_number(tree, at, fields::numbers_of(fields::tag_at(tree, at)), own)
-}
-
-fn same_scope(tree: &[u8], at: usize, scopes: &[u16], k: u16) -> bool {
-    let row = (k as usize) * 2;
-    if number(tree, at, 0) != tables::get(scopes, row) {
-        return false;
-    }
-    number(tree, at, 1) == tables::get(scopes, row + 1)
-}
-
-fn same_symbol(tree: &[u8], at: usize, symbols: &[u16], k: u16) -> bool {
-    let row = (k as usize) * 5;
-    if number(tree, at, 0) != tables::get(symbols, row) {
-        return false;
-    }
-    if number(tree, at, 1) != tables::get(symbols, row + 1) {
-        return false;
-    }
-    if number(tree, at, 2) != tables::get(symbols, row + 2) {
-        return false;
-    }
-    number(tree, at, 3) == tables::get(symbols, row + 3)
-}
-
-// The mark of a Declaration is not written.
-fn same_record(tree: &[u8], at: usize, r: Row) -> bool {
-    let own = rules::own_numbers(fields::tag_at(tree, at));
-    if fields::tag_at(tree, at) != r.tag {
-        return false;
-    }
-    if own_number(tree, at, own, 0) != r.a {
-        return false;
-    }
-    if r.tag != tag::DECLARATION {
-        if own_number(tree, at, own, 1) != r.b {
-            return false;
-        }
-    }
-    if own_number(tree, at, own, 2) != r.c {
-        return false;
-    }
-    children(tree, at, own) == r.n
-}
-
-// ---- the tables
-
-fn no_rows() -> Rows {
-    Rows {
-        records: 0,
-        scopes: 0,
-        symbols: 0,
-    }
-}
-
-fn rows_of(w: Walk) -> Rows {
-    let x = w.ctx;
-    Rows {
-        records: tables::plus(w.visited.0, tables::minus(w.end.0, w.gap.0)),
-        scopes: x.scopes,
-        symbols: x.symbols,
-    }
-}
-
-fn same_rows(a: Rows, b: Rows) -> bool {
-    if a.records != b.records {
-        return false;
-    }
-    if a.scopes != b.scopes {
-        return false;
-    }
-    a.symbols == b.symbols
-}
-
-// With the row of a field.
-fn counted(rows: Rows, t: u16) -> Rows {
-    match t {
-        tag::SCOPE => Rows {
-            records: rows.records,
-            scopes: tables::plus(rows.scopes, 1),
-            symbols: rows.symbols,
-        },
-        tag::SYMBOL => Rows {
-            records: rows.records,
-            scopes: rows.scopes,
-            symbols: tables::plus(rows.symbols, 1),
-        },
-        _ => Rows {
-            records: tables::plus(rows.records, 1),
-            scopes: rows.scopes,
-            symbols: rows.symbols,
-        },
-    }
-}
-
-// The record with so many before it, as they stand before and behind the free rows.
-fn record(records: &[u16], w: Walk, k: u16) -> Row {
-    if k < w.visited.0 {
-        return tables::row_after(records, RecordId(k));
-    }
-    let free = tables::minus(w.gap.0, w.visited.0);
-    tables::row_after(records, RecordId(tables::plus(k, free)))
-}
-
-// The row of a field, with so many before it.
-fn same_row(
-    tree: &[u8],
-    at: usize,
-    before: Rows,
-    w: Walk,
-    records: &[u16],
-    scopes: &[u16],
-    symbols: &[u16],
-) -> bool {
-    let t = fields::tag_at(tree, at);
-    match t {
-        tag::SCOPE => same_scope(tree, at, scopes, before.scopes),
-        tag::SYMBOL => same_symbol(tree, at, symbols, before.symbols),
-        _ => same_record(tree, at, record(records, w, before.records)),
-    }
-}
-
-// The offset behind a field.
-fn next_field(tree: &[u8], at: usize) -> usize {
-    lines::plus(
-        at,
-        3 + (fields::read_two(tree, lines::plus(at, 1)) as usize),
-    )
-}
-
-// The tables hold the rows of the tree and no others.
-fn same_tree(tree: &[u8], w: Walk, records: &[u16], scopes: &[u16], symbols: &[u16]) -> bool {
-    let mut rows = no_rows();
-    let mut at: usize = 0;
-    let mut k: u32 = 0;
-    while k < MOST_FIELDS {
-        if tree.len() <= at {
-            break;
-        }
-        if !same_row(tree, at, rows, w, records, scopes, symbols) {
-            return false;
-        }
-        rows = counted(rows, fields::tag_at(tree, at));
-        at = next_field(tree, at);
-        k += 1;
-    }
-    same_rows(rows, rows_of(w))
-}
-
-// ---- states
-
-// Where a walk stands: the place of the last line and of the next one, the length of the tree expected, and what was seen.
-struct Stand {
-    last: usize,
-    next: usize,
-    len: usize,
-    seen: Seen,
-    walk: Walk,
-}
-
-// The numbers of rows that a line says.
-fn rows_told(text: &[u8], at: usize) -> Rows {
-    let records = lines::read_number(text, lines::behind(text, at, b' '));
-    let scopes = lines::read_number(text, records.next);
-    let symbols = lines::read_number(text, scopes.next);
-    Rows {
-        records: (records.value % 65536) as u16,
-        scopes: (scopes.value % 65536) as u16,
-        symbols: (symbols.value % 65536) as u16,
-    }
-}
-
-// The tree of a line takes the place of the last one, if it is another; its length.
-fn next_tree(text: &[u8], at: usize, end: usize, tree: &mut [u8], last: usize) -> usize {
-    let from = lines::behind(text, lines::behind(text, at, b' '), b' ');
-    if lines::byte(text, from) == b's' {
-        return last;
-    }
-    notation::encode(lines::part(text, from, end), tree)
-}
-
-// The tables hold the state of a line: so many rows, and the tree.
-fn holds(
-    told: Rows,
-    tree: &[u8],
-    len: usize,
-    w: Walk,
-    records: &[u16],
-    scopes: &[u16],
-    symbols: &[u16],
-) -> bool {
-    if !same_rows(told, rows_of(w)) {
-        return false;
-    }
-    same_tree(lines::part(tree, 0, len), w, records, scopes, symbols)
-}
 
 // A state is compared, and a visit made.
 fn step(
@@ -246,9 +21,9 @@ fn step(
     let at = s.next;
     let w = s.walk;
     let end = lines::find(text, at, b'\n');
-    let len = next_tree(text, at, end, tree, s.len);
-    let told = rows_told(text, at);
-    let agrees = holds(told, tree, len, w, records, scopes, symbols);
+    let len = states::next_tree(text, at, end, tree, s.len);
+    let told = states::rows_told(text, at);
+    let agrees = states::holds(told, tree, len, w, records, scopes, symbols);
     let before = s.seen;
     let seen = lines::add(before, agrees);
     let moved = walk::visit(w, records, scopes, symbols);
@@ -259,15 +34,6 @@ fn step(
         seen: seen,
         walk: moved,
     }
-}
-
-// A line of a state begins with a digit.
-fn is_state(text: &[u8], at: usize) -> bool {
-    let c = lines::byte(text, at);
-    if c < b'0' {
-        return false;
-    }
-    c <= b'9'
 }
 
 // The states of a walk, and one call more, which changes nothing.
@@ -282,15 +48,15 @@ fn replay_states(
     let mut s = first;
     let mut k: u32 = 0;
     while k < MOST_STATES {
-        if !is_state(text, s.next) {
+        if !states::is_state(text, s.next) {
             break;
         }
         s = step(text, s, tree, records, scopes, symbols);
         k += 1;
     }
     let w = s.walk;
-    let told = rows_told(text, s.last);
-    let agrees = holds(told, tree, s.len, w, records, scopes, symbols);
+    let told = states::rows_told(text, s.last);
+    let agrees = states::holds(told, tree, s.len, w, records, scopes, symbols);
     let seen = s.seen;
     lines::add(seen, agrees)
 }
@@ -300,25 +66,16 @@ fn replay_file(file: &[u8], text: &[u8], at: usize, seen: Seen) -> Seen {
     let mut records = [0u16; 3584];
     let mut scopes = [0u16; 512];
     let mut symbols = [0u16; 1280];
-    match start::start(file, &mut records, &mut scopes, &mut symbols) {
-        Started::Ready(w) => {
-            let first = Stand {
-                last: at,
-                next: at,
-                len: 0,
-                seen: seen,
-                walk: w,
-            };
-            replay_states(
-                text,
-                first,
-                &mut tree,
-                &mut records,
-                &mut scopes,
-                &mut symbols,
-            )
-        }
-        Started::Refused(_, _) => lines::add(seen, false),
+    match states::begin(file, at, seen, &mut records, &mut scopes, &mut symbols) {
+        Begun::Walking(first) => replay_states(
+            text,
+            first,
+            &mut tree,
+            &mut records,
+            &mut scopes,
+            &mut symbols,
+        ),
+        Begun::Refused => lines::add(seen, false),
     }
 }
 

@@ -13,7 +13,7 @@ use Rattle.meaning.specs.Tree.{if_then_else_}
 use Rattle.meaning.specs.File.{numbersOf, hasChildren, ownNumbers, twoBytes}
 use Rattle.spec_laws.specs.Trees.{numbers-most}
 use Rattle.tables.specs.declared.Row.{Row}
-use Rattle.writing.specs.Writing.{fieldWith, ownOr, recordBytes, lastOf, twoAt, numbersOver}
+use Rattle.writing.specs.Writing.{fieldWith, ownOr, recordField, lastOf, twoAt, numbersOver}
 use Rattle.writing.specs.Stored.{putNumber, field-put}
 
 -- ---- the head
@@ -99,8 +99,8 @@ over h (suc (suc (suc (suc (suc n))))) at l r o s m e = absurd (omega arith)
 -- A RECORD, its head and then its numbers.
 pub record-over : (r : Row) (n at l : ℕ) (h : Bool) (out : List ℕ) → n ≡ numbersOf (r .tag % 256) → h ≡ hasChildren (r .tag % 256)
     → (n ≡ 0 → ⊥) → l ≡ at + 1 + 2 * n
-    → numbersOver h at l r (sets (set out at (r .tag % 256)) (at + 1) (twoBytes (2 * n ∷ []))) ≡ sets out at (recordBytes r)
-unfolding recordBytes ownNumbers
+    → numbersOver h at l r (sets (set out at (r .tag % 256)) (at + 1) (twoBytes (2 * n ∷ []))) ≡ sets out at (recordField r)
+unfolding recordField ownNumbers
 record-over r n at l h out e d s k =
     over h n at l r _ s (rw e (numbers-most _)) k ∙ rw (e, d) (field-put (r .tag % 256) _ _ _ (r .n) at out)
 
@@ -109,6 +109,6 @@ bare : (t a b c d at : ℕ) (out : List ℕ) → numbersOf t ≡ 0
 bare t a b c d at out z = rw z at (field-put t a b c d at out)
 
 pub bare-over : (r : Row) (n at : ℕ) (out : List ℕ) → n ≡ numbersOf (r .tag % 256) → n ≡ 0
-    → sets (set out at (r .tag % 256)) (at + 1) (twoBytes (2 * n ∷ [])) ≡ sets out at (recordBytes r)
-unfolding recordBytes
+    → sets (set out at (r .tag % 256)) (at + 1) (twoBytes (2 * n ∷ [])) ≡ sets out at (recordField r)
+unfolding recordField
 bare-over r n at out e z = rw z (bare (r .tag % 256) _ _ _ (r .n) at out (sym e ∙ z))

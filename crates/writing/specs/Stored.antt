@@ -8,10 +8,11 @@ use native.Mathlib.Omega.{arith}
 use lib.ListN.{length, set, take, drop, length-append}
 use lib.Seq.{sets, sets-eq}
 use lib.Dec.{ltb}
+use Rattle.meaning.specs.Numbers.Tag
 use Rattle.meaning.specs.Tree.{if_then_else_}
-use Rattle.meaning.specs.File.{numbersOf, twoBytes, field}
+use Rattle.meaning.specs.File.{settingsBytes, scopeBytes, symbolBytes, numbersOf, twoBytes, field}
 use Rattle.spec_laws.specs.Trees.{numbers-most, two-length, sets-++}
-use Rattle.writing.specs.Writing.{fieldWith, scopeBytes, symbolBytes, recordBytes, rowsBytes}
+use Rattle.writing.specs.Writing.{mostBytes, fieldWith, scopeField, symbolField, recordField, rowsBytes}
 use Rattle.tables.specs.declared.Row.{Row}
 
 -- ---- one after another
@@ -94,11 +95,11 @@ field-put t a b c d at out =
 
 -- ---- rows
 
-pub record-length : (r : Row) → length (recordBytes r) ≡ 3 + 2 * numbersOf (r .tag % 256)
-unfolding recordBytes
+pub record-length : (r : Row) → length (recordField r) ≡ 3 + 2 * numbersOf (r .tag % 256)
+unfolding recordField
 record-length r = field-long (r .tag % 256) _ _ _ (r .n)
 
-pub record-long : (r : Row) → length (recordBytes r) ≤ 11
+pub record-long : (r : Row) → length (recordField r) ≤ mostBytes
 record-long r = omega (arith, numbers-most (r .tag % 256), record-length r)
 
 rows-long : (f : ℕ → List ℕ) (w : ℕ) → ((k : ℕ) → length (f k) ≡ w) → (k n : ℕ) → length (rowsBytes f k n) ≡ w * n
@@ -106,13 +107,13 @@ unfolding rowsBytes
 rows-long f w e k zero = omega arith
 rows-long f w e k (suc n) = omega (arith, length-append (f k) (rowsBytes f (k + 1) n), e k, rows-long f w e (k + 1) n)
 
-pub scope-long : (t : List ℕ) (k : ℕ) → length (scopeBytes t k) ≡ 7
-unfolding scopeBytes numbersOf
-scope-long t k = field-long 41 _ _ 0 0
+pub scope-long : (t : List ℕ) (k : ℕ) → length (scopeField t k) ≡ scopeBytes
+unfolding scopeField numbersOf
+scope-long t k = field-long Tag.Scope _ _ 0 0
 
-pub symbol-long : (t : List ℕ) (k : ℕ) → length (symbolBytes t k) ≡ 11
-unfolding symbolBytes numbersOf
-symbol-long t k = field-long 42 _ _ _ _
+pub symbol-long : (t : List ℕ) (k : ℕ) → length (symbolField t k) ≡ symbolBytes
+unfolding symbolField numbersOf
+symbol-long t k = field-long Tag.Symbol _ _ _ _
 
 pub rows-turn : (f : ℕ → List ℕ) (r out out′ : List ℕ) (at at′ k n : ℕ) → r ≡ sets out at (rowsBytes f k (n - k)) → k < n
     → out′ ≡ sets out at (f k) → at′ ≡ at + length (f k) → r ≡ sets out′ at′ (rowsBytes f (k + 1) (n - (k + 1)))
@@ -127,20 +128,20 @@ rows-last f r out at k n e h = let d : n - k ≡ 0 = omega arith in rw d at (sym
 
 -- ---- the file
 
-pub file-put : (s y m : ℕ) (f g h : ℕ → List ℕ) (a b : ℕ) (out : List ℕ) → ((k : ℕ) → length (f k) ≡ 7) → ((k : ℕ) → length (g k) ≡ 11)
-    → let x = fieldWith 40 a b 0 0 in
-    sets (sets (sets (sets out 0 x) 7 (rowsBytes f 0 s)) (7 + 7 * s) (rowsBytes g 0 y)) (7 + 7 * s + 11 * y) (rowsBytes h 0 m)
+pub file-put : (s y m : ℕ) (f g h : ℕ → List ℕ) (a b : ℕ) (out : List ℕ) → ((k : ℕ) → length (f k) ≡ scopeBytes) → ((k : ℕ) → length (g k) ≡ symbolBytes)
+    → let x = fieldWith Tag.Settings a b 0 0 in
+    sets (sets (sets (sets out 0 x) settingsBytes (rowsBytes f 0 s)) (settingsBytes + scopeBytes * s) (rowsBytes g 0 y)) (settingsBytes + scopeBytes * s + symbolBytes * y) (rowsBytes h 0 m)
     ≡ sets out 0 (x ++ (rowsBytes f 0 s ++ (rowsBytes g 0 y ++ rowsBytes h 0 m)))
 unfolding numbersOf
 file-put s y m f g h a b out ef eg =
-    let x = fieldWith 40 a b 0 0 in
+    let x = fieldWith Tag.Settings a b 0 0 in
     let ss = rowsBytes f 0 s in
     let ys = rowsBytes g 0 y in
     let rs = rowsBytes h 0 m in
     let l₁ : 0 + length x ≡ 7 = omega (arith, field-long 40 a b 0 0) in
-    let l₂ : 7 + length ss ≡ 7 + 7 * s = omega (arith, rows-long f 7 ef 0 s) in
-    let l₃ : 7 + 7 * s + length ys ≡ 7 + 7 * s + 11 * y = omega (arith, rows-long g 11 eg 0 y) in
+    let l₂ : settingsBytes + length ss ≡ settingsBytes + scopeBytes * s = omega (arith, rows-long f scopeBytes ef 0 s) in
+    let l₃ : settingsBytes + scopeBytes * s + length ys ≡ settingsBytes + scopeBytes * s + symbolBytes * y = omega (arith, rows-long g symbolBytes eg 0 y) in
     sym
     (sets-++ x (ss ++ (ys ++ rs)) out 0
     ∙ rw l₁ (sets-++ ss (ys ++ rs) (sets out 0 x) 7
-    ∙ rw l₂ (sets-++ ys rs (sets (sets out 0 x) 7 ss) (7 + 7 * s) ∙ rw l₃)))
+    ∙ rw l₂ (sets-++ ys rs (sets (sets out 0 x) settingsBytes ss) (settingsBytes + scopeBytes * s) ∙ rw l₃)))

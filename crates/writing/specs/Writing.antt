@@ -35,11 +35,11 @@ fieldWith t a b c d = field t (take (numbersOf t) (a ∷ b ∷ c ∷ d ∷ []))
 
 -- ---- rows
 
-unfoldable pub scopeBytes : List ℕ → ℕ → List ℕ
-scopeBytes t k = let at = k * ScopeTable.Numbers in fieldWith Tag.Scope (getD t at 0) (getD t (at + 1) 0) 0 0
+unfoldable pub scopeField : List ℕ → ℕ → List ℕ
+scopeField t k = let at = k * ScopeTable.Numbers in fieldWith Tag.Scope (getD t at 0) (getD t (at + 1) 0) 0 0
 
-unfoldable pub symbolBytes : List ℕ → ℕ → List ℕ
-symbolBytes t k =
+unfoldable pub symbolField : List ℕ → ℕ → List ℕ
+symbolField t k =
     let at = k * SymbolTable.Numbers in
     fieldWith Tag.Symbol (getD t at 0) (getD t (at + 1) 0) (getD t (at + 2) 0) (getD t (at + 3) 0)
 
@@ -47,8 +47,8 @@ symbolBytes t k =
 unfoldable pub ownOr : ℕ → ℕ → ℕ → ℕ → ℕ
 ownOr own i v n = if ltb i own then v else n
 
-unfoldable pub recordBytes : Row → List ℕ
-recordBytes r =
+unfoldable pub recordField : Row → List ℕ
+recordField r =
     let t = r .tag % 256 in
     let own = ownNumbers t in
     fieldWith t (ownOr own 0 (r .a) (r .n)) (ownOr own 1 (r .b) (r .n)) (ownOr own 2 (r .c) (r .n)) (r .n)
@@ -59,7 +59,7 @@ rowsBytes f k zero = []
 rowsBytes f k (suc n) = f k ++ rowsBytes f (k + 1) n
 
 abbrev pub recordAt : List ℕ → ℕ → List ℕ
-recordAt t k = recordBytes (rowF t k)
+recordAt t k = recordField (rowF t k)
 
 -- ---- numbers that are stored over one another
 
@@ -89,6 +89,6 @@ unfoldable pub fileBytes : List ℕ → List ℕ → List ℕ → Walk → List 
 fileBytes r s y w =
     let x = w .ctx in
     fieldWith Tag.Settings (x .mode) (x .esm) 0 0
-    ++ (rowsBytes (scopeBytes s) 0 (x .scopes)
-    ++ (rowsBytes (symbolBytes y) 0 (x .symbols)
+    ++ (rowsBytes (scopeField s) 0 (x .scopes)
+    ++ (rowsBytes (symbolField y) 0 (x .symbols)
     ++ rowsBytes (recordAt r) 0 (w .visited .0)))

@@ -24,7 +24,7 @@ ghost use lib.ListN.{length, set};
 ghost use lib.Seq.{sets};
 ghost use Rattle.meaning.specs.Tree.{if_then_else_};
 ghost use Rattle.meaning.specs.File.{headBytes, settingsBytes, twoBytes};
-ghost use Rattle.writing.specs.Writing.{mostBytes, mostFirst, mostTree, mostOffset, fieldWith, ownOr, scopeBytes, symbolBytes, recordBytes, rowsBytes, recordAt, fileBytes, lesserOf, pickOf, lastOf, numbersOver};
+ghost use Rattle.writing.specs.Writing.{mostBytes, mostFirst, mostTree, mostOffset, fieldWith, ownOr, scopeField, symbolField, recordField, rowsBytes, recordAt, fileBytes, lesserOf, pickOf, lastOf, numbersOver};
 
 // ---- fields
 
@@ -56,7 +56,7 @@ fn put_field(out: &mut [u8], at: usize, tag: u16, a: u16, b: u16, c: u16, d: u16
 
 // The scope rows, behind the settings.
 fn put_scopes(out: &mut [u8], scopes: &[u16], count: u16)
-    ensures { λ _. ⌜ now (out .exit) ≡ sets (now (out .entry)) settingsBytes (rowsBytes (scopeBytes (now (scopes .entry))) 0 count) ⌝ }
+    ensures { λ _. ⌜ now (out .exit) ≡ sets (now (out .entry)) settingsBytes (rowsBytes (scopeField (now (scopes .entry))) 0 count) ⌝ }
 {
     let mut k: u16 = 0;
     while k < count {
@@ -77,7 +77,7 @@ fn put_scopes(out: &mut [u8], scopes: &[u16], count: u16)
 // Symbol row k, counted from 0.
 fn put_symbol(out: &mut [u8], to: usize, symbols: &[u16], k: u16)
     requires { ⌜ to ≤ mostOffset ⌝ }
-    ensures { λ _. ⌜ now (out .exit) ≡ sets (now (out .entry)) to (symbolBytes (now (symbols .entry)) k) ⌝ }
+    ensures { λ _. ⌜ now (out .exit) ≡ sets (now (out .entry)) to (symbolField (now (symbols .entry)) k) ⌝ }
 {
     let at = (k as usize) * symbol::NUMBERS;
     let name = tables::get(symbols, at);
@@ -97,7 +97,7 @@ fn put_symbol(out: &mut [u8], to: usize, symbols: &[u16], k: u16)
 // The symbol rows, from an offset on.
 fn put_symbols(out: &mut [u8], first: usize, symbols: &[u16], count: u16)
     requires { ⌜ first ≤ mostFirst ⌝ }
-    ensures { λ _. ⌜ now (out .exit) ≡ sets (now (out .entry)) first (rowsBytes (symbolBytes (now (symbols .entry))) 0 count) ⌝ }
+    ensures { λ _. ⌜ now (out .exit) ≡ sets (now (out .entry)) first (rowsBytes (symbolField (now (symbols .entry))) 0 count) ⌝ }
 {
     let mut k: u16 = 0;
     while k < count {
@@ -118,8 +118,8 @@ fn own_or(own: u8, i: u8, v: u16, n: u16) -> u16
 // A record at an offset where it may not fit; the offset behind it.
 fn put_record(out: &mut [u8], at: usize, r: Row) -> usize
     requires { ⌜ at ≤ mostOffset ⌝ }
-    ensures bytes { λ _. ⌜ now (out .exit) ≡ sets (now (out .entry)) at (recordBytes r) ⌝ }
-    ensures next { λ e. ⌜ e ≡ at + length (recordBytes r) ⌝ }
+    ensures bytes { λ _. ⌜ now (out .exit) ≡ sets (now (out .entry)) at (recordField r) ⌝ }
+    ensures next { λ e. ⌜ e ≡ at + length (recordField r) ⌝ }
 {
     let tag = r.tag % 256;
     let own = rules::own_numbers(tag);
@@ -220,8 +220,8 @@ fn put_numbers(out: &mut [u8], at: usize, last: usize, children: bool, r: Row)
 // A record at an offset; the offset behind it.
 fn put_whole(out: &mut [u8], at: usize, r: Row) -> usize
     requires { ⌜ (at ≤ mostOffset) × (at + mostBytes ≤ length (now out)) ⌝ }
-    ensures bytes { λ _. ⌜ now (out .exit) ≡ sets (now (out .entry)) at (recordBytes r) ⌝ }
-    ensures next { λ e. ⌜ e ≡ at + length (recordBytes r) ⌝ }
+    ensures bytes { λ _. ⌜ now (out .exit) ≡ sets (now (out .entry)) at (recordField r) ⌝ }
+    ensures next { λ e. ⌜ e ≡ at + length (recordField r) ⌝ }
 {
     let tag = r.tag % 256;
     let count = fields::numbers_of(tag);

@@ -8,7 +8,7 @@ use native.Mathlib.Omega.{arith}
 use lib.ListN.{length, take}
 use lib.Dec.{eqb}
 use Rattle.meaning.specs.Tree.{if_then_else_, Head, Forest, none, more, one, Node, single, size, _&_}
-use Rattle.meaning.specs.File.{File}
+use Rattle.meaning.specs.File.{settingsBytes, scopeBytes, symbolBytes, File}
 use Rattle.meaning.specs.Scoping.{Store}
 use Rattle.meaning.specs.Walk.{
   isStaticBlock,
@@ -86,7 +86,7 @@ whole f st =
     (length (st .scopes))
     (length (st .symbols))
     (st .contexts)
-    (7 + (7 * length (st .scopes) + (11 * length (st .symbols) + recordBytes f)))
+    (settingsBytes + (scopeBytes * length (st .scopes) + (symbolBytes * length (st .symbols) + recordBytes f)))
 
 whole-at : (s : Spot) → Same (figuresAt s) (whole (treeAt s) (storeAt s))
 unfolding figuresAt figuresIn fileAt

@@ -16,33 +16,13 @@ use Rattle.meaning.specs.File.{Symbol}
 use Rattle.meaning.specs.Scoping.{Store, createSymbol, setFlagsOf, insertScopeBelow}
 use Rattle.meaning.specs.Shapes.{declaration}
 use Rattle.meaning.specs.Statements.{isUsing, anyUsing}
-use Rattle.meaning.specs.Program.{
-  transformClassDecl,
-  preserveClassExpressionName,
-  Split,
-  split,
-  boundNames,
-  specifiers,
-  topLevelClass,
-  topLevelDeclaration,
-  exportedDeclaration,
-  exportedClass,
-  defaultClass,
-  asExpression,
-  defaultValue,
-  ItemAct,
-  keepsDefault,
-  itemAs,
-  programItem,
-  programItems,
-  enterProgram,
-}
+use Rattle.meaning.specs.Program.{transformClassDecl, preserveClassExpressionName, Split, boundNames, specifiers, topLevelClass, topLevelDeclaration, exportedDeclaration, exportedClass, defaultClass, asExpression, defaultValue, ItemAct, itemAct, itemAs, programItem, programItems, enterProgram}
 use Rattle.meaning.specs.Walk.{program, block, actIf, actOf}
 use Rattle.meaning.specs.Charges.{Line, ofBlock, initializers, wraps, contextLines, context, wrapped}
 use Rattle.meaning.specs.Due.{enterLines}
-use Rattle.charge_laws.specs.VisitCharges.{standing, takenUp, declarators, kept, moved, skipped, next, Visits, around, free, visitsAs, visitsStanding, visitsTakenUp, visitsExport, visitsDefault, visitsKept, visitsMovedExport, visitsMovedDefault, visitsMoved, visitsOf, visitsIn}
+use Rattle.charge_laws.specs.VisitCharges.{standing, takenUp, declarators, kept, moved, skipped, next, Visits, around, free, visitsAs, visitsStanding, visitsTakenUp, visitsKept, visitsMoved, visitsOf, visitsIn}
 use Rattle.spec_laws.specs.Tags.{clash}
-use Rattle.charge_laws.specs.Growth.Items.{Exports, Alone, alone, Staying, function, module-line, no-default, default-function, no-export, export-other, ChosenItem, as-kept, as-moved, as-class, as-declaration, as-exported-declaration, as-exported-class, as-default-class, as-default-value, only-item}
+use Rattle.charge_laws.specs.Growth.Items.{Exports, Alone, alone, staying-tag, ChosenItem, as-kept, as-moved, as-class, as-declaration, as-exported-declaration, as-exported-class, as-default-class, as-default-value, only-item}
 use Rattle.charge_laws.specs.Counts.Visits.{++-nil, spread, visits-&, none-skipped}
 use Rattle.charge_laws.specs.Counts.Tries.{Opens}
 use Rattle.charge_laws.specs.Counts.ForOf.{standing-at}
@@ -54,10 +34,10 @@ Kinds (more h k r) = (isUsing h ≡ true → oneOf (Kind.Using ∷ Kind.AwaitUsi
 
 module _ (ys : List Symbol) where
   -- what an item leaves, before others
-  abbrev Item : Head → Forest → Split → Type 0
-  Item h k s =
-      ((g : Forest) → visitsIn ys (s .kept & g) standing ≡ spread ys (visitsKept ys h k) k (visitsIn ys g standing))
-      × ((g : Forest) → visitsIn ys (s .moved & g) takenUp ≡ spread ys (visitsMoved ys h k) k (visitsIn ys g takenUp))
+  abbrev Item : ItemAct → Head → Forest → Split → Type 0
+  Item x h k s =
+      ((g : Forest) → visitsIn ys (s .kept & g) standing ≡ spread ys (visitsKept ys x h k) k (visitsIn ys g standing))
+      × ((g : Forest) → visitsIn ys (s .moved & g) takenUp ≡ spread ys (visitsMoved ys x h k) k (visitsIn ys g takenUp))
       × ((g : Forest) → anyUsing (s .moved & g) ≡ (isUsing h || anyUsing g))
       × ((g : Forest) → wraps (s .moved & g) ≡ (if isUsing h then initializers k else 0) + wraps g)
 
@@ -105,26 +85,13 @@ module _ (ys : List Symbol) where
   recorded true a e = e refl
   recorded false a e = refl
 
-  as-it-is : (h : Head) (k : Forest) → visitsKept ys h k ≡ visitsStanding ys h k → visitsMoved ys h k ≡ around [] skipped [] → eqb (h .tag) Tag.Declaration ≡ false
-      → Item h k (split (one h k) none)
-  unfolding visitsIn visitsOf next isUsing _&_
-  as-it-is h k e d t = rw (e, d, t) ((λ g. refl), (λ g. only 0 k (visitsIn ys g takenUp)), (λ g. refl), (λ g. omega arith))
-
-  stays : {h : Head} {k : Forest} → Staying Alone h k → Item h k (split (one h k) none)
-  unfolding visitsKept visitsMoved visitsDefault visitsMovedDefault visitsExport visitsMovedExport keepsDefault
-  stays {h} {k} function = as-it-is h k refl refl refl
-  stays {h} {k} module-line = as-it-is h k refl refl refl
-  stays {h} {k} no-default = as-it-is h k refl refl refl
-  stays {h} {k} (default-function alone) = as-it-is h k refl refl refl
-  stays {h} {k} no-export = as-it-is h k refl refl refl
-  stays {h} {k} (export-other e₁₅ e₅ alone) = as-it-is h k (rw (e₁₅, e₅)) (rw (e₁₅, e₅)) refl
-
   program-item : {x : ItemAct} {h : Head} {k : Forest} (st : Store) → (isUsing h ≡ true → oneOf (Kind.Using ∷ Kind.AwaitUsing ∷ []) (h .a) ≡ true)
-      → ChosenItem Alone x h k → Item h k ((itemAs x h k st) .0)
-  unfolding itemAs topLevelClass topLevelDeclaration exportedDeclaration exportedClass defaultClass defaultValue transformClassDecl asExpression visitsIn visitsOf visitsKept visitsMoved visitsDefault visitsMovedDefault visitsExport visitsMovedExport visitsTakenUp visitsStanding visitsAs actOf next anyUsing isUsing wraps keepsDefault _&_
-  program-item st u (as-kept s) = stays s
+      → ChosenItem Alone x h k → Item x h k ((itemAs x h k st) .0)
+  unfolding itemAs topLevelClass topLevelDeclaration exportedDeclaration exportedClass defaultClass defaultValue transformClassDecl asExpression visitsIn visitsOf visitsKept visitsMoved visitsTakenUp visitsStanding visitsAs actOf next anyUsing isUsing wraps _&_
+  program-item {k = k} st u (as-kept s) =
+      let t = staying-tag s .1 in rw t ((λ g. refl), (λ g. only 0 k (visitsIn ys g takenUp)), (λ g. refl), (λ g. omega arith))
   program-item {k = k} st u (as-moved e₁₃ e₁₇ e₁₈ e₁₉ e₁₅ e₅) =
-      rw (e₁₃, e₁₇, e₁₈, e₁₉, e₁₅) ((λ g. only 0 k (visitsIn ys g standing)), (λ g. refl), (λ g. refl), (λ g. refl))
+      rw e₅ ((λ g. only 0 k (visitsIn ys g standing)), (λ g. refl), (λ g. refl), (λ g. refl))
   program-item {h = h} {k = k} st u as-class = (
     (λ g. only 0 k (visitsIn ys g standing)),
     (λ g.
@@ -162,15 +129,14 @@ module _ (ys : List Symbol) where
     (λ g. refl),
     (λ g. omega arith),
   )
-  program-item {k = k} st u (as-default-value {h = h₁} {k = k₁} e d alone) =
-      rw e (
-        (λ g. only 2 k (visitsIn ys g standing)),
-        (λ g.
-            declared-moved ((createSymbol 4 1 1 0 st) .0) (asExpression h₁) k₁ g
-            ∙ ap (λ (v : List (List Line)). free 3 ++ (v ++ visitsIn ys g takenUp)) (expression-same (eqb (h₁ .tag) Tag.Class) h₁ k₁ refl)),
-        (λ g. refl),
-        (λ g. omega arith),
-      )
+  program-item {k = k} st u (as-default-value {h = h₁} {k = k₁} e d alone) = (
+    (λ g. only 2 k (visitsIn ys g standing)),
+    (λ g.
+        declared-moved ((createSymbol 4 1 1 0 st) .0) (asExpression h₁) k₁ g
+        ∙ ap (λ (v : List (List Line)). free 3 ++ (v ++ visitsIn ys g takenUp)) (expression-same (eqb (h₁ .tag) Tag.Class) h₁ k₁ refl)),
+    (λ g. refl),
+    (λ g. omega arith),
+  )
 
   -- ---- all items
 
@@ -188,8 +154,8 @@ module _ (ys : List Symbol) where
       let i = program-item st (u .0) (only-item h k (x .0)) in
       let rest = (programItems r ((programItem h k st) .1)) .0 in
       let j = items r ((programItem h k st) .1) (x .1) (u .1) in (
-        i .0 (rest .kept) ∙ ap (λ (v : List (List Line)). spread ys (visitsKept ys h k) k v) (j .0),
-        i .1 (rest .moved) ∙ ap (λ (v : List (List Line)). spread ys (visitsMoved ys h k) k v) (j .1),
+        i .0 (rest .kept) ∙ ap (λ (v : List (List Line)). spread ys (visitsKept ys (itemAct h k) h k) k v) (j .0),
+        i .1 (rest .moved) ∙ ap (λ (v : List (List Line)). spread ys (visitsMoved ys (itemAct h k) h k) k v) (j .1),
         i .2 (rest .moved) ∙ ap (λ (b : Bool). isUsing h || b) (j .2),
         i .3 (rest .moved) ∙ ap (λ (n : ℕ). (if isUsing h then initializers k else 0) + n) (j .3),
       )

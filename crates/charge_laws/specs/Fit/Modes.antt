@@ -11,12 +11,12 @@ use Rattle.meaning.specs.Tree.{if_then_else_, Head, hd, Forest, none, more}
 use Rattle.meaning.specs.File.{Symbol}
 use Rattle.meaning.specs.Statements.{isUsing, anyUsing}
 use Rattle.meaning.specs.Contexts.{forList}
-use Rattle.meaning.specs.Program.{boundNames, ItemAct, keepsDefault}
+use Rattle.meaning.specs.Program.{boundNames, ItemAct}
 use Rattle.meaning.specs.Walk.{actOf}
 use Rattle.meaning.specs.Charges.{Line, wrapped, ofFor, contextLines}
 use Rattle.meaning.specs.Due.{enterLines}
-use Rattle.charge_laws.specs.Growth.Items.{Anything, anything, function, module-line, no-default, default-function, no-export, export-other, ChosenItem, as-kept, as-moved, as-class, as-declaration, as-exported-declaration, as-exported-class, as-default-class, as-default-value, chosen-item}
-use Rattle.charge_laws.specs.VisitCharges.{Treatment, standing, takenUp, declarators, initializer, loop, cases, kept, moved, skipped, next, Visits, around, free, visitsAs, visitsStanding, visitsTakenUp, visitsExport, visitsDefault, visitsKept, visitsMovedExport, visitsMovedDefault, visitsMoved, visitsOf, programVisits, visitsIn}
+use Rattle.charge_laws.specs.Growth.Items.{Anything, anything, ChosenItem, as-kept, as-moved, as-class, as-declaration, as-exported-declaration, as-exported-class, as-default-class, as-default-value, chosen-item}
+use Rattle.charge_laws.specs.VisitCharges.{Treatment, standing, takenUp, declarators, initializer, loop, cases, kept, moved, skipped, next, Visits, around, free, visitsAs, visitsStanding, visitsTakenUp, visitsKept, visitsMoved, visitsOf, programVisits, visitsIn}
 use Rattle.spec_laws.specs.Tags.{Seen, other, here, there, seen, clash}
 use Rattle.charge_laws.specs.Growth.Trees.{using-tag}
 use Rattle.charge_laws.specs.Counts.Visits.{none-skipped}
@@ -164,25 +164,19 @@ module _ (w : Line → ℕ) (ys : List Symbol) where
   free-free (suc n) = omega (arith, free-free n)
 
   -- one item
-  abbrev Item : Head → Forest → Type 0
-  Item h k = costOf (visitsKept ys h k) k + costOf (visitsMoved ys h k) k ≡ costOf (visitsStanding ys h k) k
+  abbrev Item : ItemAct → Head → Forest → Type 0
+  Item x h k = costOf (visitsKept ys x h k) k + costOf (visitsMoved ys x h k) k ≡ costOf (visitsStanding ys h k) k
 
-  item-one : {x : ItemAct} {h : Head} {k : Forest} → ChosenItem Anything x h k → Item h k
-  unfolding visitsKept visitsMoved visitsDefault visitsMovedDefault visitsExport visitsMovedExport visitsTakenUp visitsStanding visitsAs actOf keepsDefault costs cost
-  item-one {k = k} (as-kept function) = omega (arith, skipped-free k)
-  item-one {k = k} (as-kept module-line) = omega (arith, skipped-free k)
-  item-one (as-kept no-default) = omega (arith, skipped-free none)
-  item-one {k = k} (as-kept (default-function anything)) = omega (arith, skipped-free k)
-  item-one (as-kept no-export) = omega (arith, skipped-free none)
-  item-one {k = k} (as-kept (export-other e₁₅ e₅ anything)) = rw (e₁₅, e₅) (omega (arith, skipped-free k))
-  item-one {h = h} {k = k} (as-moved e₁₃ e₁₇ e₁₈ e₁₉ e₁₅ e₅) =
-      rw (e₁₃, e₁₇, e₁₈, e₁₉, e₁₅) (omega (arith, skipped-free k, using-same (isUsing h) h k refl))
+  item-one : {x : ItemAct} {h : Head} {k : Forest} → ChosenItem Anything x h k → Item x h k
+  unfolding visitsKept visitsMoved visitsTakenUp visitsStanding visitsAs actOf costs cost
+  item-one {k = k} (as-kept s) = omega (arith, skipped-free k)
+  item-one {k = k} (as-moved e₁₃ e₁₇ e₁₈ e₁₉ e₁₅ e₅) = omega (arith, skipped-free k)
   item-one {k = k} as-class = omega (arith, skipped-free k)
   item-one {h = h} {k = k} as-declaration = omega (arith, skipped-free k, using-same (isUsing h) h k refl)
   item-one {k = k} (as-exported-declaration {k = k₁} anything) = omega (arith, skipped-free k, free-free (1 + length (boundNames k₁)))
   item-one {k = k} (as-exported-class anything) = omega (arith, skipped-free k)
   item-one {k = k} (as-default-class named anything) = omega (arith, skipped-free k)
-  item-one {k = k} (as-default-value e d anything) = rw e (omega (arith, skipped-free k))
+  item-one {k = k} (as-default-value e d anything) = omega (arith, skipped-free k)
 
   pub items-same : (f : Forest) → visited f kept + visited f moved ≡ visited f standing
   unfolding visitsIn visitsOf next costs

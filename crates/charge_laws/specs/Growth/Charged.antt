@@ -7,6 +7,7 @@ use Prim.Native.Nat.{ℕ, _+_, _*_}
 use native.Mathlib.Omega.{arith}
 use lib.ListN.{length}
 use lib.Dec.{eqb}
+use Rattle.meaning.specs.File.{scopeBytes, symbolBytes}
 use Rattle.meaning.specs.Tree.{if_then_else_, Head, Forest, one, Node, single, size, _&_}
 use Rattle.meaning.specs.Scoping.{Store}
 use Rattle.meaning.specs.Charges.{Line, helper, Figures, figures, charge, _⊕_, lineCharge, total, recordBytes}
@@ -23,7 +24,7 @@ counts st f =
     (length (st .scopes))
     (length (st .symbols))
     (st .contexts)
-    (7 * length (st .scopes) + (11 * length (st .symbols) + recordBytes f))
+    (scopeBytes * length (st .scopes) + (symbolBytes * length (st .symbols) + recordBytes f))
 
 -- the runtime helper comes with a context, if it is missing
 unfoldable pub helperLine : Store → List Line → List Line
@@ -35,7 +36,7 @@ helperLine st ls = if missing st && anyContext ls then helper ∷ [] else []
 pub record Pays (ls : List Line) (f f′ : Forest) (st st′ : Store) : Type 0 where
   pub rows : Grown (anyContext ls) (total ls .scopes) (total ls .symbols) (total ls .contexts) st st′
   pub records : size f′ ≡ size f + total ls .records
-  pub bytes : recordBytes f′ + (7 * total ls .scopes + 11 * total ls .symbols) ≡ recordBytes f + total ls .bytes
+  pub bytes : recordBytes f′ + (scopeBytes * total ls .scopes + symbolBytes * total ls .symbols) ≡ recordBytes f + total ls .bytes
 
 -- by a rewrite of one record
 abbrev pub PaysFor : List Line → Forest → Store → Node × Store → Type 0

@@ -11,7 +11,7 @@ use borrow.Author.Tests.{eqb-true, ne-eqb, leb-true}
 use Rattle.meaning.specs.Numbers.Tag
 use Rattle.meaning.specs.Numbers.Kind
 use Rattle.meaning.specs.Tree.{if_then_else_, oneOf, Head, Forest, none, more, count}
-use Rattle.meaning.specs.File.{Symbol, File, numbersOf, hasChildren, ownNumbers, fieldBytes}
+use Rattle.meaning.specs.File.{settingsBytes, scopeBytes, symbolBytes, Symbol, File, numbersOf, hasChildren, ownNumbers, fieldBytes}
 use Rattle.meaning.specs.Grammar.{tagsOf, is, allowed, fieldOf, declarationRight, right, childrenOf, placeOf}
 use Rattle.meaning.specs.Reading.{accepted, readFile}
 use Rattle.meaning.specs.declared.Place.{Place}
@@ -344,7 +344,7 @@ module _ {f : List ℕ} {syms : ℕ} where
 
 pub record Room (g : File) : Type 0 where
   pub sound : Sound (g .tree)
-  pub bytes : 7 + 7 * length (g .scopes) + 11 * length (g .symbols) + recordBytes (g .tree) ≤ 65535
+  pub bytes : settingsBytes + scopeBytes * length (g .scopes) + symbolBytes * length (g .symbols) + recordBytes (g .tree) ≤ 65535
 
 pub accepted-room : (f : List ℕ) (g : File) → readFile f ≡ accepted g → Room g
 accepted-room f g e =

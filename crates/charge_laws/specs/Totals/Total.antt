@@ -6,7 +6,7 @@ use Prim.Native.Nat.{ℕ, _+_, _*_}
 use native.Mathlib.Omega.{arith}
 use lib.ListN.{length}
 use Rattle.meaning.specs.Tree.{Forest, size}
-use Rattle.meaning.specs.File.{Symbol, File}
+use Rattle.meaning.specs.File.{settingsBytes, scopeBytes, symbolBytes, Symbol, File}
 use Rattle.meaning.specs.Charges.{Figures, figures, _⊕_, total, treeLines, recordBytes, figuresIn, helperLines, finalFigures}
 use Rattle.figures.specs.declared.tally.Tally.{Tally}
 use Rattle.figures.specs.declared.tally.Role.the-variants.{Plain}
@@ -42,7 +42,7 @@ figuresFrom f g =
     (length (f .scopes) + g .scopes)
     (length (f .symbols) + g .symbols)
     (g .contexts)
-    (7 + (7 * length (f .scopes) + (11 * length (f .symbols) + g .bytes)))
+    (settingsBytes + (scopeBytes * length (f .scopes) + (symbolBytes * length (f .symbols) + g .bytes)))
     ⊕ total (helperLines (f .mode) g)
 
 -- THE FIGURES. 01's final figures are the tally's.

@@ -8,7 +8,7 @@ use lib.ListN.{getD}
 use lib.Dec.{leb}
 use borrow.Author.Tests.{le-leb, lt-leb}
 use Rattle.meaning.specs.Tree.{if_then_else_}
-use Rattle.meaning.specs.File.{Symbol}
+use Rattle.meaning.specs.File.{symbolBytes, Symbol}
 use Rattle.meaning.specs.Grammar.{isRow}
 use Rattle.meaning.specs.Reading.{symbolsIn}
 use Rattle.meaning.specs.Scoping.{noSymbol, rowAt, binds, lastBinding, getBinding}
@@ -17,12 +17,12 @@ use Rattle.figures.specs.Tally.{symbolInRow}
 module _ (f : List ℕ) (at n scope name : ℕ) where
   -- the last of n rows that binds a name, where `found` is the last one before row i
   abbrev pub bindingFrom : ℕ → ℕ → ℕ
-  bindingFrom i found = lastBinding (symbolsIn f (n - i) (at + 11 * i)) scope name (suc i) found
+  bindingFrom i found = lastBinding (symbolsIn f (n - i) (at + symbolBytes * i)) scope name (suc i) found
 
   pub binding-first : getBinding (symbolsIn f n at) scope name ≡ bindingFrom 0 0
   binding-first =
       let s : n - 0 ≡ n = omega arith in
-      let e : at + 11 * 0 ≡ at = omega arith in
+      let e : at + symbolBytes * 0 ≡ at = omega arith in
       rw (s, e)
 
   pub binding-turn : (i found more : ℕ)
@@ -30,7 +30,7 @@ module _ (f : List ℕ) (at n scope name : ℕ) where
   unfolding symbolsIn lastBinding
   binding-turn i found more h e =
       let s : n - i ≡ suc (n - (i + 1)) = omega arith in
-      let t : at + 11 * i + 11 ≡ at + 11 * (i + 1) = omega arith in
+      let t : at + symbolBytes * i + symbolBytes ≡ at + symbolBytes * (i + 1) = omega arith in
       rw (s, t, e, add-one)
 
   pub binding-last : (i found : ℕ) → n ≤ i → bindingFrom i found ≡ found
@@ -42,9 +42,9 @@ module _ (f : List ℕ) (g : Symbol → ℕ) where
   row-from : (n at i : ℕ) → g (getD (symbolsIn f n at) i noSymbol) ≡ (if leb (suc i) n then g (symbolInRow f at i) else g noSymbol)
   unfolding symbolsIn
   row-from zero at i = rw (lt-leb (suc i) 0 (omega arith))
-  row-from (suc n) at zero = let e : at + 11 * 0 ≡ at = omega arith in rw (le-leb 1 (suc n) (omega arith), e)
+  row-from (suc n) at zero = let e : at + symbolBytes * 0 ≡ at = omega arith in rw (le-leb 1 (suc n) (omega arith), e)
   row-from (suc n) at (suc i) =
-      let e : at + 11 * suc i ≡ at + 11 + 11 * i = omega arith in
+      let e : at + symbolBytes * suc i ≡ at + symbolBytes + symbolBytes * i = omega arith in
       rw (compare·suc-suc (suc i) n, e) (row-from n (at + 11) i)
 
   pub row-number : (n at y : ℕ) → g (rowAt noSymbol (symbolsIn f n at) y) ≡ (if isRow n y then g (symbolInRow f at (y - 1)) else g noSymbol)

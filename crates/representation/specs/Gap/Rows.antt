@@ -6,13 +6,14 @@ use Prim.Native.Nat.{ℕ, zero, suc, _+_, _*_, _-_, _<_}
 use native.Mathlib.Omega.{arith}
 use lib.ListN.{length, length-append}
 use lib.Seq.{append-snoc}
+use Rattle.tables.specs.Columns.RecordTable
 use Rattle.tables.specs.Loops.{turns}
 use Rattle.tables.specs.Table.{cap-one, columnF, rowF, setColumnF, setRowF, moveRowF}
 use Rattle.tables.specs.Stream.{Buf, emitF, replaceRowF, copyRowF, unreadRowF, takeBackF}
 use Rattle.tables.specs.declared.Row.{Row}
 use Rattle.representation.specs.Gap.Cells.{table, zeros, free, gapped, withUp, withLeft, length-free}
 
-seven : (i f : ℕ) → suc i * 7 + f ≡ suc (suc (suc (suc (suc (suc (suc (i * 7 + f)))))))
+seven : (i f : ℕ) → suc i * RecordTable.Numbers + f ≡ suc (suc (suc (suc (suc (suc (suc (i * RecordTable.Numbers + f)))))))
 seven i f = omega arith
 
 -- ---- at any place

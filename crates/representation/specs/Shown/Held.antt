@@ -6,6 +6,7 @@ use Prim.Native.Nat.{ℕ, zero, suc, _+_, _*_, _-_}
 use native.Mathlib.Omega.{arith}
 use lib.ListN.{length, getD, drop, length-append}
 use lib.Seq.{append-snoc}
+use Rattle.tables.specs.Columns.SymbolTable
 use Rattle.meaning.specs.Tree.{Forest, none, more, count, size, _&_, Row as Record, row, flatten}
 use Rattle.meaning.specs.File.{Scope, Symbol}
 use Rattle.meaning.specs.Scoping.{noSymbol}
@@ -118,10 +119,10 @@ scopes-are (s ∷ ss) z =
 
 next-symbol : (a b c d e : ℕ) (t : List ℕ) (k : ℕ) → symbolIn (a ∷ b ∷ c ∷ d ∷ e ∷ t) (k + 1) ≡ symbolIn t k
 next-symbol a b c d e t k =
-    let e₀ : (k + 1) * 5 ≡ suc (suc (suc (suc (suc (k * 5))))) = omega arith in
-    let e₁ : suc (suc (suc (suc (suc (k * 5))))) + 1 ≡ suc (suc (suc (suc (suc (k * 5 + 1))))) = omega arith in
-    let e₂ : suc (suc (suc (suc (suc (k * 5))))) + 2 ≡ suc (suc (suc (suc (suc (k * 5 + 2))))) = omega arith in
-    let e₃ : suc (suc (suc (suc (suc (k * 5))))) + 3 ≡ suc (suc (suc (suc (suc (k * 5 + 3))))) = omega arith in
+    let e₀ : (k + 1) * SymbolTable.Numbers ≡ suc (suc (suc (suc (suc (k * SymbolTable.Numbers))))) = omega arith in
+    let e₁ : suc (suc (suc (suc (suc (k * SymbolTable.Numbers))))) + 1 ≡ suc (suc (suc (suc (suc (k * SymbolTable.Numbers + 1))))) = omega arith in
+    let e₂ : suc (suc (suc (suc (suc (k * SymbolTable.Numbers))))) + 2 ≡ suc (suc (suc (suc (suc (k * SymbolTable.Numbers + 2))))) = omega arith in
+    let e₃ : suc (suc (suc (suc (suc (k * SymbolTable.Numbers))))) + 3 ≡ suc (suc (suc (suc (suc (k * SymbolTable.Numbers + 3))))) = omega arith in
     rw (e₀, e₁, e₂, e₃)
 
 symbols-are : (ys rs : List Symbol) (z : List ℕ) → listFrom (symbolIn (symbolCells ys rs z)) 0 (length ys) ≡ ys

@@ -3,6 +3,7 @@
 use mathlib.Core.List.{List, [], _∷_, _++_}
 use Prim.Native.Nat.{ℕ, zero, suc, _+_, _*_, _-_}
 use lib.ListN.{getD}
+use Rattle.tables.specs.Columns.SymbolTable
 use Rattle.meaning.specs.Tree.{Row, row}
 use Rattle.meaning.specs.File.{Scope, scopeRow, Symbol, symbolRow}
 use Rattle.tables.specs.Table.{rowF, headF}
@@ -32,7 +33,7 @@ scopesIn q = listFrom (scopeIn (q .scopes)) 0 (q .walk .ctx .scopes)
 
 -- the fifth number of a symbol is its scope as read
 abbrev pub symbolIn : List ℕ → ℕ → Symbol
-symbolIn t i = symbolRow (getD t (i * 5) 0) (getD t (i * 5 + 1) 0) (getD t (i * 5 + 2) 0) (getD t (i * 5 + 3) 0)
+symbolIn t i = symbolRow (getD t (i * SymbolTable.Numbers) 0) (getD t (i * SymbolTable.Numbers + 1) 0) (getD t (i * SymbolTable.Numbers + 2) 0) (getD t (i * SymbolTable.Numbers + 3) 0)
 
 unfoldable pub symbolsIn : Tables → List Symbol
 symbolsIn q = listFrom (symbolIn (q .symbols)) 0 (q .walk .ctx .symbols)

@@ -11,6 +11,7 @@ use lib.ListN.{length, getD, drop, length-append}
 use lib.Seq.{append-snoc, set-at, getD-at}
 use lib.Dec.{eqb}
 use borrow.Author.Tests.{eq-eqb}
+use Rattle.tables.specs.Columns.SymbolTable
 use Rattle.meaning.specs.Tree.{if_then_else_}
 use Rattle.meaning.specs.File.{Symbol}
 use Rattle.meaning.specs.Scoping.{
@@ -108,7 +109,7 @@ module _ (from to : ℕ) (z : List ℕ) (st : Store) (xs ys : List Symbol) (y : 
   row-is : symbolAt (symbolCells (st .symbols) (st .asRead) z) 2 i ≡ y
   row-is = rw (cut, before) (at-is xs ys (st .asRead) y z)
 
-  flags-are : getD (symbolCells (st .symbols) (st .asRead) z) (i * 5 + 1) 0 ≡ y .flags
+  flags-are : getD (symbolCells (st .symbols) (st .asRead) z) (i * SymbolTable.Numbers + 1) 0 ≡ y .flags
   unfolding symbolAt
   flags-are = ap (λ (r : Symbol). r .flags) row-is
 

@@ -6,6 +6,7 @@ use Prim.Native.Nat.{ℕ, suc, _*_, _≤_}
 use native.Mathlib.Nat.{add-zero}
 use native.Mathlib.Omega.{arith}
 use lib.ListN.{length, getD, drop, length-append, length-drop}
+use Rattle.tables.specs.Columns.SymbolTable
 use Rattle.meaning.specs.File.{Symbol, symbolRow}
 use Rattle.meaning.specs.Scoping.{
   Store,
@@ -57,7 +58,7 @@ pub symbol-later : (f : ℕ) (r t : List ℕ) (i : ℕ) → length r ≡ 5 → s
 unfolding symbolAt
 symbol-later f r t i long =
     let get = get-next 5 r t long i in
-    rw (get 1, get f, get 3, ← add-zero (suc i * 5), get 0, add-zero (i * 5))
+    rw (get 1, get f, get 3, ← add-zero (suc i * SymbolTable.Numbers), get 0, add-zero (i * SymbolTable.Numbers))
 
 pub symbols-later : (f : ℕ) (r t : List ℕ) (n : ℕ) → length r ≡ 5 → symbolsF (r ++ t) f n 1 ≡ symbolsF t f n 0
 unfolding symbolsF
@@ -132,7 +133,7 @@ unfolding createSymbolF createSymbol withSymbol capped
 symbol-made st name flags scope made p q r u z room longer =
     let ys = st .symbols in
     let new = symbolRow name flags scope made in
-    let e = add-zero (length ys * 5) in
+    let e = add-zero (length ys * SymbolTable.Numbers) in
     let n : capped (length ys) 1 ≡ length (ys ++ new ∷ []) = omega (arith, length-append ys (new ∷ [])) in
     let put = set-behind layout ys (st .asRead) in
     rw (

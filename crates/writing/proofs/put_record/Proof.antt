@@ -1,12 +1,12 @@
 -- `writing::put_record` meets its contract. Assumes nothing.
-use Rattle.writing.specs.Writing.{recordBytes}
+use Rattle.writing.specs.Writing.{recordField}
 use Rattle.writing.proofs.Laws.{next-is}
 use borrow.Author.Needs.{needs}
 use Rattle.writing.proofs.put_record.Statement.{statement}
 use Rattle.writing.proofs.put_record.Tie as tie
 
 returns : tie.Need-returns
-unfolding recordBytes
+unfolding recordField
 returns c =
     let at-bytes-of = c in
     let at-put-field = at-bytes-of .before .before .before in

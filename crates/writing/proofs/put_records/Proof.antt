@@ -4,7 +4,7 @@ use Prim.Native.Nat.{_+_, _*_, _-_, _≤_}
 use native.Mathlib.Nat.{sub-zero}
 use lib.ListN.{length}
 use lib.Seq.{sets}
-use Rattle.writing.specs.Writing.{rowsBytes, recordAt}
+use Rattle.writing.specs.Writing.{mostBytes, rowsBytes, recordAt}
 use Rattle.writing.proofs.Laws.{next-most, records-turn}
 use borrow.Author.Needs.{needs}
 use Rattle.writing.proofs.put_records.Statement.{statement}
@@ -12,7 +12,7 @@ use Rattle.writing.proofs.put_records.Tie as tie
 
 abbrev Inv-loop : tie.InvT-loop
 Inv-loop out₀ tree records count at₀ k₀ out at k =
-    (k ≤ count) × (at ≤ tree + 11 * k) × (length out ≡ length out₀)
+    (k ≤ count) × (at ≤ tree + mostBytes * k) × (length out ≡ length out₀)
     × (sets out₀ tree (rowsBytes (recordAt records) 0 count) ≡ sets out at (rowsBytes (recordAt records) k (count - k)))
 
 abbrev μ-loop : tie.MeasureT-loop

@@ -3,7 +3,7 @@ use mathlib.Core.Path.{_≡_, refl, _∙_}
 use Prim.Native.Nat.{_+_, _*_, _-_, _≤_}
 use lib.ListN.{length}
 use lib.Seq.{sets}
-use Rattle.writing.specs.Writing.{rowsBytes, recordAt}
+use Rattle.writing.specs.Writing.{mostBytes, mostTree, rowsBytes, recordAt}
 use Rattle.writing.specs.Stored.{rows-last}
 use Rattle.writing.proofs.Laws.{next-most, records-turn}
 use borrow.Author.Needs.{needs}
@@ -12,7 +12,7 @@ use Rattle.writing.proofs.put_rest.Tie as tie
 
 abbrev Inv-loop : tie.InvT-loop
 Inv-loop out₀ first records from count at₀ k₀ out at k =
-    (at ≤ 1500000 + 11 * k) × (length out ≡ length out₀)
+    (at ≤ mostTree + mostBytes * k) × (length out ≡ length out₀)
     × (sets out₀ first (rowsBytes (recordAt records) from (count - from)) ≡ sets out at (rowsBytes (recordAt records) k (count - k)))
 
 abbrev μ-loop : tie.MeasureT-loop

@@ -4,7 +4,8 @@ use Prim.Native.Nat.{_+_, _*_, _-_, _≤_}
 use native.Mathlib.Nat.{sub-zero}
 use lib.ListN.{length}
 use lib.Seq.{sets}
-use Rattle.writing.specs.Writing.{scopeBytes, rowsBytes}
+use Rattle.meaning.specs.File.{settingsBytes, scopeBytes}
+use Rattle.writing.specs.Writing.{scopeField, rowsBytes}
 use Rattle.writing.specs.Stored.{rows-last}
 use Rattle.writing.proofs.Laws.{scopes-turn}
 use borrow.Author.Needs.{needs}
@@ -14,7 +15,7 @@ use Rattle.writing.proofs.put_scopes.Tie as tie
 abbrev Inv-loop : tie.InvT-loop
 Inv-loop out₀ scopes count k₀ out k =
     (k ≤ count) × (length out ≡ length out₀)
-    × (sets out₀ 7 (rowsBytes (scopeBytes scopes) 0 count) ≡ sets out (7 + 7 * k) (rowsBytes (scopeBytes scopes) k (count - k)))
+    × (sets out₀ settingsBytes (rowsBytes (scopeField scopes) 0 count) ≡ sets out (settingsBytes + scopeBytes * k) (rowsBytes (scopeField scopes) k (count - k)))
 
 abbrev μ-loop : tie.MeasureT-loop
 μ-loop out₀ scopes count k₀ out k =

@@ -1,11 +1,11 @@
 -- `writing::put_symbol` meets its contract. Assumes nothing.
-use Rattle.writing.specs.Writing.{symbolBytes}
+use Rattle.writing.specs.Writing.{symbolField}
 use borrow.Author.Needs.{needs}
 use Rattle.writing.proofs.put_symbol.Statement.{statement}
 use Rattle.writing.proofs.put_symbol.Tie as tie
 
 returns : tie.Need-returns
-unfolding symbolBytes
+unfolding symbolField
 returns c =
     let at-put-field = c .before .before in
     let at-get4 = at-put-field .before in

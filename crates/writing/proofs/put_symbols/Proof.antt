@@ -3,7 +3,8 @@ use mathlib.Core.Path.{_≡_, refl, _∙_}
 use Prim.Native.Nat.{_+_, _*_, _-_, _≤_}
 use lib.ListN.{length}
 use lib.Seq.{sets}
-use Rattle.writing.specs.Writing.{symbolBytes, rowsBytes}
+use Rattle.meaning.specs.File.{symbolBytes}
+use Rattle.writing.specs.Writing.{symbolField, rowsBytes}
 use Rattle.writing.specs.Stored.{rows-last}
 use Rattle.writing.proofs.Laws.{first-symbol, symbols-turn}
 use borrow.Author.Needs.{needs}
@@ -13,7 +14,7 @@ use Rattle.writing.proofs.put_symbols.Tie as tie
 abbrev Inv-loop : tie.InvT-loop
 Inv-loop out₀ first symbols count k₀ out k =
     (k ≤ count) × (length out ≡ length out₀)
-    × (sets out₀ first (rowsBytes (symbolBytes symbols) 0 count) ≡ sets out (first + 11 * k) (rowsBytes (symbolBytes symbols) k (count - k)))
+    × (sets out₀ first (rowsBytes (symbolField symbols) 0 count) ≡ sets out (first + symbolBytes * k) (rowsBytes (symbolField symbols) k (count - k)))
 
 abbrev μ-loop : tie.MeasureT-loop
 μ-loop out₀ first symbols count k₀ out k =

@@ -3,8 +3,8 @@ use Prim.Native.Nat.{_≤_, _-_}
 use mathlib.Core.Path.{_≡_}
 use lib.ListN.{length}
 use borrow.Author.Needs.{needs}
-use Rattle.test_vectors.proofs.lines.read_hex.Statement.{statement}
-use Rattle.test_vectors.proofs.lines.read_hex.Tie as tie
+use Rattle.test_lines.proofs.lines.read_hex.Statement.{statement}
+use Rattle.test_lines.proofs.lines.read_hex.Tie as tie
 
 abbrev Inv-loop : tie.InvT-loop
 Inv-loop text from file₀ most at₀ n₀ file at n = (n ≤ most) × (most ≡ length file) × (length file ≡ length file₀)

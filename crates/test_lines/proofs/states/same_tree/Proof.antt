@@ -1,8 +1,8 @@
 -- `test_vectors::walks::same_tree` meets its contract. Assumes nothing.
 use Prim.Native.Nat.{_≤_, _-_}
 use borrow.Author.Needs.{needs}
-use Rattle.test_vectors.proofs.walks.same_tree.Statement.{statement}
-use Rattle.test_vectors.proofs.walks.same_tree.Tie as tie
+use Rattle.test_lines.proofs.states.same_tree.Statement.{statement}
+use Rattle.test_lines.proofs.states.same_tree.Tie as tie
 
 abbrev Inv-loop : tie.InvT-loop
 Inv-loop tree w records scopes symbols rows₀ at₀ k₀ rows at k = k ≤ 100000

@@ -2,8 +2,8 @@
 use Prim.Native.Nat.{_≤_, _-_}
 use lib.ListN.{length}
 use borrow.Author.Needs.{needs}
-use Rattle.test_vectors.proofs.lines.spells.Statement.{statement}
-use Rattle.test_vectors.proofs.lines.spells.Tie as tie
+use Rattle.test_lines.proofs.lines.spells.Statement.{statement}
+use Rattle.test_lines.proofs.lines.spells.Tie as tie
 
 abbrev Inv-loop : tie.InvT-loop
 Inv-loop text from file at₀ i₀ at i = i ≤ length file

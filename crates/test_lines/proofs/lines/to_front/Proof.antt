@@ -3,8 +3,8 @@ use Prim.Native.Nat.{_≤_, _-_}
 use mathlib.Core.Path.{_≡_}
 use lib.ListN.{length}
 use borrow.Author.Needs.{needs}
-use Rattle.test_vectors.proofs.lines.to_front.Statement.{statement}
-use Rattle.test_vectors.proofs.lines.to_front.Tie as tie
+use Rattle.test_lines.proofs.lines.to_front.Statement.{statement}
+use Rattle.test_lines.proofs.lines.to_front.Tie as tie
 
 abbrev Inv-loop : tie.InvT-loop
 Inv-loop room₀ from end most n₀ at₀ room n at = (n ≤ most) × (most ≡ length room) × (length room ≡ length room₀)

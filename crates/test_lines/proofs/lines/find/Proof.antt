@@ -2,8 +2,8 @@
 use Prim.Native.Nat.{_≤_, _-_}
 use lib.ListN.{length}
 use borrow.Author.Needs.{needs}
-use Rattle.test_vectors.proofs.lines.find.Statement.{statement}
-use Rattle.test_vectors.proofs.lines.find.Tie as tie
+use Rattle.test_lines.proofs.lines.find.Statement.{statement}
+use Rattle.test_lines.proofs.lines.find.Tie as tie
 
 abbrev Inv-loop : tie.InvT-loop
 Inv-loop text from c i₀ i = from ≤ i

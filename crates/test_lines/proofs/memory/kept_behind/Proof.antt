@@ -3,8 +3,8 @@ use Prim.Native.Nat.{_-_}
 use mathlib.Core.Path.{_≡_}
 use lib.ListN.{length}
 use borrow.Author.Needs.{needs}
-use Rattle.test_vectors.proofs.lowerings.kept_behind.Statement.{statement}
-use Rattle.test_vectors.proofs.lowerings.kept_behind.Tie as tie
+use Rattle.test_lines.proofs.memory.kept_behind.Statement.{statement}
+use Rattle.test_lines.proofs.memory.kept_behind.Tie as tie
 
 abbrev Inv-loop : tie.InvT-loop
 Inv-loop out from n i₀ i =

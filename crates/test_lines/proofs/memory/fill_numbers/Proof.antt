@@ -3,8 +3,8 @@ use Prim.Native.Nat.{_≤_, _-_}
 use mathlib.Core.Path.{_≡_}
 use lib.ListN.{length}
 use borrow.Author.Needs.{needs}
-use Rattle.test_vectors.proofs.lowerings.fill_numbers.Statement.{statement}
-use Rattle.test_vectors.proofs.lowerings.fill_numbers.Tie as tie
+use Rattle.test_lines.proofs.memory.fill_numbers.Statement.{statement}
+use Rattle.test_lines.proofs.memory.fill_numbers.Tie as tie
 
 abbrev Inv-loop : tie.InvT-loop
 Inv-loop table₀ n i₀ table i =

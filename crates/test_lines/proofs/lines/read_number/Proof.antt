@@ -2,8 +2,8 @@
 use Prim.Native.Nat.{_≤_, _-_}
 use lib.ListN.{length}
 use borrow.Author.Needs.{needs}
-use Rattle.test_vectors.proofs.lines.read_number.Statement.{statement}
-use Rattle.test_vectors.proofs.lines.read_number.Tie as tie
+use Rattle.test_lines.proofs.lines.read_number.Statement.{statement}
+use Rattle.test_lines.proofs.lines.read_number.Tie as tie
 
 abbrev Inv-loop : tie.InvT-loop
 Inv-loop text from value₀ at₀ value at = from ≤ at

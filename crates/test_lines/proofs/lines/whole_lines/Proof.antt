@@ -1,8 +1,8 @@
 -- `test_vectors::lines::whole_lines` meets its contract. Assumes nothing.
 use Prim.Native.Nat.{_≤_, _-_}
 use borrow.Author.Needs.{needs}
-use Rattle.test_vectors.proofs.lines.whole_lines.Statement.{statement}
-use Rattle.test_vectors.proofs.lines.whole_lines.Tie as tie
+use Rattle.test_lines.proofs.lines.whole_lines.Statement.{statement}
+use Rattle.test_lines.proofs.lines.whole_lines.Tie as tie
 
 abbrev Inv-loop : tie.InvT-loop
 Inv-loop room n end₀ end = end ≤ n
