@@ -1,6 +1,10 @@
--- What a text in 01's notation says, and the laws of storing it.
+-- What a text in 01's notation says, the text of a file, and the laws of storing both.
 pub mod Notation
 pub mod Spots
 pub mod Stored
 pub mod Turns
 pub mod Case
+pub mod Shown
+pub mod Puts
+pub mod ShownTurns
+pub mod ShownBack

@@ -5,14 +5,16 @@ use fields::HEAD_BYTES;
 use fields::NUMBER_BYTES;
 use fields::TAG_BYTES;
 ghost use mathlib.Core.Path.{_≡_};
-ghost use mathlib.Core.List.{List, [], _∷_};
+ghost use mathlib.Core.List.{List, _++_};
 ghost use Prim.Native.Nat.{ℕ, _+_, _*_, _-_, _<_, _≤_};
-ghost use lib.ListN.{length};
+ghost use lib.ListN.{length, take, drop};
 ghost use lib.Seq.{sets};
 ghost use Rattle.meaning.specs.File.{headBytes};
-ghost use Rattle.notation.specs.Notation.{Part, digit0, isDigit, isSpace, withDigit, numbered, fielded, dotted, after, limit, mayPart, mayStand, encoded, spelled};
+ghost use Rattle.notation.specs.Notation.{Part, digit0, isDigit, isSpace, withDigit, numbered, fielded, dotted, after, colon, limit, mayPart, mayStand, encoded, spelled};
 ghost use Rattle.notation.specs.Spots.{spotAt, Reads};
 ghost use Rattle.notation.specs.Stored.{fileOf};
+ghost use Rattle.notation.specs.Shown.{decimal, shownByte, shownBytes, numbersIn, shownNumbers, shownField, wholeField, gap, shown};
+ghost use Rattle.notation.specs.Puts.{Put};
 
 // So many characters are read.
 const MOST: usize = 1000000000;
@@ -24,6 +26,14 @@ const MOST_BEFORE: usize = 32766;
 const MOST_TAG: u32 = 255;
 
 const MOST_NUMBER: u32 = 65535;
+
+// So many bytes are shown.
+const MOST_SHOWN: usize = 250000000;
+
+// The digits of a tag or a single byte, and of a number.
+const TAG_DIGITS: usize = 3;
+
+const NUMBER_DIGITS: usize = 5;
 
 // Whether a text is spelled right, or the place of the first character that may not stand where it does.
 pub enum Spelling {
@@ -271,98 +281,136 @@ pub fn encode(text: &[u8], file: &mut [u8]) -> usize
 
 // ---- from bytes to the notation
 
-// A byte as a number to print.
-fn wide(b: u8) -> u64 {
-    b as u64
-}
-
-// A number, and what stands before it.
-fn show_number(fd: i32, before: &[u8], n: u64) {
-    io::write_all(fd, before);
-    io::print_decimal(fd, n);
-}
-
-// All but the first thing in a text has a space before it.
-fn show_gap(fd: i32, at: usize) {
-    if at != 0 {
-        io::write_all(fd, b" ");
-    }
-}
-
-// The place behind the field at a place; the place itself if no whole field stands there: it is cut, or its length is odd.
-fn field_end(file: &[u8], at: usize) -> usize
-    ensures { λ r. ⌜ (at < r → (at + headBytes ≤ r) × (r ≤ length (now (file .entry)))) ⌝ }
+// Puts a number at a place of a text, in decimal with at most so many digits; the place behind it.
+fn put_decimal(text: &mut [u8], at: usize, most: usize, n: u16) -> usize
+    requires { ⌜ at + most ≤ 3000000000 ⌝ }
+    ensures { λ r. ⌜ Put (now (text .entry)) at (decimal most n) (now (text .exit)) r ⌝ }
+    ensures { λ r. ⌜ r ≤ at + most ⌝ }
 {
-    if file.len() < HEAD_BYTES {
+    if most == 0 {
         return at;
     }
-    if file.len() - HEAD_BYTES < at {
-        return at;
+    if n < 10 {
+        fields::put(text, at, b'0' + (n as u8));
+        return at + 1;
     }
-    let len = fields::read_two(file, at + TAG_BYTES) as usize;
-    if len % NUMBER_BYTES == 1 {
-        return at;
-    }
-    if file.len() - HEAD_BYTES - at < len {
-        return at;
-    }
-    at + HEAD_BYTES + len
+    let end = put_decimal(text, at, most - 1, n / 10);
+    fields::put(text, end, b'0' + ((n % 10) as u8));
+    end + 1
 }
 
-// The numbers of a field, which stand from a place on.
-fn show_numbers(fd: i32, file: &[u8], first: usize, count: usize)
-    requires { ⌜ first + 2 * count ≤ length (now file) ⌝ }
+// A byte on its own, with a dot.
+fn put_byte(text: &mut [u8], at: usize, b: u8) -> usize
+    requires { ⌜ at ≤ 2000000000 ⌝ }
+    ensures { λ r. ⌜ Put (now (text .entry)) at (shownByte b) (now (text .exit)) r ⌝ }
+    ensures { λ r. ⌜ r ≤ at + 4 ⌝ }
 {
-    let mut k: usize = 0;
-    while k < count {
-        let n = fields::read_two(file, first + NUMBER_BYTES * k) as u64;
-        if k == 0 {
-            show_number(fd, b":", n);
-        } else {
-            show_number(fd, b",", n);
-        }
-        k += 1;
-    }
+    let end = put_decimal(text, at, TAG_DIGITS, b as u16);
+    fields::put(text, end, b'.');
+    end + 1
 }
 
-// The field from a place to another.
-fn show_field(fd: i32, file: &[u8], at: usize, end: usize)
-    requires { ⌜ (at + headBytes ≤ end) × (end ≤ length (now file)) ⌝ }
+// Bytes on their own.
+fn put_bytes(bytes: &[u8], text: &mut [u8], at: usize) -> usize
+    requires { ⌜ at + 4 * length (now bytes) ≤ 2000000000 ⌝ }
+    ensures { λ r. ⌜ Put (now (text .entry)) at (shownBytes (now (bytes .entry))) (now (text .exit)) r ⌝ }
 {
-    show_gap(fd, at);
-    io::print_decimal(fd, wide(file[at]));
-    show_numbers(
-        fd,
-        file,
-        at + HEAD_BYTES,
-        (end - at - HEAD_BYTES) / NUMBER_BYTES,
-    );
-}
-
-// The bytes from a place on, each with a dot.
-fn show_bytes(fd: i32, file: &[u8], from: usize) {
-    let mut i = from;
-    while i < file.len() {
-        io::print_decimal(fd, wide(file[i]));
-        io::write_all(fd, b".");
+    let mut end = at;
+    let mut i = 0;
+    while i < bytes.len() {
+        end = put_byte(text, end, bytes[i]);
         i += 1;
     }
+    end
 }
 
-// Prints the notation of a file: its fields, and, from the first place on where no whole field stands, its bytes. It answers nothing and
-// writes to no lent slice, so a contract has nothing to say of it; what is printed is held to stored output.
-pub fn show(fd: i32, file: &[u8]) {
-    let mut at: usize = 0;
+// The numbers of a field.
+fn put_numbers(bytes: &[u8], text: &mut [u8], at: usize) -> usize
+    requires { ⌜ at + 4 * length (now bytes) ≤ 2000000000 ⌝ }
+    ensures { λ r. ⌜ Put (now (text .entry)) at (shownNumbers colon (numbersIn (now (bytes .entry)))) (now (text .exit)) r ⌝ }
+    ensures { λ r. ⌜ r ≤ at + 3 * length (now (bytes .entry)) ⌝ }
+{
+    let mut end = at;
+    let mut i = 0;
+    let mut before = b':';
+    while i + 1 < bytes.len() {
+        fields::put(text, end, before);
+        end = put_decimal(text, end + 1, NUMBER_DIGITS, fields::read_two(bytes, i));
+        before = b',';
+        i += NUMBER_BYTES;
+    }
+    end
+}
+
+// A whole field.
+fn put_field(field: &[u8], text: &mut [u8], at: usize) -> usize
+    requires { ⌜ (headBytes ≤ length (now field)) × (at + 4 * length (now field) ≤ 2000000000) ⌝ }
+    ensures { λ r. ⌜ Put (now (text .entry)) at (shownField (now (field .entry))) (now (text .exit)) r ⌝ }
+    ensures { λ r. ⌜ r + 1 ≤ at + 4 * length (now (field .entry)) ⌝ }
+{
+    let end = put_decimal(text, at, TAG_DIGITS, fields::tag_at(field, 0));
+    put_numbers(&field[HEAD_BYTES..], text, end)
+}
+
+// A space, if something follows.
+fn put_gap(rest: &[u8], text: &mut [u8], at: usize) -> usize
+    requires { ⌜ at ≤ 2000000000 ⌝ }
+    ensures { λ r. ⌜ Put (now (text .entry)) at (gap (now (rest .entry))) (now (text .exit)) r ⌝ }
+    ensures { λ r. ⌜ r ≤ at + 1 ⌝ }
+{
+    if rest.len() == 0 {
+        return at;
+    }
+    fields::put(text, at, b' ');
+    at + 1
+}
+
+// The bytes of the field that bytes begin with; none if it is cut, or its length is odd.
+fn whole_field(bytes: &[u8]) -> usize
+    ensures { λ r. ⌜ r ≡ wholeField (now (bytes .entry)) ⌝ }
+{
+    if bytes.len() < HEAD_BYTES {
+        return 0;
+    }
+    let len = fields::read_two(bytes, TAG_BYTES) as usize;
+    if len % NUMBER_BYTES != 0 {
+        return 0;
+    }
+    if bytes.len() - HEAD_BYTES < len {
+        return 0;
+    }
+    HEAD_BYTES + len
+}
+
+// The field of so many bytes that bytes begin with, and a space if something follows it.
+fn put_part(bytes: &[u8], n: usize, text: &mut [u8], at: usize) -> usize
+    requires { ⌜ (headBytes ≤ n) × (n ≤ length (now bytes)) × (at + 4 * n ≤ 2000000000) ⌝ }
+    ensures { λ r. ⌜ Put (now (text .entry)) at (shownField (take n (now (bytes .entry))) ++ gap (drop n (now (bytes .entry)))) (now (text .exit)) r ⌝ }
+    ensures { λ r. ⌜ r ≤ at + 4 * n ⌝ }
+{
+    let end = put_field(&bytes[..n], text, at);
+    put_gap(&bytes[n..], text, end)
+}
+
+// Puts the text of a file at the start of the text, as much as it has room for, and answers how many characters there are: its fields, and,
+// from the first place on where no whole field stands, its bytes. A file of more than 250,000,000 bytes has no text.
+pub fn show(file: &[u8], text: &mut [u8]) -> usize
+    ensures { λ r. ⌜ r ≡ length (shown (now (file .entry))) ⌝ }
+    ensures { λ _. ⌜ now (text .exit) ≡ sets (now (text .entry)) 0 (shown (now (file .entry))) ⌝ }
+{
+    if MOST_SHOWN < file.len() {
+        return 0;
+    }
+    let mut at = 0;
+    let mut end = 0;
     while at < file.len() {
-        let end = field_end(file, at);
-        if end <= at {
-            break;
+        let rest = &file[at..];
+        let n = whole_field(rest);
+        if n == 0 {
+            return put_bytes(rest, text, end);
         }
-        show_field(fd, file, at, end);
-        at = end;
+        end = put_part(rest, n, text, end);
+        at += n;
     }
-    if at < file.len() {
-        show_gap(fd, at);
-        show_bytes(fd, file, at);
-    }
+    end
 }

@@ -2,7 +2,6 @@
 // empty one the empty file. What comes of it is printed. The tables lent have 64 records, 24 scopes and 16 symbols, the output 700 bytes:
 // enough for every case but those that show refusals 9 and 10.
 use figures::FinalFigures;
-use libc::STDOUT_FILENO;
 use lowering::Lowered;
 use test_lines::lines;
 use test_lines::lines::Seen;
@@ -12,7 +11,9 @@ fn show_file(name: &[u8], file: &[u8]) {
     if 0 < file.len() {
         lines::put(b" ");
     }
-    notation::show(STDOUT_FILENO, file);
+    let mut text = io::large_buffer();
+    let n = notation::show(file, &mut text);
+    lines::put(lines::part(&text, 0, n));
     lines::put(b"\n");
 }
 

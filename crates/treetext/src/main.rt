@@ -31,7 +31,9 @@ fn write_text(file: &[u8]) {
         put(b"too long: a tree file may have 65536 bytes\n");
         return;
     }
-    notation::show(STDOUT_FILENO, file);
+    let mut text = [0u8; MOST_CHARACTERS];
+    let n = notation::show(file, &mut text);
+    put(&text[..n]);
     put(b"\n");
 }
 
