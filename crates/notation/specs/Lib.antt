@@ -3,8 +3,8 @@ pub mod Notation
 pub mod Spots
 pub mod Stored
 pub mod Turns
-pub mod Case
 pub mod Shown
 pub mod Puts
 pub mod ShownTurns
 pub mod ShownBack
+pub mod Case

@@ -7,7 +7,7 @@ use Prim.Native.Nat.{ℕ, zero, suc, _+_, _*_, _-_, _/_, _%_, _<_, _≤_}
 use native.Mathlib.Omega.{arith}
 use lib.Dec.{eqb, leb}
 use lib.ListN.{length, getD, take, drop, length-append, length-drop, take-append-drop}
-use lib.Seq.{length-take-le, getD-take}
+use lib.Seq.{sets, sets-eq, length-take-le, getD-take, take-append-seam}
 use borrow.Author.Tests.{le-leb, leb-true, leb-false, eqb-true, eqb-false, ne-eqb}
 use Rattle.meaning.specs.Tree.{if_then_else_}
 use Rattle.meaning.specs.File.{twoBytes}
@@ -375,3 +375,11 @@ module _ (file : List ℕ) (h : Bytes file) (l : length file ≤ mostShown) wher
   unfolding spelled
   shown-right =
       rw (le-leb (length (shown file)) most short) (goes-right (shown file) nothing (whole-text .place) 0 (whole-text .goes) (whole-text .stands))
+
+  -- from the text that `show` has filled, if it has room
+  pub filled-back : (text : List ℕ) → length (shown file) ≤ length text
+      → encoded (take (length (shown file)) (sets text 0 (shown file))) ≡ file
+  filled-back text room =
+      let z : 0 + length (shown file) ≡ length (shown file) = omega arith in
+      let filled : sets text 0 (shown file) ≡ shown file ++ drop (0 + length (shown file)) text = sets-eq (shown file) text 0 (rw z room) in
+      ap encoded (ap (λ x. take (length (shown file)) x) filled ∙ take-append-seam (shown file) (drop (0 + length (shown file)) text)) ∙ shown-back
