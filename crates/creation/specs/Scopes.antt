@@ -23,7 +23,7 @@ abbrev pub scopeMoveF : List ℕ → ℕ → ℕ → ℕ → ScopeMoveF
 scopeMoveF t at pending skip = record { t = t; at = at; pending = pending; skip = skip }
 
 abbrev pub scopeMove : List ℕ → ScopeMove → ScopeMoveF
-scopeMove t s = scopeMoveF t (s .at) (s .pending) (s .skip)
+scopeMove t s = scopeMoveF t (s .at .0) (s .pending) (s .skip)
 
 unfoldable pub moveScopeF : List ℕ → Ctx → ℕ → ScopeMoveF → ScopeMoveF
 moveScopeF records x parent s =

@@ -42,7 +42,7 @@ pub struct Created {
 
 // The last row looked at, how many records beside each other are still to be looked at, and how many to be passed over before.
 pub struct ScopeMove {
-    pub at: u16,
+    pub at: RecordId,
     pub pending: u16,
     pub skip: u16,
 }
@@ -59,8 +59,8 @@ fn move_scope(
 ) -> ScopeMove
     ensures { λ r. ⌜ scopeMove (now (scopes .exit)) r ≡ moveScopeF (now (records .entry)) ctx (parent .0) (scopeMove (now (scopes .entry)) s) ⌝ }
 {
-    let r = tables::row_after(records, RecordId(s.at));
-    let at = tables::plus(s.at, 1);
+    let r = tables::row_after(records, s.at);
+    let at = RecordId(tables::plus(s.at.0, 1));
     if s.skip != 0 {
         return ScopeMove {
             at,
@@ -107,7 +107,7 @@ fn move_scopes(
     ensures { λ _. ⌜ now (scopes .exit) ≡ moveScopesF (now (records .entry)) (inScopes (now (scopes .entry)) ctx) (after .0) n (parent .0) ⌝ }
 {
     let mut s = ScopeMove {
-        at: after.0,
+        at: after,
         pending: n,
         skip: 0,
     };

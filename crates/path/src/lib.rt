@@ -120,20 +120,20 @@ fn has_scope(records: &[u16], at: RecordId) -> bool
 }
 
 // The row around an open one.
-fn up(records: &[u16], at: u16) -> u16
-    ensures { λ r. ⌜ r ≡ upF (now (records .entry)) at ⌝ }
+fn up(records: &[u16], at: RecordId) -> RecordId
+    ensures { λ r. ⌜ r .0 ≡ upF (now (records .entry)) (at .0) ⌝ }
 {
-    tables::column(records, RecordId(tables::minus(at, 1)), record::UP)
+    RecordId(tables::column(records, RecordId(tables::minus(at.0, 1)), record::UP))
 }
 
 // The nearest open record with a scope, after `count` steps outwards at most.
-fn nearest_scope(records: &[u16], inner: u16, count: u16) -> u16
-    ensures { λ r. ⌜ r ≡ until count (hasScopeF (now (records .entry))) (upF (now (records .entry))) inner ⌝ }
+fn nearest_scope(records: &[u16], inner: RecordId, count: u16) -> RecordId
+    ensures { λ r. ⌜ r .0 ≡ until count (hasScopeF (now (records .entry))) (upF (now (records .entry))) (inner .0) ⌝ }
 {
     let mut at = inner;
     let mut k: u16 = 0;
     while k < count {
-        if has_scope(records, RecordId(at)) {
+        if has_scope(records, at) {
             break;
         }
         at = up(records, at);
@@ -146,7 +146,7 @@ fn nearest_scope(records: &[u16], inner: u16, count: u16) -> u16
 pub fn current_scope(records: &[u16], inner: RecordId, count: u16) -> ScopeId
     ensures { λ s. ⌜ s .0 ≡ currentScopeF (now (records .entry)) (inner .0) count ⌝ }
 {
-    scope_at(records, RecordId(nearest_scope(records, inner.0, count)))
+    scope_at(records, nearest_scope(records, inner, count))
 }
 
 // A Program, a Function or a StaticBlock.
@@ -167,13 +167,13 @@ fn is_hoist(records: &[u16], at: RecordId) -> bool
 }
 
 // The nearest open Program, Function or StaticBlock, after `count` steps outwards at most.
-fn nearest_hoist(records: &[u16], inner: u16, count: u16) -> u16
-    ensures { λ r. ⌜ r ≡ until count (isHoistF (now (records .entry))) (upF (now (records .entry))) inner ⌝ }
+fn nearest_hoist(records: &[u16], inner: RecordId, count: u16) -> RecordId
+    ensures { λ r. ⌜ r .0 ≡ until count (isHoistF (now (records .entry))) (upF (now (records .entry))) (inner .0) ⌝ }
 {
     let mut at = inner;
     let mut k: u16 = 0;
     while k < count {
-        if is_hoist(records, RecordId(at)) {
+        if is_hoist(records, at) {
             break;
         }
         at = up(records, at);
@@ -186,36 +186,37 @@ fn nearest_hoist(records: &[u16], inner: u16, count: u16) -> u16
 pub fn hoist_scope(records: &[u16], inner: RecordId, count: u16) -> ScopeId
     ensures { λ s. ⌜ s .0 ≡ hoistScopeF (now (records .entry)) (inner .0) count ⌝ }
 {
-    scope_at(records, RecordId(nearest_hoist(records, inner.0, count)))
+    scope_at(records, nearest_hoist(records, inner, count))
 }
 
 // ---- entering and leaving
 
 // An open row is left; the row around it.
-pub fn close(records: &mut [u16], at: u16) -> u16
-    ensures { λ r. ⌜ openRows (now (records .exit)) r ≡ closeF (openRows (now (records .entry)) at) ⌝ }
+pub fn close(records: &mut [u16], at: RecordId) -> RecordId
+    ensures { λ r. ⌜ openRows (now (records .exit)) (r .0) ≡ closeF (openRows (now (records .entry)) (at .0)) ⌝ }
 {
     let around = up(records, at);
-    tables::put_column(records, RecordId(tables::minus(at, 1)), record::UP, 0);
+    tables::put_column(records, RecordId(tables::minus(at.0, 1)), record::UP, 0);
     around
 }
 
 // The row has children to enter, or is a StaticBlock, whose leaving is a visit; or there is none.
-fn stays(records: &[u16], at: u16) -> bool
-    ensures { λ r. ⌜ r ≡ staysF (now (records .entry)) at ⌝ }
+fn stays(records: &[u16], at: RecordId) -> bool
+    ensures { λ r. ⌜ r ≡ staysF (now (records .entry)) (at .0) ⌝ }
 {
-    if at == 0 {
+    let n = at.0;
+    if n == 0 {
         return true;
     }
-    if tables::column(records, RecordId(at - 1), record::LEFT) != 0 {
+    if tables::column(records, RecordId(n - 1), record::LEFT) != 0 {
         return true;
     }
-    tables::column(records, RecordId(at - 1), record::TAG) == tag::STATIC_BLOCK
+    tables::column(records, RecordId(n - 1), record::TAG) == tag::STATIC_BLOCK
 }
 
 // Rows whose children are all entered are left, `count` at most.
-pub fn settle(records: &mut [u16], inner: u16, count: u16) -> u16
-    ensures { λ r. ⌜ openRows (now (records .exit)) r ≡ settleF count (openRows (now (records .entry)) inner) ⌝ }
+pub fn settle(records: &mut [u16], inner: RecordId, count: u16) -> RecordId
+    ensures { λ r. ⌜ openRows (now (records .exit)) (r .0) ≡ settleF count (openRows (now (records .entry)) (inner .0)) ⌝ }
 {
     let mut at = inner;
     let mut k: u16 = 0;
@@ -230,14 +231,15 @@ pub fn settle(records: &mut [u16], inner: u16, count: u16) -> u16
 }
 
 // One child less to enter.
-fn count_down(records: &mut [u16], at: u16)
-    ensures { λ _. ⌜ now (records .exit) ≡ countDownF (now (records .entry)) at ⌝ }
+fn count_down(records: &mut [u16], at: RecordId)
+    ensures { λ _. ⌜ now (records .exit) ≡ countDownF (now (records .entry)) (at .0) ⌝ }
 {
-    if at != 0 {
-        let left = tables::column(records, RecordId(at - 1), record::LEFT);
+    let n = at.0;
+    if n != 0 {
+        let left = tables::column(records, RecordId(n - 1), record::LEFT);
         tables::put_column(
             records,
-            RecordId(at - 1),
+            RecordId(n - 1),
             record::LEFT,
             tables::minus(left, 1),
         );
@@ -245,8 +247,8 @@ fn count_down(records: &mut [u16], at: u16)
 }
 
 // The row as an open one: all its children are to be entered.
-fn open_row(r: Row, around: u16) -> Row
-    ensures { λ o. ⌜ o ≡ openRowF r around ⌝ }
+fn open_row(r: Row, around: RecordId) -> Row
+    ensures { λ o. ⌜ o ≡ openRowF r (around .0) ⌝ }
 {
     Row {
         tag: r.tag,
@@ -254,7 +256,7 @@ fn open_row(r: Row, around: u16) -> Row
         b: r.b,
         c: r.c,
         n: r.n,
-        up: around,
+        up: around.0,
         left: r.n,
     }
 }
@@ -263,12 +265,12 @@ fn open_row(r: Row, around: u16) -> Row
 pub fn enter(records: &mut [u16], w: Walk) -> Walk
     ensures { λ r. ⌜ onRecords (now (records .exit)) r ≡ enterF (onRecords (now (records .entry)) w) ⌝ }
 {
-    let around = w.inner.0;
+    let around = w.inner;
     count_down(records, around);
     let r = tables::row_after(records, w.gap);
     tables::clear_row(records, w.gap);
     tables::put_row(records, w.visited, open_row(r, around));
     let v = w.step();
-    let inner = settle(records, v.inner.0, v.visited.0);
-    v.with_inner(RecordId(inner))
+    let inner = settle(records, v.inner, v.visited.0);
+    v.with_inner(inner)
 }

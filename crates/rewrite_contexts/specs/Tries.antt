@@ -21,6 +21,7 @@ use Rattle.creation.specs.Creation.{inRows}
 use Rattle.creation.specs.Kinds.{forTryPartF}
 use Rattle.path.specs.Path.{Tables, tables, chargedF, withCtxF}
 use Rattle.rewrite_contexts.specs.Lists.{listScope, currentIn, hoistIn, wrappedRowsF}
+use Rattle.rewrite_contexts.specs.declared.LastChild.{LastChild}
 use Rattle.rewrite_contexts.specs.declared.Parting.{Parting}
 
 -- a Try's rows on their way, with the scopes, the symbols and the counters
@@ -87,12 +88,15 @@ planTryF t after n = turns n (planChildF t) (counting after 0) .sum
 unfoldable pub ifBlockF : Row → ℕ
 ifBlockF r = if eqb (r .tag) Tag.Block then r .a else 0
 
-unfoldable pub blockScopeF : List ℕ → Counting → Counting
-blockScopeF t s = counting (endF t (s .at .0) 1) (ifBlockF (rowF t (s .at .0)))
+abbrev pub lastChild : ℕ → ℕ → LastChild
+lastChild at scope = record { at = record { 0 = at }; scope = record { 0 = scope } }
+
+unfoldable pub blockScopeF : List ℕ → LastChild → LastChild
+blockScopeF t s = lastChild (endF t (s .at .0) 1) (ifBlockF (rowF t (s .at .0)))
 
 -- the scope of the last Block of a list, or 0
 unfoldable pub lastBlockScopeF : List ℕ → ℕ → ℕ → ℕ
-lastBlockScopeF t after n = turns n (blockScopeF t) (counting after 0) .sum
+lastBlockScopeF t after n = turns n (blockScopeF t) (lastChild after 0) .scope .0
 
 -- the symbol rows, and a place in the record table
 pub record Naming : Type 0 where

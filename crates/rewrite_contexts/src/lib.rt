@@ -219,35 +219,48 @@ fn transform_parts(
     s
 }
 
-// The child after a row, as the last one so far: its scope if it is a Block, or 0.
-fn block_scope(records: &[u16], s: Counting) -> Counting
+// The last row looked at, and the scope of the last child if it is a Block, or 0.
+pub struct LastChild {
+    pub at: RecordId,
+    pub scope: ScopeId,
+}
+
+// The child after a row, as the last one so far.
+fn block_scope(records: &[u16], s: LastChild) -> LastChild
     ensures { λ o. ⌜ o ≡ blockScopeF (now (records .entry)) s ⌝ }
 {
     let r = tables::row_after(records, s.at);
-    Counting {
+    LastChild {
         at: tables::end_after(records, s.at, 1),
-        sum: if_block(r),
+        scope: if_block(r),
     }
 }
 
 // A Block's scope, or 0.
-fn if_block(r: Row) -> u16
-    ensures { λ o. ⌜ o ≡ ifBlockF r ⌝ }
+fn if_block(r: Row) -> ScopeId
+    ensures { λ o. ⌜ o .0 ≡ ifBlockF r ⌝ }
 {
-    if r.tag == tag::BLOCK { r.a } else { 0 }
+    if r.tag == tag::BLOCK {
+        ScopeId(r.a)
+    } else {
+        ScopeId(0)
+    }
 }
 
 // The scope of the last Block of a list, or 0.
 fn last_block_scope(records: &[u16], after: RecordId, n: u16) -> ScopeId
     ensures { λ o. ⌜ o .0 ≡ lastBlockScopeF (now (records .entry)) (after .0) n ⌝ }
 {
-    let mut s = Counting { at: after, sum: 0 };
+    let mut s = LastChild {
+        at: after,
+        scope: ScopeId(0),
+    };
     let mut k: u16 = 0;
     while k < n {
         s = block_scope(records, s);
         k += 1;
     }
-    ScopeId(s.sum)
+    s.scope
 }
 
 // The child after a row moves to the scope if it is a Name.

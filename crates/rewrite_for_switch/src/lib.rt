@@ -19,40 +19,40 @@ ghost use Rattle.rewrite_for_switch.specs.Switch.{casing, orAwaitsF, tak
 // ---- for
 
 // The row after another is no Label.
-fn is_loop(records: &[u16], after: u16) -> bool
-    ensures { λ r. ⌜ r ≡ isLoopF (now (records .entry)) after ⌝ }
+fn is_loop(records: &[u16], after: RecordId) -> bool
+    ensures { λ r. ⌜ r ≡ isLoopF (now (records .entry)) (after .0) ⌝ }
 {
-    tables::column(records, RecordId(after), record::TAG) != tag::LABEL
+    tables::column(records, after, record::TAG) != tag::LABEL
 }
 
 // The last of the Labels after a row, each the only child of the one before.
-fn labels_end(records: &[u16], after: u16) -> u16
-    ensures { λ r. ⌜ r ≡ labelsEndF (now (records .entry)) after ⌝ }
+fn labels_end(records: &[u16], after: RecordId) -> RecordId
+    ensures { λ r. ⌜ r .0 ≡ labelsEndF (now (records .entry)) (after .0) ⌝ }
 {
-    let mut at = after;
+    let mut at = after.0;
     while at < tables::LARGEST {
-        if is_loop(records, at) {
+        if is_loop(records, RecordId(at)) {
             break;
         }
         at += 1;
     }
-    at
+    RecordId(at)
 }
 
 // What the For below the Labels after a row has to take up.
 pub fn plan_for(records: &[u16], after: RecordId) -> Plan
     ensures { λ r. ⌜ r ≡ planForF (now (records .entry)) (after .0) ⌝ }
 {
-    let at = labels_end(records, after.0);
-    let r = tables::row_after(records, RecordId(at));
+    let at = labels_end(records, after);
+    let r = tables::row_after(records, at);
     if r.tag == tag::FOR {
         statements::plan_list(
             records,
-            statements::no_plan(RecordId(tables::plus(at, 1))),
+            statements::no_plan(RecordId(tables::plus(at.0, 1))),
             r.n,
         )
     } else {
-        statements::no_plan(RecordId(at))
+        statements::no_plan(at)
     }
 }
 
@@ -73,7 +73,8 @@ fn pass_rows(records: &mut [u16], start: Cursor, n: u16) -> Cursor
 fn write_for(records: &mut [u16], q: Cursor, p: Parts) -> Cursor
     ensures { λ o. ⌜ buf (now (records .exit)) o ≡ forRowsF p (buf (now (records .entry)) q) ⌝ }
 {
-    let labels = tables::minus(labels_end(records, q.read.0), q.read.0);
+    let end = labels_end(records, q.read);
+    let labels = tables::minus(end.0, q.read.0);
     let q1 = statements::open_try(records, q, rewrite_contexts::list_scope(p), 2);
     let q2 = statements::declare_context(records, q1, p);
     let q3 = pass_rows(records, q2, labels);

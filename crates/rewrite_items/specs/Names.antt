@@ -21,7 +21,7 @@ use Rattle.rewrite_items.specs.declared.Specifying.{Specifying}
 
 abbrev pub names : ℕ → ℕ → ℕ → ℕ → Names
 names at declarators children below =
-    record { at = at; declarators = declarators; children = children; below = below }
+    record { at = record { 0 = at }; declarators = declarators; children = children; below = below }
 
 -- n Declarators after a row
 abbrev pub firstNames : ℕ → ℕ → Names
@@ -29,13 +29,13 @@ firstNames after n = names after n 0 0
 
 -- the next row is such a name
 unfoldable pub isNameF : List ℕ → Names → Bool
-isNameF t s = eqb (s .below) 0 && (not (eqb (s .children) 0) && eqb (columnF t (s .at) RecordTable.Tag) Tag.Name)
+isNameF t s = eqb (s .below) 0 && (not (eqb (s .children) 0) && eqb (columnF t (s .at .0) RecordTable.Tag) Tag.Name)
 
 -- the next row is passed
 unfoldable pub nextNameF : List ℕ → Names → Names
 nextNameF t s =
-    let r = rowF t (s .at) in
-    let next = capped (s .at) 1 in
+    let r = rowF t (s .at .0) in
+    let next = capped (s .at .0) 1 in
     if eqb (s .below) 0 then (
     if eqb (s .children) 0 then (
     if eqb (r .tag) Tag.Declarator then names next (s .declarators - 1) (r .n) 0 else names next (s .declarators - 1) 0 (r .n))
@@ -71,7 +71,7 @@ flagging t s = record { t = t; names = s }
 unfoldable pub flagNameF : List ℕ → Ctx → Flagging → Flagging
 flagNameF records x s =
     flagging
-    (if isNameF records (s .names) then setSymbolFlagsF (inSymbols (s .t) x) (columnF records (s .names .at) RecordTable.A) SymbolFlag.FunctionScoped else s .t)
+    (if isNameF records (s .names) then setSymbolFlagsF (inSymbols (s .t) x) (columnF records (s .names .at .0) RecordTable.A) SymbolFlag.FunctionScoped else s .t)
     (nextNameF records (s .names))
 
 abbrev pub allFlagged : Flagging → Bool
@@ -95,7 +95,7 @@ specifying t s = specifyingF (buf t (s .at)) (s .names)
 
 unfoldable pub specifierF : SymbolRows → SpecifyingF → SpecifyingF
 specifierF q s =
-    let y = columnF (s .buf .t) (s .names .at) RecordTable.A in
+    let y = columnF (s .buf .t) (s .names .at .0) RecordTable.A in
     let r = closedRowF Tag.Specifier y (symbolNumber (q .t) (q .ctx .symbols) y SymbolTable.Name) 0 0 in
     let next = nextNameF (s .buf .t) (s .names) in
     if isNameF (s .buf .t) (s .names) then specifyingF (emitF (s .buf) r) next else specifyingF (s .buf) next

@@ -48,16 +48,16 @@ fn default_item(r: Row, n: u16) -> Item
     }
     match tag {
         tag::FUNCTION => Item::Kept,
-        tag::CLASS => default_class(r.c),
+        tag::CLASS => default_class(SymbolId(r.c)),
         _ => Item::DefaultValue,
     }
 }
 
 // A Class declaration that is exported by default, by its symbol.
-fn default_class(symbol: u16) -> Item
-    ensures { λ o. ⌜ o ≡ defaultClassItemF symbol ⌝ }
+fn default_class(symbol: SymbolId) -> Item
+    ensures { λ o. ⌜ o ≡ defaultClassItemF (symbol .0) ⌝ }
 {
-    if symbol == 0 {
+    if symbol.0 == 0 {
         return Item::DefaultValue;
     }
     Item::DefaultClass
@@ -99,7 +99,7 @@ pub fn item_after(records: &[u16], after: RecordId) -> Item
 
 // The last row looked at; the Declarators, the children of a Declarator, and the records below one of those that are still to come.
 pub struct Names {
-    pub at: u16,
+    pub at: RecordId,
     pub declarators: u16,
     pub children: u16,
     pub below: u16,
@@ -115,15 +115,15 @@ fn is_name(records: &[u16], s: Names) -> bool
     if s.children == 0 {
         return false;
     }
-    tables::column(records, RecordId(s.at), record::TAG) == tag::NAME
+    tables::column(records, s.at, record::TAG) == tag::NAME
 }
 
 // The next row is passed.
 fn next_name(records: &[u16], s: Names) -> Names
     ensures { λ o. ⌜ o ≡ nextNameF (now (records .entry)) s ⌝ }
 {
-    let r = tables::row_after(records, RecordId(s.at));
-    let at = tables::plus(s.at, 1);
+    let r = tables::row_after(records, s.at);
+    let at = RecordId(tables::plus(s.at.0, 1));
     if s.below != 0 {
         return Names {
             at,
@@ -202,8 +202,8 @@ fn all_counted(s: Counted) -> bool
 }
 
 // The names of n Declarators after a row.
-pub fn count_names(records: &[u16], after: u16, n: u16) -> u16
-    ensures { λ o. ⌜ o ≡ countNamesF (now (records .entry)) after n ⌝ }
+pub fn count_names(records: &[u16], after: RecordId, n: u16) -> u16
+    ensures { λ o. ⌜ o ≡ countNamesF (now (records .entry)) (after .0) n ⌝ }
 {
     let mut s = Counted {
         names: Names {
@@ -231,7 +231,7 @@ fn flag_name(records: &[u16], symbols: &mut [u16], ctx: Ctx, s: Names) -> Names
 {
     let next = next_name(records, s);
     if is_name(records, s) {
-        let y = SymbolId(tables::column(records, RecordId(s.at), record::A));
+        let y = SymbolId(tables::column(records, s.at, record::A));
         scoping::set_symbol_flags(symbols, ctx, y, symbol_flag::FUNCTION_SCOPED);
         next
     } else {
@@ -240,8 +240,8 @@ fn flag_name(records: &[u16], symbols: &mut [u16], ctx: Ctx, s: Names) -> Names
 }
 
 // The names of n Declarators after a row become function-scoped.
-fn flag_names(records: &[u16], symbols: &mut [u16], ctx: Ctx, after: u16, n: u16)
-    ensures { λ _. ⌜ now (symbols .exit) ≡ flagNamesF (now (records .entry)) (inSymbols (now (symbols .entry)) ctx) after n ⌝ }
+fn flag_names(records: &[u16], symbols: &mut [u16], ctx: Ctx, after: RecordId, n: u16)
+    ensures { λ _. ⌜ now (symbols .exit) ≡ flagNamesF (now (records .entry)) (inSymbols (now (symbols .entry)) ctx) (after .0) n ⌝ }
 {
     let mut s = Names {
         at: after,
@@ -273,13 +273,13 @@ fn write_specifier(records: &mut [u16], symbols: &[u16], ctx: Ctx, s: Specifying
     let names = s.names;
     let next = next_name(records, names);
     if is_name(records, names) {
-        let y = tables::column(records, RecordId(names.at), record::A);
-        let name = scoping::symbol_number(symbols, ctx.symbols, SymbolId(y), symbol::NAME);
+        let y = SymbolId(tables::column(records, names.at, record::A));
+        let name = scoping::symbol_number(symbols, ctx.symbols, y, symbol::NAME);
         Specifying {
             at: tables::emit(
                 records,
                 q,
-                tables::closed_row(tag::SPECIFIER, y, name, 0, 0),
+                tables::closed_row(tag::SPECIFIER, y.0, name, 0, 0),
             ),
             names: next,
         }
@@ -316,7 +316,7 @@ fn write_specifiers(records: &mut [u16], symbols: &[u16], ctx: Ctx, at: Cursor, 
     ensures { λ o. ⌜ buf (now (records .exit)) o ≡ specifiersF (inSymbols (now (symbols .entry)) ctx) n (buf (now (records .entry)) at) ⌝ }
 {
     let names = Names {
-        at: tables::plus(at.read.0, 1),
+        at: RecordId(tables::plus(at.read.0, 1)),
         declarators: n,
         children: 0,
         below: 0,
@@ -340,8 +340,8 @@ fn drop_row(records: &mut [u16], q: Cursor) -> Cursor
 }
 
 // `export { y as name }`
-fn write_export(records: &mut [u16], q: Cursor, y: u16, name: u16) -> Cursor
-    ensures { λ o. ⌜ buf (now (records .exit)) o ≡ exportRowsF y name (buf (now (records .entry)) q) ⌝ }
+fn write_export(records: &mut [u16], q: Cursor, y: SymbolId, name: u16) -> Cursor
+    ensures { λ o. ⌜ buf (now (records .exit)) o ≡ exportRowsF (y .0) name (buf (now (records .entry)) q) ⌝ }
 {
     let q1 = tables::emit(
         records,
@@ -351,7 +351,7 @@ fn write_export(records: &mut [u16], q: Cursor, y: u16, name: u16) -> Cursor
     tables::emit(
         records,
         q1,
-        tables::closed_row(tag::SPECIFIER, y, name, 0, 0),
+        tables::closed_row(tag::SPECIFIER, y.0, name, 0, 0),
     )
 }
 
@@ -407,7 +407,13 @@ fn top_level_declaration(records: &mut [u16], symbols: &mut [u16], s: Passing) -
     let q = s.at;
     let ctx = s.ctx;
     let r = tables::row_after(records, q.read);
-    flag_names(records, symbols, ctx, tables::plus(q.read.0, 1), r.n);
+    flag_names(
+        records,
+        symbols,
+        ctx,
+        RecordId(tables::plus(q.read.0, 1)),
+        r.n,
+    );
     let q1 = tables::replace_row(records, q, recorded(r));
     let at = tables::copy(records, q1, r.n);
     Passing { at, ctx }
@@ -430,8 +436,8 @@ fn exported_class(records: &mut [u16], symbols: &mut [u16], s: Passing) -> Passi
 {
     let ctx = s.ctx;
     let q = drop_row(records, s.at);
-    let y = tables::column(records, q.read, record::C);
-    let name = scoping::symbol_number(symbols, ctx.symbols, SymbolId(y), symbol::NAME);
+    let y = SymbolId(tables::column(records, q.read, record::C));
+    let name = scoping::symbol_number(symbols, ctx.symbols, y, symbol::NAME);
     let at = write_export(records, q, y, name);
     transform_class_decl(records, symbols, Passing { at, ctx })
 }
@@ -443,7 +449,7 @@ fn exported_declaration(records: &mut [u16], symbols: &mut [u16], s: Passing) ->
     let ctx = s.ctx;
     let q = drop_row(records, s.at);
     let n = tables::column(records, q.read, record::N);
-    let list = tables::plus(q.read.0, 1);
+    let list = RecordId(tables::plus(q.read.0, 1));
     flag_names(records, symbols, ctx, list, n);
     let names = count_names(records, list, n);
     let q1 = tables::emit(
@@ -470,7 +476,7 @@ fn default_export_class(records: &mut [u16], symbols: &mut [u16], s: Passing) ->
     let at = write_export(
         records,
         q,
-        tables::column(records, q.read, record::C),
+        SymbolId(tables::column(records, q.read, record::C)),
         known_name::DEFAULT,
     );
     transform_class_decl(records, symbols, Passing { at, ctx })
@@ -501,8 +507,9 @@ fn default_value(records: &mut [u16], symbols: &mut [u16], s: Passing) -> Passin
     );
     let q = drop_row(records, s.at);
     let r = tables::row_after(records, q.read);
-    let q1 = write_export(records, q, ctx.symbols, known_name::DEFAULT);
-    let at = write_value(records, q1, SymbolId(ctx.symbols), as_expression(r));
+    let y = SymbolId(ctx.symbols);
+    let q1 = write_export(records, q, y, known_name::DEFAULT);
+    let at = write_value(records, q1, y, as_expression(r));
     Passing { at, ctx }
 }
 

@@ -37,7 +37,7 @@ abbrev pub numberingF : List ℕ → ℕ → ℕ → ℕ → NumberingF
 numberingF t at kept moved = record { t = t; at = at; kept = kept; moved = moved }
 
 abbrev pub numbering : List ℕ → Numbering → NumberingF
-numbering t s = numberingF t (s .at) (s .kept) (s .moved)
+numbering t s = numberingF t (s .at .0) (s .kept .0) (s .moved .0)
 
 unfoldable pub numberItemF : NumberingF → NumberingF
 numberItemF s =

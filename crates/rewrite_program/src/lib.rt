@@ -34,7 +34,7 @@ fn child_names(records: &[u16], after: RecordId) -> u16
     ensures { λ o. ⌜ o ≡ childNamesF (now (records .entry)) (after .0) ⌝ }
 {
     let n = tables::column(records, RecordId(tables::plus(after.0, 1)), record::N);
-    rewrite_items::count_names(records, tables::plus(after.0, 2), n)
+    rewrite_items::count_names(records, RecordId(tables::plus(after.0, 2)), n)
 }
 
 // The names that an item exports, if it is an exported Declaration.
@@ -172,13 +172,10 @@ fn kept_rows_one(records: &[u16], s: Counting) -> Counting
 }
 
 // The rows of those among n items that stay.
-fn kept_rows(records: &[u16], after: u16, n: u16) -> u16
-    ensures { λ o. ⌜ o ≡ keptRowsF (now (records .entry)) after n ⌝ }
+fn kept_rows(records: &[u16], after: RecordId, n: u16) -> u16
+    ensures { λ o. ⌜ o ≡ keptRowsF (now (records .entry)) (after .0) n ⌝ }
 {
-    let mut s = Counting {
-        at: RecordId(after),
-        sum: 0,
-    };
+    let mut s = Counting { at: after, sum: 0 };
     let mut k: u16 = 0;
     while k < n {
         s = kept_rows_one(records, s);
@@ -189,9 +186,9 @@ fn kept_rows(records: &[u16], after: u16, n: u16) -> u16
 
 // The last row looked at, and the places of the next row that stays and the next that moves.
 pub struct Numbering {
-    pub at: u16,
-    pub kept: u16,
-    pub moved: u16,
+    pub at: RecordId,
+    pub kept: RecordId,
+    pub moved: RecordId,
 }
 
 // The rows of the next item get their places.
@@ -199,21 +196,23 @@ fn number_item(records: &mut [u16], s: Numbering) -> Numbering
     ensures { λ o. ⌜ numbering (now (records .exit)) o ≡ numberItemF (numbering (now (records .entry)) s) ⌝ }
 {
     let at = s.at;
-    let end = tables::end_after(records, RecordId(at), 1);
-    let n = tables::minus(end.0, at);
-    if stays(tables::column(records, RecordId(at), record::TAG)) {
-        placing::number_rows(records, at, n, s.kept);
+    let kept = s.kept;
+    let moved = s.moved;
+    let end = tables::end_after(records, at, 1);
+    let n = tables::minus(end.0, at.0);
+    if stays(tables::column(records, at, record::TAG)) {
+        placing::number_rows(records, at, n, kept);
         Numbering {
-            at: end.0,
-            kept: tables::plus(s.kept, n),
-            moved: s.moved,
+            at: end,
+            kept: RecordId(tables::plus(kept.0, n)),
+            moved,
         }
     } else {
-        placing::number_rows(records, at, n, s.moved);
+        placing::number_rows(records, at, n, moved);
         Numbering {
-            at: end.0,
-            kept: s.kept,
-            moved: tables::plus(s.moved, n),
+            at: end,
+            kept,
+            moved: RecordId(tables::plus(moved.0, n)),
         }
     }
 }
@@ -232,20 +231,20 @@ fn number_items(records: &mut [u16], start: Numbering, n: u16) -> Numbering
 }
 
 // n items after a row and the Block's row behind them: first those that stay, so many rows, then the Block's row, then those that move.
-fn arrange(records: &mut [u16], after: u16, n: u16, rows: u16)
-    ensures { λ _. ⌜ now (records .exit) ≡ arrangeF (now (records .entry)) after n rows ⌝ }
+fn arrange(records: &mut [u16], after: RecordId, n: u16, rows: u16)
+    ensures { λ _. ⌜ now (records .exit) ≡ arrangeF (now (records .entry)) (after .0) n rows ⌝ }
 {
-    let block = tables::plus(after, rows);
+    let block = RecordId(tables::plus(after.0, rows));
     let start = Numbering {
         at: after,
         kept: after,
-        moved: tables::plus(block, 1),
+        moved: RecordId(tables::plus(block.0, 1)),
     };
     let s = number_items(records, start, n);
     placing::number_rows(records, s.at, 1, block);
-    let end = tables::plus(s.at, 1);
+    let end = RecordId(tables::plus(s.at.0, 1));
     placing::place(records, after, end);
-    placing::clear_places(records, after, tables::minus(end, after));
+    placing::clear_places(records, after, tables::minus(end.0, after.0));
 }
 
 // ---- the Program
@@ -280,7 +279,7 @@ fn rewrite_items(
     ensures { λ o. ⌜ rewriting (now (records .exit)) (now (symbols .exit)) o ≡ rewriteItemsF n plan (passing (now (records .entry)) (now (symbols .entry)) start) ⌝ }
 {
     let first = start.at;
-    let after = first.written.0;
+    let after = first.written;
     let s = transform_items(records, symbols, start, n);
     let ctx = s.ctx;
     tables::emit(
@@ -293,7 +292,7 @@ fn rewrite_items(
     arrange(records, after, items, rows);
     Rewritten {
         ctx,
-        block: RecordId(tables::plus(tables::plus(after, rows), 1)),
+        block: RecordId(tables::plus(tables::plus(after.0, rows), 1)),
     }
 }
 

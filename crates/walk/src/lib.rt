@@ -158,10 +158,10 @@ fn leave_block(records: &mut [u16], scopes: &mut [u16], symbols: &mut [u16], w: 
 fn leave(records: &mut [u16], scopes: &mut [u16], symbols: &mut [u16], w: Walk) -> Walk
     ensures { λ r. ⌜ tables (now (records .exit)) (now (scopes .exit)) (now (symbols .exit)) r ≡ leaveF (tables (now (records .entry)) (now (scopes .entry)) (now (symbols .entry)) w) ⌝ }
 {
-    let around = path::close(records, w.inner.0);
+    let around = path::close(records, w.inner);
     let v = leave_block(records, scopes, symbols, w);
     let inner = path::settle(records, around, v.visited.0);
-    v.with_inner(RecordId(inner))
+    v.with_inner(inner)
 }
 
 // The children of the innermost open record are all entered.

@@ -9,11 +9,11 @@ use Rattle.path.proofs.nearest_scope.Statement.{statement}
 use Rattle.path.proofs.nearest_scope.Tie as tie
 
 abbrev Inv-loop : tie.InvT-loop
-Inv-loop records inner count at₀ k₀ at k =
-    (k ≤ count) × (until count (hasScopeF records) (upF records) at₀ ≡ until (count - k) (hasScopeF records) (upF records) at)
+Inv-loop records count at₀ k₀ at k =
+    (k ≤ count) × (until count (hasScopeF records) (upF records) (at₀ .0) ≡ until (count - k) (hasScopeF records) (upF records) (at .0))
 
 abbrev μ-loop : tie.MeasureT-loop
-μ-loop records inner count at₀ k₀ at k = count - k
+μ-loop records count at₀ k₀ at k = count - k
 
 loop-holds : tie.Need-loop-holds Inv-loop μ-loop
 loop-holds c = (search needs, rw sub-zero)

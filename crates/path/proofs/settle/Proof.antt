@@ -10,13 +10,13 @@ use Rattle.path.proofs.settle.Statement.{statement}
 use Rattle.path.proofs.settle.Tie as tie
 
 abbrev Inv-loop : tie.InvT-loop
-Inv-loop records₀ inner count at₀ k₀ records at k =
+Inv-loop records₀ count at₀ k₀ records at k =
     (k ≤ count) × (length records ≡ length records₀)
-    × (until count (λ (p : OpenRows). staysF (p .t) (p .at)) closeF (openRows records₀ at₀)
-    ≡ until (count - k) (λ (p : OpenRows). staysF (p .t) (p .at)) closeF (openRows records at))
+    × (until count (λ (p : OpenRows). staysF (p .t) (p .at)) closeF (openRows records₀ (at₀ .0))
+    ≡ until (count - k) (λ (p : OpenRows). staysF (p .t) (p .at)) closeF (openRows records (at .0)))
 
 abbrev μ-loop : tie.MeasureT-loop
-μ-loop records₀ inner count at₀ k₀ records at k = count - k
+μ-loop records₀ count at₀ k₀ records at k = count - k
 
 loop-holds : tie.Need-loop-holds Inv-loop μ-loop
 loop-holds c = (search needs, refl, rw sub-zero)

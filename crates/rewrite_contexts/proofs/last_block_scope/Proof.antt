@@ -3,8 +3,8 @@ use mathlib.Core.Path.{_≡_, ap}
 use Prim.Native.Nat.{_-_, _≤_}
 use native.Mathlib.Nat.{sub-zero}
 use Rattle.tables.specs.Loops.{turns, next-turn, last-turn}
-use Rattle.statements.specs.declared.Counting.{Counting}
 use Rattle.rewrite_contexts.specs.Tries.{blockScopeF, lastBlockScopeF}
+use Rattle.rewrite_contexts.specs.declared.LastChild.{LastChild}
 use borrow.Author.Needs.{needs}
 use Rattle.rewrite_contexts.proofs.last_block_scope.Statement.{statement}
 use Rattle.rewrite_contexts.proofs.last_block_scope.Tie as tie
@@ -29,9 +29,9 @@ loop-again c =
 returns : tie.Need-returns Inv-loop μ-loop
 unfolding lastBlockScopeF
 returns c =
-    let at-loop-test = c in
+    let at-loop-test = c .before in
     let at-loop = at-loop-test .before in
-    ap (λ (s : Counting). s .sum) (last-turn _ _ _ _ _ (at-loop .loop .inv .1) (at-loop-test .loop-test .left))
+    ap (λ (s : LastChild). s .scope .0) (last-turn _ _ _ _ _ (at-loop .loop .inv .1) (at-loop-test .loop-test .left))
 
 pub last-block-scope-spec : {M : Type 1} → statement M
 last-block-scope-spec =

@@ -8,11 +8,11 @@ use Rattle.rewrite_for_switch.proofs.labels_end.Statement.{statement}
 use Rattle.rewrite_for_switch.proofs.labels_end.Tie as tie
 
 abbrev Inv-loop : tie.InvT-loop
-Inv-loop records after at₀ at =
+Inv-loop records at₀ at =
     (at₀ ≤ at) × (until (65535 - at₀) (isLoopF records) nextRow at₀ ≡ until (65535 - at) (isLoopF records) nextRow at)
 
 abbrev μ-loop : tie.MeasureT-loop
-μ-loop records after at₀ at = 65535 - at
+μ-loop records at₀ at = 65535 - at
 
 loop-holds : tie.Need-loop-holds Inv-loop μ-loop
 loop-holds c = (search needs, refl)

@@ -10,11 +10,11 @@ use Rattle.rewrite_items.proofs.count_names.Statement.{statement}
 use Rattle.rewrite_items.proofs.count_names.Tie as tie
 
 abbrev Inv-loop : tie.InvT-loop
-Inv-loop records after n s₀ k₀ s k =
+Inv-loop records n s₀ k₀ s k =
     (k ≤ 65535) × (until 65535 allCounted (countNameF records) s₀ ≡ until (65535 - k) allCounted (countNameF records) s)
 
 abbrev μ-loop : tie.MeasureT-loop
-μ-loop records after n s₀ k₀ s k = 65535 - k
+μ-loop records n s₀ k₀ s k = 65535 - k
 
 loop-holds : tie.Need-loop-holds Inv-loop μ-loop
 loop-holds c = (search needs, rw sub-zero)

@@ -10,12 +10,12 @@ use Rattle.rewrite_items.proofs.flag_names.Statement.{statement}
 use Rattle.rewrite_items.proofs.flag_names.Tie as tie
 
 abbrev Inv-loop : tie.InvT-loop
-Inv-loop records symbols₀ ctx after n s₀ k₀ symbols s k =
+Inv-loop records symbols₀ ctx n s₀ k₀ symbols s k =
     (k ≤ 65535) × (length symbols ≡ length symbols₀)
     × (until 65535 allFlagged (flagNameF records ctx) (flagging symbols₀ s₀) ≡ until (65535 - k) allFlagged (flagNameF records ctx) (flagging symbols s))
 
 abbrev μ-loop : tie.MeasureT-loop
-μ-loop records symbols₀ ctx after n s₀ k₀ symbols s k = 65535 - k
+μ-loop records symbols₀ ctx n s₀ k₀ symbols s k = 65535 - k
 
 loop-holds : tie.Need-loop-holds Inv-loop μ-loop
 loop-holds c = (search needs, refl, rw sub-zero)

@@ -10,11 +10,11 @@ use Rattle.rewrite_program.proofs.kept_rows.Statement.{statement}
 use Rattle.rewrite_program.proofs.kept_rows.Tie as tie
 
 abbrev Inv-loop : tie.InvT-loop
-Inv-loop records after n s₀ k₀ s k =
+Inv-loop records n s₀ k₀ s k =
     (k ≤ n) × (turns n (keptRowsOneF records) s₀ ≡ turns (n - k) (keptRowsOneF records) s)
 
 abbrev μ-loop : tie.MeasureT-loop
-μ-loop records after n s₀ k₀ s k = n - k
+μ-loop records n s₀ k₀ s k = n - k
 
 loop-holds : tie.Need-loop-holds Inv-loop μ-loop
 loop-holds c = (search needs, rw sub-zero)

@@ -113,7 +113,7 @@ module _ (z : List ℕ) (a w : List Row) where
     unfolding flagNameF
     flag-pass st s e = rw e
 
-    flag-visit : (st : Store) (y : ℕ) (s : Names) → ctxOf st ≡ x → isNameF t s ≡ true → columnF t (s .at) 1 ≡ y
+    flag-visit : (st : Store) (y : ℕ) (s : Names) → ctxOf st ≡ x → isNameF t s ≡ true → columnF t (s .at .0) 1 ≡ y
         → flagNameF t x (flagging (flags st) s) ≡ flagging (flags (setSymbolFlags y 1 st .1)) (nextNameF t s)
     unfolding flagNameF setSymbolFlags
     flag-visit st y s o e c = rw (e, c, ← o) (ap (λ (u : List ℕ). flagging u (nextNameF t s)) (symbol-flags-set st y zy 1))
@@ -175,13 +175,13 @@ module _ (q : SymbolRows) (b : Buf) (t : List ℕ) (o : b .t ≡ t) (s : Names) 
   unfolding specifierF
   specify-pass e = rw (o, e)
 
-  specify-visit : (y : ℕ) → isNameF t s ≡ true → columnF t (s .at) 1 ≡ y
+  specify-visit : (y : ℕ) → isNameF t s ≡ true → columnF t (s .at .0) 1 ≡ y
       → specifierF q (specifyingF b s)
       ≡ specifyingF (emitF b (closedRowF 20 y (symbolNumber (q .t) (q .ctx .symbols) y 0) 0 0)) (nextNameF t s)
   unfolding specifierF
   specify-visit y e c =
       let e₁ : isNameF (b .t) s ≡ true = rw o e in
-      let c₁ : columnF (b .t) (s .at) 1 ≡ y = rw o c in
+      let c₁ : columnF (b .t) (s .at .0) 1 ≡ y = rw o c in
       rw (← o, e₁, c₁)
 
 -- the rows w, with the row o before them, behind the gap

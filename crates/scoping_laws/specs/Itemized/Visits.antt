@@ -46,7 +46,7 @@ pub record Visiting (A S : Type 0) (Fits : A → List ℕ → Type 0) (z : List 
       → step (state x ys s) ≡ state x ys (nextNameF (table (before x ys ++ w) z) s)
   pub visits : (x : A) (y : ℕ) (ys : List ℕ) (s : Names) → Fits x (y ∷ ys)
       → (let t = table (before x (y ∷ ys) ++ w) z in
-      isNameF t s ≡ true → columnF t (s .at) 1 ≡ y → step (state x (y ∷ ys) s) ≡ state (go y x) ys (nextNameF t s))
+      isNameF t s ≡ true → columnF t (s .at .0) 1 ≡ y → step (state x (y ∷ ys) s) ≡ state (go y x) ys (nextNameF t s))
 
 module _ {A S : Type 0} {Fits : A → List ℕ → Type 0} {z : List ℕ} {base : ℕ} {w : List Row} (L : Visiting A S Fits z base w) where
   abbrev run : ℕ → S → S

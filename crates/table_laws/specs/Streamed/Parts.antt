@@ -33,6 +33,7 @@ use Rattle.rewrite_contexts.specs.Tries.{
   planChildF,
   planTryF,
   ifBlockF,
+  lastChild,
   blockScopeF,
   lastBlockScopeF,
 }
@@ -178,7 +179,7 @@ module _ (z : List ℕ) where
 
   last-from : (h : Head) (k r : Forest) (a v : List Row) (s : ℕ) (t : List ℕ) → t ≡ table (a ++ (rowsOf (more h k r) ++ v)) z
       → length a + size (more h k r) ≤ 65535
-      → turns (count (more h k r)) (blockScopeF t) (counting (length a) s) .sum ≡ lastBlockScope (more h k r)
+      → turns (count (more h k r)) (blockScopeF t) (lastChild (length a) s) .scope .0 ≡ lastBlockScope (more h k r)
   unfolding turns blockScopeF ifBlockF lastBlockScope count size
   last-from h k none a v s t e q =
       let e₁ = parted z h k none a v t e in
@@ -188,7 +189,7 @@ module _ (z : List ℕ) where
       let x = line h (count k) in
       let l = length-line a x k in
       let s₁ = ifBlockF (rowF t (length a)) in
-      ap (λ (i : ℕ). turns (count (more h′ k′ r)) (blockScopeF t) (counting i s₁) .sum)
+      ap (λ (i : ℕ). turns (count (more h′ k′ r)) (blockScopeF t) (lastChild i s₁) .scope .0)
       (end-here z h k a (rowsOf (more h′ k′ r) ++ v) t (e₁ .0) (omega arith))
       ∙ last-from h′ k′ r (a ++ x ∷ rowsOf k) v s₁ t (e₁ .1) (omega arith)
 

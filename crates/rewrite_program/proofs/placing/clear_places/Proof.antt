@@ -10,12 +10,12 @@ use Rattle.rewrite_program.proofs.placing.clear_places.Statement.{state
 use Rattle.rewrite_program.proofs.placing.clear_places.Tie as tie
 
 abbrev Inv-loop : tie.InvT-loop
-Inv-loop records₀ from n at₀ k₀ records at k =
+Inv-loop records₀ n at₀ k₀ records at k =
     (k ≤ n) × (length records ≡ length records₀)
-    × (turns n clearOneF (rowsAt records₀ at₀) ≡ turns (n - k) clearOneF (rowsAt records at))
+    × (turns n clearOneF (rowsAt records₀ (at₀ .0)) ≡ turns (n - k) clearOneF (rowsAt records (at .0)))
 
 abbrev μ-loop : tie.MeasureT-loop
-μ-loop records₀ from n at₀ k₀ records at k = n - k
+μ-loop records₀ n at₀ k₀ records at k = n - k
 
 loop-holds : tie.Need-loop-holds Inv-loop μ-loop
 loop-holds c = (search needs, refl, rw sub-zero)

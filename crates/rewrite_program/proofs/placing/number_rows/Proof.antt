@@ -10,12 +10,12 @@ use Rattle.rewrite_program.proofs.placing.number_rows.Statement.{statem
 use Rattle.rewrite_program.proofs.placing.number_rows.Tie as tie
 
 abbrev Inv-loop : tie.InvT-loop
-Inv-loop records₀ from n first at₀ next₀ k₀ records at next k =
+Inv-loop records₀ n at₀ next₀ k₀ records at next k =
     (k ≤ n) × (length records ≡ length records₀)
-    × (turns n numberOneF (numbering records₀ at₀ next₀) ≡ turns (n - k) numberOneF (numbering records at next))
+    × (turns n numberOneF (numbering records₀ (at₀ .0) (next₀ .0)) ≡ turns (n - k) numberOneF (numbering records (at .0) (next .0)))
 
 abbrev μ-loop : tie.MeasureT-loop
-μ-loop records₀ from n first at₀ next₀ k₀ records at next k = n - k
+μ-loop records₀ n at₀ next₀ k₀ records at next k = n - k
 
 loop-holds : tie.Need-loop-holds Inv-loop μ-loop
 loop-holds c = (search needs, refl, rw sub-zero)

@@ -11,13 +11,13 @@ use Rattle.rewrite_program.proofs.placing.place.Statement.{statement}
 use Rattle.rewrite_program.proofs.placing.place.Tie as tie
 
 abbrev Inv-loop : tie.InvT-loop
-Inv-loop records₀ from to at₀ k₀ records at k =
+Inv-loop records₀ to at₀ k₀ records at k =
     (k ≤ 131070) × (length records ≡ length records₀)
-    × (until 131070 (passedTo to) placeOneF (rowsAt records₀ at₀)
-    ≡ until (131070 - k) (passedTo to) placeOneF (rowsAt records at))
+    × (until 131070 (passedTo (to .0)) placeOneF (rowsAt records₀ (at₀ .0))
+    ≡ until (131070 - k) (passedTo (to .0)) placeOneF (rowsAt records (at .0)))
 
 abbrev μ-loop : tie.MeasureT-loop
-μ-loop records₀ from to at₀ k₀ records at k = 131070 - k
+μ-loop records₀ to at₀ k₀ records at k = 131070 - k
 
 loop-holds : tie.Need-loop-holds Inv-loop μ-loop
 loop-holds c = (search needs, refl, rw sub-zero)
@@ -26,7 +26,7 @@ loop-again : tie.Need-loop-again Inv-loop μ-loop
 loop-again c =
     let at-place-one = c .before .before in
     let at-if1 = at-place-one .before .before in
-    let at-loop-test = at-if1 .before in
+    let at-loop-test = at-if1 .before .before .before in
     let at-loop = at-loop-test .before in (
       search needs,
       at-place-one .place-one .kept .0 ∙ at-loop .loop .inv .1,
@@ -45,7 +45,7 @@ returns-2 : tie.Need-returns-2 Inv-loop μ-loop
 unfolding placeF
 returns-2 c =
     let at-if1 = c in
-    let at-loop = at-if1 .before .before in
+    let at-loop = at-if1 .before .before .before .before in
     ap (λ (s : RowsAt). s .t) (stopped _ _ _ _ _ (at-loop .loop .inv .2) (le-leb _ _ (at-if1 .if1 .taken)))
 
 pub place-spec : {M : Type 1} → statement M

@@ -10,7 +10,7 @@ unfolding placeOneF
 returns c =
     let at-plus = c in
     let at-if1 = at-plus .before in
-    let at-column = at-if1 .before in
+    let at-column = at-if1 .before .before .before in
     rw (← at-column .column .ensures, eq-eqb _ _ (at-if1 .if1 .taken), ← at-plus .plus .ensures)
 
 returns-2 : tie.Need-returns-2
@@ -18,7 +18,7 @@ unfolding placeOneF
 returns-2 c =
     let at-exchange = c .before .before in
     let at-if1 = at-exchange .before .before in
-    let at-column = at-if1 .before in
+    let at-column = at-if1 .before .before .before in
     rw (← at-column .column .ensures, ne-eqb _ _ (at-if1 .if1 .left), ← at-exchange .exchange .ensures)
 
 pub place-one-spec : {M : Type 1} → statement M
