@@ -1,1 +1,1 @@
-// 01's cases as one table: no code.
+// 01's cases as one table; no code.

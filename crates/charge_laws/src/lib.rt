@@ -1,1 +1,1 @@
-// No code.
+// Theorems, no code: what visits are charged, and the final figures.

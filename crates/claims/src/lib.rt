@@ -1,1 +1,1 @@
-// What is claimed: no code.
+// What is claimed, demand by demand; no code.

@@ -130,7 +130,10 @@ pub fn insert_scope_below(
     after: RecordId,
     n: u16,
 ) -> Ctx
-    ensures { λ r. ⌜ inScopes (now (scopes .exit)) r ≡ insertScopeBelowF (now (records .entry)) (inScopes (now (scopes .entry)) ctx) (scope .0) (after .0) n ⌝ }
+    ensures { λ r. ⌜
+        inScopes (now (scopes .exit)) r
+        ≡ insertScopeBelowF (now (records .entry)) (inScopes (now (scopes .entry)) ctx) (scope .0) (after .0) n
+        ⌝ }
 {
     let made = scoping::create_child_scope(scopes, ctx, scope, 0);
     move_scopes(records, scopes, made, after, n, ScopeId(made.scopes));
@@ -162,7 +165,10 @@ pub fn load_context(
     context: SymbolId,
     cur: ScopeId,
 ) -> Transformed
-    ensures { λ r. ⌜ transforming (now (symbols .exit)) r ≡ loadContextF (now (scopes .entry)) (inSymbols (now (symbols .entry)) ctx) (context .0) (cur .0) ⌝ }
+    ensures { λ r. ⌜
+        transforming (now (symbols .exit)) r
+        ≡ loadContextF (now (scopes .entry)) (inSymbols (now (symbols .entry)) ctx) (context .0) (cur .0)
+        ⌝ }
 {
     let loaded = helper_loader::helper_load(scopes, symbols, ctx, cur);
     let next = loaded.ctx;
@@ -183,7 +189,10 @@ pub fn transform_statements(
     cur: ScopeId,
     hoist: ScopeId,
 ) -> Transformed
-    ensures { λ r. ⌜ transforming (now (symbols .exit)) r ≡ transformStatementsF (now (scopes .entry)) (inSymbols (now (symbols .entry)) ctx) (cur .0) (hoist .0) ⌝ }
+    ensures { λ r. ⌜
+        transforming (now (symbols .exit)) r
+        ≡ transformStatementsF (now (scopes .entry)) (inSymbols (now (symbols .entry)) ctx) (cur .0) (hoist .0)
+        ⌝ }
 {
     let made = make_context(symbols, ctx, hoist);
     load_context(scopes, symbols, made, SymbolId(made.symbols), cur)
@@ -196,7 +205,10 @@ const ERROR_FLAGS: u16 = symbol_flag::FUNCTION_SCOPED + symbol_flag::CATCH;
 
 // `create_catch_clause`: the Catch's scope, that of its body, and `_`.
 fn create_catch_clause(scopes: &mut [u16], symbols: &mut [u16], ctx: Ctx, parent: ScopeId) -> Ctx
-    ensures { λ r. ⌜ inRows (now (scopes .exit)) (now (symbols .exit)) r ≡ createCatchClauseF (inRows (now (scopes .entry)) (now (symbols .entry)) ctx) (parent .0) ⌝ }
+    ensures { λ r. ⌜
+        inRows (now (scopes .exit)) (now (symbols .exit)) r
+        ≡ createCatchClauseF (inRows (now (scopes .entry)) (now (symbols .entry)) ctx) (parent .0)
+        ⌝ }
 {
     let caught = scoping::create_child_scope(scopes, ctx, parent, scope_flag::CATCH);
     let body = scoping::create_child_scope(scopes, caught, ScopeId(caught.scopes), 0);
@@ -218,7 +230,10 @@ pub fn create_try_stmt(
     parent: ScopeId,
     awaits: u16,
 ) -> Created
-    ensures { λ r. ⌜ creating (now (scopes .exit)) (now (symbols .exit)) r ≡ createTryStmtF (now (scopes .entry)) (now (symbols .entry)) t (parent .0) awaits ⌝ }
+    ensures { λ r. ⌜
+        creating (now (scopes .exit)) (now (symbols .exit)) r
+        ≡ createTryStmtF (now (scopes .entry)) (now (symbols .entry)) t (parent .0) awaits
+        ⌝ }
 {
     let before = t.ctx;
     let context = t.context;
@@ -249,7 +264,10 @@ pub fn for_block(
     hoist: ScopeId,
     awaits: u16,
 ) -> Created
-    ensures { λ r. ⌜ creating (now (scopes .exit)) (now (symbols .exit)) r ≡ forBlockF (inRows (now (scopes .entry)) (now (symbols .entry)) ctx) (cur .0) (hoist .0) awaits ⌝ }
+    ensures { λ r. ⌜
+        creating (now (scopes .exit)) (now (symbols .exit)) r
+        ≡ forBlockF (inRows (now (scopes .entry)) (now (symbols .entry)) ctx) (cur .0) (hoist .0) awaits
+        ⌝ }
 {
     let t = transform_statements(scopes, symbols, ctx, cur, hoist);
     create_try_stmt(scopes, symbols, t, cur, awaits)
@@ -265,7 +283,10 @@ pub fn for_body(
     n: u16,
     awaits: u16,
 ) -> Created
-    ensures { λ r. ⌜ creating (now (scopes .exit)) (now (symbols .exit)) r ≡ forBodyF (now (records .entry)) (inRows (now (scopes .entry)) (now (symbols .entry)) (w .ctx)) (currentScopeF (now (records .entry)) (w .inner .0) (w .visited .0)) (hoistScopeF (now (records .entry)) (w .inner .0) (w .visited .0)) (capped (w .gap .0) 1) n awaits ⌝ }
+    ensures { λ r. ⌜
+        creating (now (scopes .exit)) (now (symbols .exit)) r
+        ≡ forBodyF (now (records .entry)) (inRows (now (scopes .entry)) (now (symbols .entry)) (w .ctx)) (currentScopeF (now (records .entry)) (w .inner .0) (w .visited .0)) (hoistScopeF (now (records .entry)) (w .inner .0) (w .visited .0)) (capped (w .gap .0) 1) n awaits
+        ⌝ }
 {
     let cur = path::current_scope(records, w.inner, w.visited.0);
     let hoist = path::hoist_scope(records, w.inner, w.visited.0);
@@ -284,7 +305,10 @@ pub fn for_static_block(
     old: ScopeId,
     awaits: u16,
 ) -> Created
-    ensures { λ r. ⌜ creating (now (scopes .exit)) (now (symbols .exit)) r ≡ forStaticBlockF (inRows (now (scopes .entry)) (now (symbols .entry)) ctx) (old .0) awaits ⌝ }
+    ensures { λ r. ⌜
+        creating (now (scopes .exit)) (now (symbols .exit)) r
+        ≡ forStaticBlockF (inRows (now (scopes .entry)) (now (symbols .entry)) ctx) (old .0) awaits
+        ⌝ }
 {
     let t = transform_statements(scopes, symbols, ctx, old, old);
     let x = scoping::insert_scope_between(scopes, t.ctx, old, scope_flag::STATIC_BLOCK);
@@ -304,7 +328,10 @@ pub fn for_try_part(
     old: ScopeId,
     awaits: u16,
 ) -> Created
-    ensures { λ r. ⌜ creating (now (scopes .exit)) (now (symbols .exit)) r ≡ forTryPartF (inRows (now (scopes .entry)) (now (symbols .entry)) ctx) (cur .0) (hoist .0) (old .0) awaits ⌝ }
+    ensures { λ r. ⌜
+        creating (now (scopes .exit)) (now (symbols .exit)) r
+        ≡ forTryPartF (inRows (now (scopes .entry)) (now (symbols .entry)) ctx) (cur .0) (hoist .0) (old .0) awaits
+        ⌝ }
 {
     let t = transform_statements(scopes, symbols, ctx, cur, old);
     let x = scoping::insert_scope_between(scopes, t.ctx, old, 0);
@@ -321,7 +348,10 @@ pub fn for_loop(
     w: Walk,
     awaits: u16,
 ) -> Created
-    ensures { λ r. ⌜ creating (now (scopes .exit)) (now (symbols .exit)) r ≡ forLoopF (now (records .entry)) (inRows (now (scopes .entry)) (now (symbols .entry)) (w .ctx)) (currentScopeF (now (records .entry)) (w .inner .0) (w .visited .0)) (hoistScopeF (now (records .entry)) (w .inner .0) (w .visited .0)) (w .gap .0) awaits ⌝ }
+    ensures { λ r. ⌜
+        creating (now (scopes .exit)) (now (symbols .exit)) r
+        ≡ forLoopF (now (records .entry)) (inRows (now (scopes .entry)) (now (symbols .entry)) (w .ctx)) (currentScopeF (now (records .entry)) (w .inner .0) (w .visited .0)) (hoistScopeF (now (records .entry)) (w .inner .0) (w .visited .0)) (w .gap .0) awaits
+        ⌝ }
 {
     let cur = path::current_scope(records, w.inner, w.visited.0);
     let hoist = path::hoist_scope(records, w.inner, w.visited.0);
@@ -340,7 +370,10 @@ pub fn for_switch(
     old: ScopeId,
     awaits: u16,
 ) -> Created
-    ensures { λ r. ⌜ creating (now (scopes .exit)) (now (symbols .exit)) r ≡ forSwitchF (inRows (now (scopes .entry)) (now (symbols .entry)) ctx) (cur .0) (old .0) awaits ⌝ }
+    ensures { λ r. ⌜
+        creating (now (scopes .exit)) (now (symbols .exit)) r
+        ≡ forSwitchF (inRows (now (scopes .entry)) (now (symbols .entry)) ctx) (cur .0) (old .0) awaits
+        ⌝ }
 {
     let made = make_context(symbols, ctx, cur);
     let x = scoping::create_child_scope(scopes, made, cur, 0);

@@ -123,7 +123,10 @@ pub extern "C" fn desk_start(
     walk: &mut [u16; 11],
     answer: &mut [u64; 6],
 ) -> u8
-    ensures { λ r. ⌜ begun (r ∷ now (answer .exit)) (now (walk .exit)) (now (records .exit)) (now (scopes .exit)) (now (symbols .exit)) ≡ begunNumbers (now (walk .entry)) (startF (now (file .entry)) (now (records .entry)) (now (scopes .entry)) (now (symbols .entry))) ⌝ }
+    ensures { λ r. ⌜
+        begun (r ∷ now (answer .exit)) (now (walk .exit)) (now (records .exit)) (now (scopes .exit)) (now (symbols .exit))
+        ≡ begunNumbers (now (walk .entry)) (startF (now (file .entry)) (now (records .entry)) (now (scopes .entry)) (now (symbols .entry)))
+        ⌝ }
 {
     match start::start(file, records, scopes, symbols) {
         Started::Ready(w) => {
@@ -142,7 +145,10 @@ pub extern "C" fn desk_visit(
     symbols: &mut [u16],
     walk: &mut [u16; 11],
 ) -> u8
-    ensures { λ r. ⌜ visited r (now (walk .exit)) (now (records .exit)) (now (scopes .exit)) (now (symbols .exit)) ≡ visitedNumbers (visitF (tables (now (records .entry)) (now (scopes .entry)) (now (symbols .entry)) (walkIn (now (walk .entry))))) ⌝ }
+    ensures { λ r. ⌜
+        visited r (now (walk .exit)) (now (records .exit)) (now (scopes .exit)) (now (symbols .exit))
+        ≡ visitedNumbers (visitF (tables (now (records .entry)) (now (scopes .entry)) (now (symbols .entry)) (walkIn (now (walk .entry)))))
+        ⌝ }
 {
     let w = walk::visit(walk_in(walk), records, scopes, symbols);
     put_walk(walk, w);
@@ -159,7 +165,10 @@ pub extern "C" fn desk_lower(
     out: &mut [u8],
     answer: &mut [u64; 6],
 ) -> u8
-    ensures { λ r. ⌜ finished (r ∷ now (answer .exit)) (now (records .exit)) (now (scopes .exit)) (now (symbols .exit)) (now (out .exit)) ≡ finishedNumbers (lowerF (now (file .entry)) (now (records .entry)) (now (scopes .entry)) (now (symbols .entry)) (now (out .entry))) ⌝ }
+    ensures { λ r. ⌜
+        finished (r ∷ now (answer .exit)) (now (records .exit)) (now (scopes .exit)) (now (symbols .exit)) (now (out .exit))
+        ≡ finishedNumbers (lowerF (now (file .entry)) (now (records .entry)) (now (scopes .entry)) (now (symbols .entry)) (now (out .entry)))
+        ⌝ }
 {
     match lowering::lower(file, records, scopes, symbols, out) {
         Lowered::Written(g) => tell_figures(answer, g),

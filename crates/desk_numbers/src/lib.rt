@@ -1,1 +1,1 @@
-// What the calls answer and leave, in numbers: no code.
+// What the calls for C answer and leave, in numbers; no code.

@@ -1,1 +1,1 @@
-// No code.
+// Theorems, no code: the hints that a source asks for and a lowered tree gives.

@@ -29,7 +29,10 @@ pub fn admit_output(
     symbols: &[u16],
     out: &[u8],
 ) -> Surveyed
-    ensures { λ r. ⌜ r ≡ surveyedOf (admitOutput (now (file .entry)) (lentIn (now (records .entry)) (now (scopes .entry)) (now (symbols .entry))) (length (now (out .entry)))) ⌝ }
+    ensures { λ r. ⌜
+        r
+        ≡ surveyedOf (admitOutput (now (file .entry)) (lentIn (now (records .entry)) (now (scopes .entry)) (now (symbols .entry))) (length (now (out .entry))))
+        ⌝ }
 {
     let a = start::admit(file, records, scopes, symbols);
     let Surveyed::Fine(l, g) = a else {
@@ -50,7 +53,10 @@ pub fn run(
     scopes: &mut [u16],
     symbols: &mut [u16],
 ) -> Walk
-    ensures { λ r. ⌜ tables (now (records .exit)) (now (scopes .exit)) (now (symbols .exit)) r ≡ runF limit (tables (now (records .entry)) (now (scopes .entry)) (now (symbols .entry)) walk) ⌝ }
+    ensures { λ r. ⌜
+        tables (now (records .exit)) (now (scopes .exit)) (now (symbols .exit)) r
+        ≡ runF limit (tables (now (records .entry)) (now (scopes .entry)) (now (symbols .entry)) walk)
+        ⌝ }
 {
     let mut w = walk;
     let mut k: u32 = 0;
@@ -76,7 +82,10 @@ pub fn finish(
     ensures records { λ _. ⌜ now (records .exit) ≡ zerosFor (now (records .entry)) ⌝ }
     ensures scopes { λ _. ⌜ now (scopes .exit) ≡ zerosFor (now (scopes .entry)) ⌝ }
     ensures symbols { λ _. ⌜ now (symbols .exit) ≡ zerosFor (now (symbols .entry)) ⌝ }
-    ensures written { λ _. ⌜ now (out .exit) ≡ finishF (tables (now (records .entry)) (now (scopes .entry)) (now (symbols .entry)) walk) (now (out .entry)) ⌝ }
+    ensures written { λ _. ⌜
+        now (out .exit)
+        ≡ finishF (tables (now (records .entry)) (now (scopes .entry)) (now (symbols .entry)) walk) (now (out .entry))
+        ⌝ }
 {
     writing::write(walk, records, scopes, symbols, out);
     start::clear(records);
@@ -93,7 +102,10 @@ pub fn lower(
     symbols: &mut [u16],
     out: &mut [u8],
 ) -> Lowered
-    ensures { λ r. ⌜ finished r (now (records .exit)) (now (scopes .exit)) (now (symbols .exit)) (now (out .exit)) ≡ lowerF (now (file .entry)) (now (records .entry)) (now (scopes .entry)) (now (symbols .entry)) (now (out .entry)) ⌝ }
+    ensures { λ r. ⌜
+        finished r (now (records .exit)) (now (scopes .exit)) (now (symbols .exit)) (now (out .exit))
+        ≡ lowerF (now (file .entry)) (now (records .entry)) (now (scopes .entry)) (now (symbols .entry)) (now (out .entry))
+        ⌝ }
 {
     match admit_output(file, records, scopes, symbols, out) {
         Surveyed::Fine(l, g) => {

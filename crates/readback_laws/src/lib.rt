@@ -1,1 +1,1 @@
-// No code.
+// Theorems, no code: the written bytes, read back.

@@ -1,1 +1,1 @@
-// No code.
+// Theorems, no code: how tables hold what 01 speaks of.

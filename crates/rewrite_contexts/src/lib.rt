@@ -53,7 +53,10 @@ pub fn transform_block_statement(
     w: Walk,
     plan: Plan,
 ) -> Walk
-    ensures { λ r. ⌜ tables (now (records .exit)) (now (scopes .exit)) (now (symbols .exit)) r ≡ transformBlockStatementF plan (tables (now (records .entry)) (now (scopes .entry)) (now (symbols .entry)) w) ⌝ }
+    ensures { λ r. ⌜
+        tables (now (records .exit)) (now (scopes .exit)) (now (symbols .exit)) r
+        ≡ transformBlockStatementF plan (tables (now (records .entry)) (now (scopes .entry)) (now (symbols .entry)) w)
+        ⌝ }
 {
     let cur = path::current_scope(records, w.inner, w.visited.0);
     let hoist = path::hoist_scope(records, w.inner, w.visited.0);
@@ -83,7 +86,10 @@ pub fn enter_function_body(
     w: Walk,
     plan: Plan,
 ) -> Walk
-    ensures { λ r. ⌜ tables (now (records .exit)) (now (scopes .exit)) (now (symbols .exit)) r ≡ enterFunctionBodyF plan (tables (now (records .entry)) (now (scopes .entry)) (now (symbols .entry)) w) ⌝ }
+    ensures { λ r. ⌜
+        tables (now (records .exit)) (now (scopes .exit)) (now (symbols .exit)) r
+        ≡ enterFunctionBodyF plan (tables (now (records .entry)) (now (scopes .entry)) (now (symbols .entry)) w)
+        ⌝ }
 {
     let read = w.gap;
     let n = tables::column(records, read, record::N);
@@ -108,7 +114,10 @@ pub fn exit_static_block(
     w: Walk,
     plan: Plan,
 ) -> Walk
-    ensures { λ r. ⌜ tables (now (records .exit)) (now (scopes .exit)) (now (symbols .exit)) r ≡ exitStaticBlockF plan (tables (now (records .entry)) (now (scopes .entry)) (now (symbols .entry)) w) ⌝ }
+    ensures { λ r. ⌜
+        tables (now (records .exit)) (now (scopes .exit)) (now (symbols .exit)) r
+        ≡ exitStaticBlockF plan (tables (now (records .entry)) (now (scopes .entry)) (now (symbols .entry)) w)
+        ⌝ }
 {
     let read = w.gap;
     let written = w.visited;
@@ -144,7 +153,10 @@ fn transform_try_block(
     hoist: ScopeId,
     awaits: u16,
 ) -> Parting
-    ensures { λ r. ⌜ parting (now (records .exit)) (now (scopes .exit)) (now (symbols .exit)) r ≡ transformTryBlockF (cur .0) (hoist .0) awaits (parting (now (records .entry)) (now (scopes .entry)) (now (symbols .entry)) s) ⌝ }
+    ensures { λ r. ⌜
+        parting (now (records .exit)) (now (scopes .exit)) (now (symbols .exit)) r
+        ≡ transformTryBlockF (cur .0) (hoist .0) awaits (parting (now (records .entry)) (now (scopes .entry)) (now (symbols .entry)) s)
+        ⌝ }
 {
     let q = s.at;
     let old = ScopeId(tables::column(records, q.read, record::A));
@@ -170,7 +182,10 @@ fn transform_part(
     cur: ScopeId,
     hoist: ScopeId,
 ) -> Parting
-    ensures { λ r. ⌜ parting (now (records .exit)) (now (scopes .exit)) (now (symbols .exit)) r ≡ transformPartF (cur .0) (hoist .0) (parting (now (records .entry)) (now (scopes .entry)) (now (symbols .entry)) s) ⌝ }
+    ensures { λ r. ⌜
+        parting (now (records .exit)) (now (scopes .exit)) (now (symbols .exit)) r
+        ≡ transformPartF (cur .0) (hoist .0) (parting (now (records .entry)) (now (scopes .entry)) (now (symbols .entry)) s)
+        ⌝ }
 {
     let q = s.at;
     let r = tables::row_after(records, q.read);
@@ -208,7 +223,10 @@ fn transform_parts(
     hoist: ScopeId,
     n: u16,
 ) -> Parting
-    ensures { λ r. ⌜ parting (now (records .exit)) (now (scopes .exit)) (now (symbols .exit)) r ≡ transformPartsF (cur .0) (hoist .0) n (parting (now (records .entry)) (now (scopes .entry)) (now (symbols .entry)) start) ⌝ }
+    ensures { λ r. ⌜
+        parting (now (records .exit)) (now (scopes .exit)) (now (symbols .exit)) r
+        ≡ transformPartsF (cur .0) (hoist .0) n (parting (now (records .entry)) (now (scopes .entry)) (now (symbols .entry)) start)
+        ⌝ }
 {
     let mut s = start;
     let mut k: u16 = 0;
@@ -271,7 +289,10 @@ fn move_name(
     after: RecordId,
     scope: ScopeId,
 ) -> RecordId
-    ensures { λ o. ⌜ naming (now (symbols .exit)) (o .0) ≡ moveNameF (now (records .entry)) ctx (scope .0) (naming (now (symbols .entry)) (after .0)) ⌝ }
+    ensures { λ o. ⌜
+        naming (now (symbols .exit)) (o .0)
+        ≡ moveNameF (now (records .entry)) ctx (scope .0) (naming (now (symbols .entry)) (after .0))
+        ⌝ }
 {
     let r = tables::row_after(records, after);
     let end = tables::end_after(records, after, 1);
@@ -311,7 +332,10 @@ fn transform_handler(
     cur: ScopeId,
     hoist: ScopeId,
 ) -> Parting
-    ensures { λ r. ⌜ parting (now (records .exit)) (now (scopes .exit)) (now (symbols .exit)) r ≡ transformHandlerF (cur .0) (hoist .0) (parting (now (records .entry)) (now (scopes .entry)) (now (symbols .entry)) s) ⌝ }
+    ensures { λ r. ⌜
+        parting (now (records .exit)) (now (scopes .exit)) (now (symbols .exit)) r
+        ≡ transformHandlerF (cur .0) (hoist .0) (parting (now (records .entry)) (now (scopes .entry)) (now (symbols .entry)) s)
+        ⌝ }
 {
     let q = s.at;
     let n = tables::column(records, q.read, record::N);
@@ -344,7 +368,10 @@ fn transform_child(
     cur: ScopeId,
     hoist: ScopeId,
 ) -> Parting
-    ensures { λ r. ⌜ parting (now (records .exit)) (now (scopes .exit)) (now (symbols .exit)) r ≡ transformChildF (cur .0) (hoist .0) (parting (now (records .entry)) (now (scopes .entry)) (now (symbols .entry)) s) ⌝ }
+    ensures { λ r. ⌜
+        parting (now (records .exit)) (now (scopes .exit)) (now (symbols .exit)) r
+        ≡ transformChildF (cur .0) (hoist .0) (parting (now (records .entry)) (now (scopes .entry)) (now (symbols .entry)) s)
+        ⌝ }
 {
     let q = s.at;
     if tables::column(records, q.read, record::TAG) == tag::CATCH {
@@ -364,7 +391,10 @@ fn transform_children(
     hoist: ScopeId,
     n: u16,
 ) -> Parting
-    ensures { λ r. ⌜ parting (now (records .exit)) (now (scopes .exit)) (now (symbols .exit)) r ≡ transformChildrenF (cur .0) (hoist .0) n (parting (now (records .entry)) (now (scopes .entry)) (now (symbols .entry)) start) ⌝ }
+    ensures { λ r. ⌜
+        parting (now (records .exit)) (now (scopes .exit)) (now (symbols .exit)) r
+        ≡ transformChildrenF (cur .0) (hoist .0) n (parting (now (records .entry)) (now (scopes .entry)) (now (symbols .entry)) start)
+        ⌝ }
 {
     let mut s = start;
     let mut k: u16 = 0;
@@ -383,7 +413,10 @@ pub fn enter_try_statement(
     w: Walk,
     added: u16,
 ) -> Walk
-    ensures { λ r. ⌜ tables (now (records .exit)) (now (scopes .exit)) (now (symbols .exit)) r ≡ enterTryStatementF added (tables (now (records .entry)) (now (scopes .entry)) (now (symbols .entry)) w) ⌝ }
+    ensures { λ r. ⌜
+        tables (now (records .exit)) (now (scopes .exit)) (now (symbols .exit)) r
+        ≡ enterTryStatementF added (tables (now (records .entry)) (now (scopes .entry)) (now (symbols .entry)) w)
+        ⌝ }
 {
     let cur = path::current_scope(records, w.inner, w.visited.0);
     let hoist = path::hoist_scope(records, w.inner, w.visited.0);

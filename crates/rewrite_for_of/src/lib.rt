@@ -165,7 +165,10 @@ fn write_wrap(
 
 // The using goes in at index 0 of the body, and moves to the body's scope.
 pub fn insert_using(records: &mut [u16], scopes: &[u16], symbols: &mut [u16], w: Walk) -> Walk
-    ensures { λ r. ⌜ tables (now (records .exit)) (now (scopes .entry)) (now (symbols .exit)) r ≡ insertUsingF (tables (now (records .entry)) (now (scopes .entry)) (now (symbols .entry)) w) ⌝ }
+    ensures { λ r. ⌜
+        tables (now (records .exit)) (now (scopes .entry)) (now (symbols .exit)) r
+        ≡ insertUsingF (tables (now (records .entry)) (now (scopes .entry)) (now (symbols .entry)) w)
+        ⌝ }
 {
     let read = w.gap;
     let y = using_symbol(records, read);
@@ -197,7 +200,10 @@ pub fn insert_using(records: &mut [u16], scopes: &[u16], symbols: &mut [u16], w:
 
 // The body goes into a new Block below the ForOf's scope, the using before it and in the Block's scope.
 pub fn wrap_body(records: &mut [u16], scopes: &mut [u16], symbols: &mut [u16], w: Walk) -> Walk
-    ensures { λ r. ⌜ tables (now (records .exit)) (now (scopes .exit)) (now (symbols .exit)) r ≡ wrapBodyF (tables (now (records .entry)) (now (scopes .entry)) (now (symbols .entry)) w) ⌝ }
+    ensures { λ r. ⌜
+        tables (now (records .exit)) (now (scopes .exit)) (now (symbols .exit)) r
+        ≡ wrapBodyF (tables (now (records .entry)) (now (scopes .entry)) (now (symbols .entry)) w)
+        ⌝ }
 {
     let read = w.gap;
     let y = using_symbol(records, read);

@@ -92,7 +92,10 @@ pub fn transform_for_statement(
     w: Walk,
     plan: Plan,
 ) -> Walk
-    ensures { λ r. ⌜ tables (now (records .exit)) (now (scopes .exit)) (now (symbols .exit)) r ≡ transformForStatementF plan (tables (now (records .entry)) (now (scopes .entry)) (now (symbols .entry)) w) ⌝ }
+    ensures { λ r. ⌜
+        tables (now (records .exit)) (now (scopes .exit)) (now (symbols .exit)) r
+        ≡ transformForStatementF plan (tables (now (records .entry)) (now (scopes .entry)) (now (symbols .entry)) w)
+        ⌝ }
 {
     let read = w.gap;
     let c = creation::for_loop(records, scopes, symbols, w, plan.awaits);
@@ -216,7 +219,10 @@ pub fn transform_switch_statement(
     w: Walk,
     plan: Plan,
 ) -> Walk
-    ensures { λ r. ⌜ tables (now (records .exit)) (now (scopes .exit)) (now (symbols .exit)) r ≡ transformSwitchStatementF plan (tables (now (records .entry)) (now (scopes .entry)) (now (symbols .entry)) w) ⌝ }
+    ensures { λ r. ⌜
+        tables (now (records .exit)) (now (scopes .exit)) (now (symbols .exit)) r
+        ≡ transformSwitchStatementF plan (tables (now (records .entry)) (now (scopes .entry)) (now (symbols .entry)) w)
+        ⌝ }
 {
     let cur = path::current_scope(records, w.inner, w.visited.0);
     let read = w.gap;

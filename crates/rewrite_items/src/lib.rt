@@ -297,7 +297,10 @@ fn all_specified(s: Specifying) -> bool
 
 // Exports all names that are still to come.
 fn write_all(records: &mut [u16], symbols: &[u16], ctx: Ctx, start: Specifying) -> Specifying
-    ensures { λ o. ⌜ specifying (now (records .exit)) o ≡ specifyAllF (inSymbols (now (symbols .entry)) ctx) (specifying (now (records .entry)) start) ⌝ }
+    ensures { λ o. ⌜
+        specifying (now (records .exit)) o
+        ≡ specifyAllF (inSymbols (now (symbols .entry)) ctx) (specifying (now (records .entry)) start)
+        ⌝ }
 {
     let mut s = start;
     let mut k: u16 = 0;
@@ -432,7 +435,10 @@ fn recorded(r: Row) -> Row
 
 // `export class C {}`
 fn exported_class(records: &mut [u16], symbols: &mut [u16], s: Passing) -> Passing
-    ensures { λ o. ⌜ passing (now (records .exit)) (now (symbols .exit)) o ≡ exportedClassF (passing (now (records .entry)) (now (symbols .entry)) s) ⌝ }
+    ensures { λ o. ⌜
+        passing (now (records .exit)) (now (symbols .exit)) o
+        ≡ exportedClassF (passing (now (records .entry)) (now (symbols .entry)) s)
+        ⌝ }
 {
     let ctx = s.ctx;
     let q = drop_row(records, s.at);
@@ -444,7 +450,10 @@ fn exported_class(records: &mut [u16], symbols: &mut [u16], s: Passing) -> Passi
 
 // `export let x = e`: var, not recorded.
 fn exported_declaration(records: &mut [u16], symbols: &mut [u16], s: Passing) -> Passing
-    ensures { λ o. ⌜ passing (now (records .exit)) (now (symbols .exit)) o ≡ exportedDeclarationF (passing (now (records .entry)) (now (symbols .entry)) s) ⌝ }
+    ensures { λ o. ⌜
+        passing (now (records .exit)) (now (symbols .exit)) o
+        ≡ exportedDeclarationF (passing (now (records .entry)) (now (symbols .entry)) s)
+        ⌝ }
 {
     let ctx = s.ctx;
     let q = drop_row(records, s.at);
@@ -469,7 +478,10 @@ fn exported_declaration(records: &mut [u16], symbols: &mut [u16], s: Passing) ->
 
 // `export default class C {}` keeps its name.
 fn default_export_class(records: &mut [u16], symbols: &mut [u16], s: Passing) -> Passing
-    ensures { λ o. ⌜ passing (now (records .exit)) (now (symbols .exit)) o ≡ defaultClassF (passing (now (records .entry)) (now (symbols .entry)) s) ⌝ }
+    ensures { λ o. ⌜
+        passing (now (records .exit)) (now (symbols .exit)) o
+        ≡ defaultClassF (passing (now (records .entry)) (now (symbols .entry)) s)
+        ⌝ }
 {
     let ctx = s.ctx;
     let q = drop_row(records, s.at);
@@ -495,7 +507,10 @@ fn as_expression(r: Row) -> Row
 
 // `export default e`: `_default` is bound in scope 1, unique or not.
 fn default_value(records: &mut [u16], symbols: &mut [u16], s: Passing) -> Passing
-    ensures { λ o. ⌜ passing (now (records .exit)) (now (symbols .exit)) o ≡ defaultValueF (passing (now (records .entry)) (now (symbols .entry)) s) ⌝ }
+    ensures { λ o. ⌜
+        passing (now (records .exit)) (now (symbols .exit)) o
+        ≡ defaultValueF (passing (now (records .entry)) (now (symbols .entry)) s)
+        ⌝ }
 {
     let ctx = scoping::create_symbol(
         symbols,
@@ -524,7 +539,10 @@ fn copy_item(records: &mut [u16], symbols: &[u16], s: Passing) -> Passing
 
 // The next item: what stays an item, then what goes into the Block.
 pub fn transform_item(records: &mut [u16], symbols: &mut [u16], s: Passing) -> Passing
-    ensures { λ o. ⌜ passing (now (records .exit)) (now (symbols .exit)) o ≡ transformItemF (passing (now (records .entry)) (now (symbols .entry)) s) ⌝ }
+    ensures { λ o. ⌜
+        passing (now (records .exit)) (now (symbols .exit)) o
+        ≡ transformItemF (passing (now (records .entry)) (now (symbols .entry)) s)
+        ⌝ }
 {
     let q = s.at;
     match item_after(records, q.read) {

@@ -251,7 +251,10 @@ fn arrange(records: &mut [u16], after: RecordId, n: u16, rows: u16)
 
 // The next n items.
 fn transform_items(records: &mut [u16], symbols: &mut [u16], start: Passing, n: u16) -> Passing
-    ensures { λ o. ⌜ passing (now (records .exit)) (now (symbols .exit)) o ≡ transformItemsF n (passing (now (records .entry)) (now (symbols .entry)) start) ⌝ }
+    ensures { λ o. ⌜
+        passing (now (records .exit)) (now (symbols .exit)) o
+        ≡ transformItemsF n (passing (now (records .entry)) (now (symbols .entry)) start)
+        ⌝ }
 {
     let mut s = start;
     let mut k: u16 = 0;
@@ -276,7 +279,10 @@ fn rewrite_items(
     n: u16,
     plan: ProgramPlan,
 ) -> Rewritten
-    ensures { λ o. ⌜ rewriting (now (records .exit)) (now (symbols .exit)) o ≡ rewriteItemsF n plan (passing (now (records .entry)) (now (symbols .entry)) start) ⌝ }
+    ensures { λ o. ⌜
+        rewriting (now (records .exit)) (now (symbols .exit)) o
+        ≡ rewriteItemsF n plan (passing (now (records .entry)) (now (symbols .entry)) start)
+        ⌝ }
 {
     let first = start.at;
     let after = first.written;
@@ -301,7 +307,10 @@ const BLOCK_ROWS: u16 = 1;
 
 // `enter_program`, for a Program with a direct using.
 pub fn enter_program(records: &mut [u16], scopes: &mut [u16], symbols: &mut [u16], w: Walk) -> Walk
-    ensures { λ r. ⌜ tables (now (records .exit)) (now (scopes .exit)) (now (symbols .exit)) r ≡ enterProgramF (tables (now (records .entry)) (now (scopes .entry)) (now (symbols .entry)) w) ⌝ }
+    ensures { λ r. ⌜
+        tables (now (records .exit)) (now (scopes .exit)) (now (symbols .exit)) r
+        ≡ enterProgramF (tables (now (records .entry)) (now (scopes .entry)) (now (symbols .entry)) w)
+        ⌝ }
 {
     let read = w.gap;
     let r = tables::row_after(records, read);

@@ -1,1 +1,1 @@
-// The visits on tables are 01's visits. No code.
+// Theorems, no code: every visit on tables is 01's.

@@ -1,1 +1,1 @@
-// No code.
+// Small laws that all theorems share; no code.

@@ -176,7 +176,10 @@ pub fn fill(
     scopes: &mut [u16],
     symbols: &mut [u16],
 ) -> Walk
-    ensures { λ r. ⌜ tables (now (records .exit)) (now (scopes .exit)) (now (symbols .exit)) r ≡ fillF (now (file .entry)) l end (now (records .entry)) (now (scopes .entry)) (now (symbols .entry)) ⌝ }
+    ensures { λ r. ⌜
+        tables (now (records .exit)) (now (scopes .exit)) (now (symbols .exit)) r
+        ≡ fillF (now (file .entry)) l end (now (records .entry)) (now (scopes .entry)) (now (symbols .entry))
+        ⌝ }
 {
     clear(scopes);
     put_scopes(file, scopes, l.scopes);
@@ -192,7 +195,10 @@ pub fn fill(
 
 // The layout and the figures of a file that is accepted and for which enough rows are lent: 01's refusals 1 to 9.
 pub fn admit(file: &[u8], records: &[u16], scopes: &[u16], symbols: &[u16]) -> Surveyed
-    ensures { λ r. ⌜ r ≡ surveyedOf (lowering.admit (now (file .entry)) (lentIn (now (records .entry)) (now (scopes .entry)) (now (symbols .entry)))) ⌝ }
+    ensures { λ r. ⌜
+        r
+        ≡ surveyedOf (lowering.admit (now (file .entry)) (lentIn (now (records .entry)) (now (scopes .entry)) (now (symbols .entry))))
+        ⌝ }
 {
     let f = checking::survey(file);
     let Surveyed::Fine(l, g) = f else {
@@ -212,7 +218,10 @@ pub fn admit(file: &[u8], records: &[u16], scopes: &[u16], symbols: &[u16]) -> S
 
 // Reads an accepted file into the tables: 01's refusals 1 to 9, or the walk before its first visit.
 pub fn start(file: &[u8], records: &mut [u16], scopes: &mut [u16], symbols: &mut [u16]) -> Started
-    ensures { λ r. ⌜ begun r (now (records .exit)) (now (scopes .exit)) (now (symbols .exit)) ≡ startF (now (file .entry)) (now (records .entry)) (now (scopes .entry)) (now (symbols .entry)) ⌝ }
+    ensures { λ r. ⌜
+        begun r (now (records .exit)) (now (scopes .exit)) (now (symbols .exit))
+        ≡ startF (now (file .entry)) (now (records .entry)) (now (scopes .entry)) (now (symbols .entry))
+        ⌝ }
 {
     match admit(file, records, scopes, symbols) {
         Surveyed::Fine(l, g) => {

@@ -28,7 +28,10 @@ fn plan_next(records: &[u16], w: Walk) -> Plan
 
 // A Program with a using directly in it.
 fn rewrite_program(records: &mut [u16], scopes: &mut [u16], symbols: &mut [u16], w: Walk) -> Walk
-    ensures { λ r. ⌜ tables (now (records .exit)) (now (scopes .exit)) (now (symbols .exit)) r ≡ rewriteProgramF (tables (now (records .entry)) (now (scopes .entry)) (now (symbols .entry)) w) ⌝ }
+    ensures { λ r. ⌜
+        tables (now (records .exit)) (now (scopes .exit)) (now (symbols .exit)) r
+        ≡ rewriteProgramF (tables (now (records .entry)) (now (scopes .entry)) (now (symbols .entry)) w)
+        ⌝ }
 {
     let plan = plan_next(records, w);
     if plan.usings == 0 {
@@ -40,7 +43,10 @@ fn rewrite_program(records: &mut [u16], scopes: &mut [u16], symbols: &mut [u16],
 
 // A Block with a using directly in it.
 fn rewrite_block(records: &mut [u16], scopes: &mut [u16], symbols: &mut [u16], w: Walk) -> Walk
-    ensures { λ r. ⌜ tables (now (records .exit)) (now (scopes .exit)) (now (symbols .exit)) r ≡ rewriteBlockF (tables (now (records .entry)) (now (scopes .entry)) (now (symbols .entry)) w) ⌝ }
+    ensures { λ r. ⌜
+        tables (now (records .exit)) (now (scopes .exit)) (now (symbols .exit)) r
+        ≡ rewriteBlockF (tables (now (records .entry)) (now (scopes .entry)) (now (symbols .entry)) w)
+        ⌝ }
 {
     let plan = plan_next(records, w);
     if plan.usings == 0 {
@@ -52,7 +58,10 @@ fn rewrite_block(records: &mut [u16], scopes: &mut [u16], symbols: &mut [u16], w
 
 // A function body with a using directly in it.
 fn rewrite_body(records: &mut [u16], scopes: &mut [u16], symbols: &mut [u16], w: Walk) -> Walk
-    ensures { λ r. ⌜ tables (now (records .exit)) (now (scopes .exit)) (now (symbols .exit)) r ≡ rewriteBodyF (tables (now (records .entry)) (now (scopes .entry)) (now (symbols .entry)) w) ⌝ }
+    ensures { λ r. ⌜
+        tables (now (records .exit)) (now (scopes .exit)) (now (symbols .exit)) r
+        ≡ rewriteBodyF (tables (now (records .entry)) (now (scopes .entry)) (now (symbols .entry)) w)
+        ⌝ }
 {
     let plan = plan_next(records, w);
     if plan.usings == 0 {
@@ -64,7 +73,10 @@ fn rewrite_body(records: &mut [u16], scopes: &mut [u16], symbols: &mut [u16], w:
 
 // A For, or a Label around one, with a using at its head.
 fn rewrite_for(records: &mut [u16], scopes: &mut [u16], symbols: &mut [u16], w: Walk) -> Walk
-    ensures { λ r. ⌜ tables (now (records .exit)) (now (scopes .exit)) (now (symbols .exit)) r ≡ rewriteForF (tables (now (records .entry)) (now (scopes .entry)) (now (symbols .entry)) w) ⌝ }
+    ensures { λ r. ⌜
+        tables (now (records .exit)) (now (scopes .exit)) (now (symbols .exit)) r
+        ≡ rewriteForF (tables (now (records .entry)) (now (scopes .entry)) (now (symbols .entry)) w)
+        ⌝ }
 {
     let plan = rewrite_for_switch::plan_for(records, w.gap);
     if plan.usings == 0 {
@@ -76,7 +88,10 @@ fn rewrite_for(records: &mut [u16], scopes: &mut [u16], symbols: &mut [u16], w: 
 
 // A Switch with a using in a Case.
 fn rewrite_switch(records: &mut [u16], scopes: &mut [u16], symbols: &mut [u16], w: Walk) -> Walk
-    ensures { λ r. ⌜ tables (now (records .exit)) (now (scopes .exit)) (now (symbols .exit)) r ≡ rewriteSwitchF (tables (now (records .entry)) (now (scopes .entry)) (now (symbols .entry)) w) ⌝ }
+    ensures { λ r. ⌜
+        tables (now (records .exit)) (now (scopes .exit)) (now (symbols .exit)) r
+        ≡ rewriteSwitchF (tables (now (records .entry)) (now (scopes .entry)) (now (symbols .entry)) w)
+        ⌝ }
 {
     let gap = w.gap;
     let n = tables::column(records, gap, record::N);
@@ -90,7 +105,10 @@ fn rewrite_switch(records: &mut [u16], scopes: &mut [u16], symbols: &mut [u16], 
 
 // A Try with a using in one of its parts.
 fn rewrite_try(records: &mut [u16], scopes: &mut [u16], symbols: &mut [u16], w: Walk) -> Walk
-    ensures { λ r. ⌜ tables (now (records .exit)) (now (scopes .exit)) (now (symbols .exit)) r ≡ rewriteTryF (tables (now (records .entry)) (now (scopes .entry)) (now (symbols .entry)) w) ⌝ }
+    ensures { λ r. ⌜
+        tables (now (records .exit)) (now (scopes .exit)) (now (symbols .exit)) r
+        ≡ rewriteTryF (tables (now (records .entry)) (now (scopes .entry)) (now (symbols .entry)) w)
+        ⌝ }
 {
     let gap = w.gap;
     let n = tables::column(records, gap, record::N);
@@ -104,7 +122,10 @@ fn rewrite_try(records: &mut [u16], scopes: &mut [u16], symbols: &mut [u16], w: 
 
 // A ForOf with a using of an identifier on its left side.
 fn rewrite_for_of(records: &mut [u16], scopes: &mut [u16], symbols: &mut [u16], w: Walk) -> Walk
-    ensures { λ r. ⌜ tables (now (records .exit)) (now (scopes .exit)) (now (symbols .exit)) r ≡ rewriteForOfF (tables (now (records .entry)) (now (scopes .entry)) (now (symbols .entry)) w) ⌝ }
+    ensures { λ r. ⌜
+        tables (now (records .exit)) (now (scopes .exit)) (now (symbols .exit)) r
+        ≡ rewriteForOfF (tables (now (records .entry)) (now (scopes .entry)) (now (symbols .entry)) w)
+        ⌝ }
 {
     if rewrite_for_of::takes_using(records, w.gap) {
         if rewrite_for_of::inserts(records, symbols, w.ctx, w.gap) {
@@ -119,7 +140,10 @@ fn rewrite_for_of(records: &mut [u16], scopes: &mut [u16], symbols: &mut [u16], 
 
 // The first record to visit is rewritten, by its tag.
 fn rewrite(records: &mut [u16], scopes: &mut [u16], symbols: &mut [u16], w: Walk) -> Walk
-    ensures { λ r. ⌜ tables (now (records .exit)) (now (scopes .exit)) (now (symbols .exit)) r ≡ rewriteF (tables (now (records .entry)) (now (scopes .entry)) (now (symbols .entry)) w) ⌝ }
+    ensures { λ r. ⌜
+        tables (now (records .exit)) (now (scopes .exit)) (now (symbols .exit)) r
+        ≡ rewriteF (tables (now (records .entry)) (now (scopes .entry)) (now (symbols .entry)) w)
+        ⌝ }
 {
     let tag = tables::column(records, w.gap, record::TAG);
     match tag {
@@ -139,7 +163,10 @@ fn rewrite(records: &mut [u16], scopes: &mut [u16], symbols: &mut [u16], w: Walk
 
 // Its list is rewritten if it has a using: its rows, from its own on, go behind the free ones again.
 fn leave_block(records: &mut [u16], scopes: &mut [u16], symbols: &mut [u16], w: Walk) -> Walk
-    ensures { λ r. ⌜ tables (now (records .exit)) (now (scopes .exit)) (now (symbols .exit)) r ≡ leaveBlockF (tables (now (records .entry)) (now (scopes .entry)) (now (symbols .entry)) w) ⌝ }
+    ensures { λ r. ⌜
+        tables (now (records .exit)) (now (scopes .exit)) (now (symbols .exit)) r
+        ≡ leaveBlockF (tables (now (records .entry)) (now (scopes .entry)) (now (symbols .entry)) w)
+        ⌝ }
 {
     let inner = w.inner;
     let n = tables::column(records, RecordId(tables::minus(inner.0, 1)), record::N);
@@ -156,7 +183,10 @@ fn leave_block(records: &mut [u16], scopes: &mut [u16], symbols: &mut [u16], w: 
 
 // The innermost open record is left.
 fn leave(records: &mut [u16], scopes: &mut [u16], symbols: &mut [u16], w: Walk) -> Walk
-    ensures { λ r. ⌜ tables (now (records .exit)) (now (scopes .exit)) (now (symbols .exit)) r ≡ leaveF (tables (now (records .entry)) (now (scopes .entry)) (now (symbols .entry)) w) ⌝ }
+    ensures { λ r. ⌜
+        tables (now (records .exit)) (now (scopes .exit)) (now (symbols .exit)) r
+        ≡ leaveF (tables (now (records .entry)) (now (scopes .entry)) (now (symbols .entry)) w)
+        ⌝ }
 {
     let around = path::close(records, w.inner);
     let v = leave_block(records, scopes, symbols, w);
@@ -255,7 +285,10 @@ pub fn visit_some(
     scopes: &mut [u16],
     symbols: &mut [u16],
 ) -> Visited
-    ensures { λ r. ⌜ visiting (tables (now (records .exit)) (now (scopes .exit)) (now (symbols .exit)) (r .walk)) (r .visits) ≡ visitSomeF limit (tables (now (records .entry)) (now (scopes .entry)) (now (symbols .entry)) walk) ⌝ }
+    ensures { λ r. ⌜
+        visiting (tables (now (records .exit)) (now (scopes .exit)) (now (symbols .exit)) (r .walk)) (r .visits)
+        ≡ visitSomeF limit (tables (now (records .entry)) (now (scopes .entry)) (now (symbols .entry)) walk)
+        ⌝ }
 {
     if limit == 0 {
         return Visited { walk, visits: 0 };
@@ -277,7 +310,10 @@ pub fn visit_some(
 
 // The next visit; after the last nothing changes.
 pub fn visit(walk: Walk, records: &mut [u16], scopes: &mut [u16], symbols: &mut [u16]) -> Walk
-    ensures { λ r. ⌜ tables (now (records .exit)) (now (scopes .exit)) (now (symbols .exit)) r ≡ visitF (tables (now (records .entry)) (now (scopes .entry)) (now (symbols .entry)) walk) ⌝ }
+    ensures { λ r. ⌜
+        tables (now (records .exit)) (now (scopes .exit)) (now (symbols .exit)) r
+        ≡ visitF (tables (now (records .entry)) (now (scopes .entry)) (now (symbols .entry)) walk)
+        ⌝ }
 {
     let v = visit_some(walk, 1, records, scopes, symbols);
     v.walk

@@ -31,7 +31,10 @@ ghost use Rattle.writing.specs.Writing.{mostBytes, mostFirst, mostTree, 
 // Number i of the field at an offset, if it has as many.
 fn put_number(out: &mut [u8], at: usize, count: u8, i: u8, v: u16)
     requires { ⌜ at ≤ mostOffset ⌝ }
-    ensures { λ _. ⌜ now (out .exit) ≡ (if ltb i count then sets (now (out .entry)) (at + headBytes + 2 * i) (twoBytes (v ∷ [])) else now (out .entry)) ⌝ }
+    ensures { λ _. ⌜
+        now (out .exit)
+        ≡ (if ltb i count then sets (now (out .entry)) (at + headBytes + 2 * i) (twoBytes (v ∷ [])) else now (out .entry))
+        ⌝ }
 {
     if i < count {
         fields::put_two(out, at + HEAD_BYTES + NUMBER_BYTES * (i as usize), v);
@@ -255,7 +258,10 @@ fn put_records(out: &mut [u8], tree: usize, records: &[u16], count: u16)
 
 // Writes the settings, the scope and symbol rows and the records visited.
 pub fn write(walk: Walk, records: &[u16], scopes: &[u16], symbols: &[u16], out: &mut [u8])
-    ensures { λ _. ⌜ now (out .exit) ≡ sets (now (out .entry)) 0 (fileBytes (now (records .entry)) (now (scopes .entry)) (now (symbols .entry)) walk) ⌝ }
+    ensures { λ _. ⌜
+        now (out .exit)
+        ≡ sets (now (out .entry)) 0 (fileBytes (now (records .entry)) (now (scopes .entry)) (now (symbols .entry)) walk)
+        ⌝ }
 {
     let ctx = walk.ctx;
     let first = SETTINGS_BYTES + SCOPE_BYTES * (ctx.scopes as usize);
