@@ -45,11 +45,11 @@ module _ (t : List ℕ) (n name : ℕ) where
 
 -- if there is none, the number is 0
 abbrev Sound : Candidates → Type 0
-Sound seen = seen .count ≡ 0 → seen .row ≡ 0
+Sound seen = seen .count ≡ 0 → seen .row .0 ≡ 0
 
 -- what the last candidate binds in a scope
 abbrev boundIn : ℕ → Candidates → ℕ
-boundIn scope seen = if eqb (seen .scope) scope then seen .row else 0
+boundIn scope seen = if eqb (seen .scope .0) scope then seen .row .0 else 0
 
 same-if : (b : Bool) (x : ℕ) → (if b then x else x) ≡ x
 same-if true x = refl
@@ -57,10 +57,10 @@ same-if false x = refl
 
 -- a row goes by three tests: it has the name, it has made 0, it is in the scope
 row-turn : (named made here : Bool) (scope i : ℕ) (seen more : Candidates)
-    → more .row ≡ i → eqb (more .scope) scope ≡ here → (named && made ≡ true → seen .row ≡ 0)
+    → more .row .0 ≡ i → eqb (more .scope .0) scope ≡ here → (named && made ≡ true → seen .row .0 ≡ 0)
     → (if made && here && named then i else boundIn scope seen) ≡ boundIn scope (if named && made then more else seen)
 row-turn true true true scope i seen more r s z = rw (s, r)
-row-turn true true false scope i seen more r s z = rw (s, z refl, same-if (eqb (seen .scope) scope) 0)
+row-turn true true false scope i seen more r s z = rw (s, z refl, same-if (eqb (seen .scope .0) scope) 0)
 row-turn true false here scope i seen more r s z = refl
 row-turn false true true scope i seen more r s z = refl
 row-turn false true false scope i seen more r s z = refl
@@ -162,21 +162,21 @@ module _ (ss ys : List ℕ) (x : Ctx) (name : ℕ) where
     bound-is : seen .count ≤ 1 → (s : ℕ) → getBinding rows s name ≡ boundIn s seen
     bound-is h s = rw all (rw (same-if (eqb 0 s) 0) at (last-bound name rows s 1 noCandidate (λ z. refl) (rw all at h)))
 
-    bound-none : seen .count ≤ 1 → seen .row ≡ 0 → (s : ℕ) → getBinding rows s name ≡ 0
-    bound-none h r s = rw (bound-is h s, r) (same-if (eqb (seen .scope) s) 0)
+    bound-none : seen .count ≤ 1 → seen .row .0 ≡ 0 → (s : ℕ) → getBinding rows s name ≡ 0
+    bound-none h r s = rw (bound-is h s, r) (same-if (eqb (seen .scope .0) s) 0)
 
     -- no row: nothing is seen
     pub find-nothing : seen .count ≡ 0 → (m s : ℕ) → sees m s ≡ 0
     find-nothing h = see-nothing (bound-none (omega arith) (rw (← all) at (all-sound name rows 1 noCandidate (λ z. refl)) h))
 
-    by-row : (b : Bool) → eqb (seen .row) 0 ≡ b → seen .count ≤ 1
-        → (m s : ℕ) → sees m s ≡ (if climbsF m ss (x .scopes) s (seen .scope) then seen .row else 0)
+    by-row : (b : Bool) → eqb (seen .row .0) 0 ≡ b → seen .count ≤ 1
+        → (m s : ℕ) → sees m s ≡ (if climbsF m ss (x .scopes) s (seen .scope .0) then seen .row .0 else 0)
     by-row true q h m s =
-        let r : seen .row ≡ 0 = eqb-true (seen .row) 0 q in
-        rw (see-nothing (bound-none h r) m s, r) (sym (same-if (climbsF m ss (x .scopes) s (seen .scope)) 0))
-    by-row false q h m s = see-one (seen .scope) (seen .row) (eqb-false (seen .row) 0 q) (bound-is h) m s
+        let r : seen .row .0 ≡ 0 = eqb-true (seen .row .0) 0 q in
+        rw (see-nothing (bound-none h r) m s, r) (sym (same-if (climbsF m ss (x .scopes) s (seen .scope .0)) 0))
+    by-row false q h m s = see-one (seen .scope .0) (seen .row .0) (eqb-false (seen .row .0) 0 q) (bound-is h) m s
 
     -- at most one: its number is seen from where its scope is met
-    pub find-one : (b met : Bool) (m s : ℕ) → met ≡ b → met ≡ climbsF m ss (x .scopes) s (seen .scope) → seen .count ≤ 1
-        → sees m s ≡ (if b then seen .row else 0)
-    find-one b met m s e c h = rw (← e, c) (by-row (eqb (seen .row) 0) refl h m s)
+    pub find-one : (b met : Bool) (m s : ℕ) → met ≡ b → met ≡ climbsF m ss (x .scopes) s (seen .scope .0) → seen .count ≤ 1
+        → sees m s ≡ (if b then seen .row .0 else 0)
+    find-one b met m s e c h = rw (← e, c) (by-row (eqb (seen .row .0) 0) refl h m s)

@@ -12,13 +12,13 @@ use Rattle.scoping.specs.Rows.{scopeNumber}
 use Rattle.scoping.specs.declared.Candidates.{Candidates}
 
 abbrev pub noCandidate : Candidates
-noCandidate = record { count = 0; row = 0; scope = 0 }
+noCandidate = record { count = 0; row = record { 0 = 0 }; scope = record { 0 = 0 } }
 
 -- a row binds a name in its scope if it has the name and made 0; i is the row's number
 unfoldable pub addCandidateF : Symbol → ℕ → ℕ → Candidates → Candidates
 addCandidateF y name i seen =
     if eqb (y .name) name && eqb (y .made) 0
-    then record { count = capped (seen .count) 1; row = i; scope = y .scope }
+    then record { count = capped (seen .count) 1; row = record { 0 = i }; scope = record { 0 = y .scope } }
     else seen
 
 -- rows are numbered from i on

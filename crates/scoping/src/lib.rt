@@ -290,11 +290,11 @@ fn binds_at(symbols: &[u16], i: u16, f: u16, scope: ScopeId, name: u16) -> bool
 }
 
 // The row after i others if it binds the name, or what was found before.
-fn found_at(symbols: &[u16], i: u16, f: u16, scope: ScopeId, name: u16, found: u16) -> u16
-    ensures { λ r. ⌜ r ≡ (if binds (symbolAt (now (symbols .entry)) f i) (scope .0) name then capped i 1 else found) ⌝ }
+fn found_at(symbols: &[u16], i: u16, f: u16, scope: ScopeId, name: u16, found: SymbolId) -> SymbolId
+    ensures { λ r. ⌜ r .0 ≡ (if binds (symbolAt (now (symbols .entry)) f i) (scope .0) name then capped i 1 else found .0) ⌝ }
 {
     if binds_at(symbols, i, f, scope, name) {
-        return tables::plus(i, 1);
+        return SymbolId(tables::plus(i, 1));
     }
     found
 }
@@ -307,9 +307,9 @@ fn binding_from(
     scope: ScopeId,
     name: u16,
     start: u16,
-    before: u16,
-) -> u16
-    ensures { λ r. ⌜ r ≡ bindingFrom (now (symbols .entry)) f count (scope .0) name start before ⌝ }
+    before: SymbolId,
+) -> SymbolId
+    ensures { λ r. ⌜ r .0 ≡ bindingFrom (now (symbols .entry)) f count (scope .0) name start (before .0) ⌝ }
 {
     let mut found = before;
     let mut i = next_row(symbols, count, symbol::NAME, name, start);
@@ -324,7 +324,7 @@ fn binding_from(
 pub fn get_binding(symbols: &[u16], count: u16, f: u16, scope: ScopeId, name: u16) -> SymbolId
     ensures { λ r. ⌜ r .0 ≡ getBinding (symbolsF (now (symbols .entry)) f count 0) (scope .0) name ⌝ }
 {
-    SymbolId(binding_from(symbols, count, f, scope, name, 0, 0))
+    binding_from(symbols, count, f, scope, name, 0, SymbolId(0))
 }
 
 // The name seen from a scope, or 0: all symbol rows are looked at for each scope on the way outwards.
@@ -351,8 +351,8 @@ fn search_outwards(scopes: &[u16], symbols: &[u16], ctx: Ctx, from: ScopeId, nam
 // The rows that bind a name in whatever scope: how many there are, and the number and the scope of the last one.
 struct Candidates {
     count: u16,
-    row: u16,
-    scope: u16,
+    row: SymbolId,
+    scope: ScopeId,
 }
 
 // The candidates seen before, with the row after i others if it is one.
@@ -368,8 +368,8 @@ fn add_candidate(symbols: &[u16], i: u16, name: u16, seen: Candidates) -> Candid
     }
     Candidates {
         count: tables::plus(seen.count, 1),
-        row: tables::plus(i, 1),
-        scope: tables::get(symbols, at + SCOPE),
+        row: SymbolId(tables::plus(i, 1)),
+        scope: ScopeId(tables::get(symbols, at + SCOPE)),
     }
 }
 
@@ -379,8 +379,8 @@ fn find_candidates(symbols: &[u16], count: u16, name: u16) -> Candidates
 {
     let mut seen = Candidates {
         count: 0,
-        row: 0,
-        scope: 0,
+        row: SymbolId(0),
+        scope: ScopeId(0),
     };
     let mut i = next_row(symbols, count, symbol::NAME, name, 0);
     while i < count {
@@ -420,8 +420,8 @@ pub fn find_binding(scopes: &[u16], symbols: &[u16], ctx: Ctx, from: ScopeId, na
     if seen.count > 1 {
         return search_outwards(scopes, symbols, ctx, from, name);
     }
-    if climbs_to(scopes, ctx.scopes, from, ScopeId(seen.scope)) {
-        return SymbolId(seen.row);
+    if climbs_to(scopes, ctx.scopes, from, seen.scope) {
+        return seen.row;
     }
     SymbolId(0)
 }
@@ -464,7 +464,8 @@ fn is_bound(symbols: &[u16], count: u16, scope: ScopeId, i: u16) -> bool
     }
     let name = tables::get(symbols, at);
     let y = i + 1;
-    binding_from(symbols, count, symbol::SCOPE, scope, name, y, y) == y
+    let last = binding_from(symbols, count, symbol::SCOPE, scope, name, y, SymbolId(y));
+    last.0 == y
 }
 
 // The row after i others is bound in the scope, block-scoped or as a class.

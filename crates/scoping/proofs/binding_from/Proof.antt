@@ -10,11 +10,11 @@ use Rattle.scoping.proofs.binding_from.Statement.{statement}
 use Rattle.scoping.proofs.binding_from.Tie as tie
 
 abbrev Inv-loop : tie.InvT-loop
-Inv-loop symbols count f scope name start before found₀ i₀ found i =
-    bindingFrom symbols f count (scope .0) name start before ≡ bindingFrom symbols f count (scope .0) name i found
+Inv-loop symbols count f scope name start found₀ i₀ found i =
+    bindingFrom symbols f count (scope .0) name start (found₀ .0) ≡ bindingFrom symbols f count (scope .0) name i (found .0)
 
 abbrev μ-loop : tie.MeasureT-loop
-μ-loop symbols count f scope name start before found₀ i₀ found i = count - i
+μ-loop symbols count f scope name start found₀ i₀ found i = count - i
 
 loop-holds : tie.Need-loop-holds Inv-loop μ-loop
 loop-holds c =

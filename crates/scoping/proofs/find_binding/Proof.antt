@@ -14,7 +14,7 @@ returns c =
 
 returns-3 : tie.Need-returns-3
 returns-3 c =
-    let at-if3 = c in
+    let at-if3 = c .before in
     let at-climbs-to = at-if3 .before in
     let at-if2 = at-climbs-to .before in
     let at-find-candidates = at-if2 .before .before .before .before in

@@ -27,7 +27,7 @@ returns-2 c =
 
 returns-3 : tie.Need-returns-3
 returns-3 c =
-    let at-binding-from = c in
+    let at-binding-from = c .before in
     let at-get3 = at-binding-from .before in
     let at-if2 = at-get3 .before in
     let at-get2 = at-if2 .before in
