@@ -453,7 +453,10 @@ fn is_block_scoped(flags: u16) -> bool
 // The row after i others is bound in the scope: a unique name, or the last row of its name, so that only the rows behind it are looked at.
 fn is_bound(symbols: &[u16], count: u16, scope: ScopeId, i: u16) -> bool
     requires { ⌜ i < count ⌝ }
-    ensures { λ r. ⌜ r ≡ isAmongBindings (symbolsF (now (symbols .entry)) SymbolTable.Scope count 0) (scope .0) (capped i 1) (symbolAt (now (symbols .entry)) SymbolTable.Scope i) ⌝ }
+    ensures { λ r. ⌜
+        r
+        ≡ isAmongBindings (symbolsF (now (symbols .entry)) SymbolTable.Scope count 0) (scope .0) (capped i 1) (symbolAt (now (symbols .entry)) SymbolTable.Scope i)
+        ⌝ }
 {
     let at = (i as usize) * symbol::NUMBERS;
     if tables::get(symbols, at + SCOPE) != scope.0 {
