@@ -1,17 +1,20 @@
 -- Laws of the definitions, for the proofs of the code.
 -- Assumes nothing.
 use mathlib.Core.Path.{_≡_, refl, sym, ap, subst, _∙_}
-use mathlib.Core.Bool.{Bool, true, false}
-use mathlib.Core.List.{List, [], _∷_, _++_}
+use mathlib.Core.Logic.{inl, inr}
+use mathlib.Core.Bool.{Bool, true, false, not}
+use mathlib.Core.List.{List, [], _∷_, _++_, map}
 use Prim.Native.Nat.{ℕ, zero, suc, _+_, _-_, _*_, _≤_, _<_}
 use native.Mathlib.Omega.{arith}
 use lib.ListN.{length, drop, getD, take, replicate, length-replicate, replicate-append-replicate, drop-of-length-le}
 use lib.Seq.{take-append-seam}
-use lib.Dec.{eqb}
+use lib.Dec.{eqb, ltb}
+use types.Run.{OneOf}
 use borrow.Author.Tests.{ne-eqb, le-leb, lt-leb}
-use Rattle.meaning.specs.Tree.{if_then_else_}
-use Rattle.meaning.specs.Grammar.{scopeOf, headOf, below, childrenOf, unnamed}
-use Rattle.meaning.specs.Reading.{Outcome, refused, _>>=_, symbolsIn, readRows, andRows, mostRows}
+use Rattle.meaning.specs.Tree.{if_then_else_, hd}
+use Rattle.meaning.specs.File.{numbersOf, fieldBytes}
+use Rattle.meaning.specs.Grammar.{allowed, two, fieldOf, fieldAt, right, scopeOf, headOf, below, childrenOf, mayName, naming, unnamed}
+use Rattle.meaning.specs.Reading.{Outcome, accepted, refused, _>>=_, _>>_, ensure, field, judged, symbolsIn, readRows, andRows, mostRows}
 use Rattle.meaning.specs.declared.Place.{Place}
 use Rattle.meaning.specs.declared.Place.the-variants.{Program}
 use Rattle.meaning.specs.declared.Field.{Field}
@@ -30,6 +33,7 @@ use Rattle.checking.specs.Flat.{
   Past,
   entered,
   past,
+  rightAt,
   enterF,
   addF,
   listF,
@@ -42,6 +46,71 @@ use Rattle.checking.specs.Flat.{
   endF,
   treeF,
 }
+
+-- ---- entering a record
+
+-- the scope row of a field named
+abbrev namedF : List ℕ → ℕ → ℕ → List ℕ → Field → Outcome Entered
+namedF f cur at m x = do
+  ensure (mayName f cur m (scopeOf (headOf x))) 5 at
+  accepted (record { field = x; marks = naming m (scopeOf (headOf x)) })
+
+judging : (b : Bool) (x : Field) (at : ℕ) (g : Field → Outcome Entered)
+    → (ensure b 5 at >> g x) ≡ (field (if b then Whole x else RefusedField 5 at) >>= g)
+judging true x at g = refl
+judging false x at g = refl
+
+entering : (d : Reading) (test : Field → Bool) (at : ℕ) (g : Field → Outcome Entered)
+    → (field d >>= (λ x. ensure (test x) 5 at >> g x)) ≡ (field (judged test at d) >>= g)
+entering (Whole x) test at g = judging (test x) x at g
+entering (RefusedField c q) test at g = refl
+
+-- its scope row is named after the checks of its field
+pub enter-is : (f : List ℕ) (syms : ℕ) (p : Place) (cur at : ℕ) (m : List ℕ)
+    → enterF f syms p cur at m ≡ (field (rightAt f syms p at) >>= namedF f cur at m)
+unfolding enterF rightAt
+enter-is f syms p cur at m = entering (fieldAt f p at) (right p syms) at (namedF f cur at m)
+
+if-all : {X : Type 0} (P : X → Type 0) (b : Bool) (x y : X) → P x → P y → P (if b then x else y)
+if-all P true x y h k = h
+if-all P false x y h k = k
+
+-- what is read is a refusal, or the field that stands there
+field-all : (f : List ℕ) (p : Place) (at : ℕ) (P : Reading → Type 0) → ((c q : ℕ) → P (RefusedField c q)) → P (Whole (fieldOf f at))
+    → P (fieldAt f p at)
+unfolding fieldAt
+field-all f p at P h k =
+    let t = getD f at 0 in
+    if-all P (ltb (length f) (at + 3)) _ _ (h _ _)
+    (if-all P (not (allowed p t)) _ _ (h _ _)
+    (if-all P (not (eqb (two f (at + 1)) (2 * numbersOf t))) _ _ (h _ _)
+    (if-all P (ltb (length f) (at + fieldBytes t)) _ _ (h _ _) k)))
+
+-- where the field that stands there names no scope, there is nothing to name
+pub enter-unscoped : (f : List ℕ) (syms : ℕ) (p : Place) (cur at : ℕ) (m : List ℕ) → scopeOf (headOf (fieldOf f at)) ≡ 0
+    → entered (rightAt f syms p at) m ≡ enterF f syms p cur at m
+unfolding rightAt mayName naming
+enter-unscoped f syms p cur at m none =
+    field-all f p at (λ d. entered (judged (right p syms) at d) m ≡ (field (judged (right p syms) at d) >>= namedF f cur at m))
+    (λ c q. refl)
+    (if-all (λ (d : Reading). entered d m ≡ (field d >>= namedF f cur at m)) (right p syms (fieldOf f at)) _ _ (rw none) refl)
+    ∙ sym (enter-is f syms p cur at m)
+
+-- two functions agree at a key of an arm if they agree at all of them
+at-keys : (f g : ℕ → ℕ) (ks : List ℕ) (t : ℕ) → map f ks ≡ map g ks → OneOf ks t → f t ≡ g t
+at-keys f g [] t e h = absurd h
+at-keys f g (k ∷ []) t e h = cc
+at-keys f g (k ∷ j ∷ ks) t e (inl h) = cc
+at-keys f g (k ∷ j ∷ ks) t e (inr h) = at-keys f g (j ∷ ks) t (cc) h
+
+-- so at a tag none of whose records names a scope
+pub enter-tagged : (f : List ℕ) (syms : ℕ) (p : Place) (cur at : ℕ) (m : List ℕ) (ks : List ℕ) (t : ℕ) → t ≡ getD f at 0
+    → ((a b c : ℕ) → map (λ k. scopeOf (hd k a b c)) ks ≡ map (λ _. 0) ks) → OneOf ks t
+    → entered (rightAt f syms p at) m ≡ enterF f syms p cur at m
+unfolding headOf fieldOf
+enter-tagged f syms p cur at m ks t is-tag none key =
+    enter-unscoped f syms p cur at m
+    (at-keys (λ k. scopeOf (hd k _ _ _)) (λ _. 0) ks (getD f at 0) (none _ _ _) (rw is-tag at key))
 
 -- ---- one record: refused on entering, too deep, refused inside, or fine
 
@@ -56,6 +125,11 @@ pub record-entered : (l : ℕ) (f : List ℕ) (scopes syms : ℕ) (p : Place) (u
     (e : Outcome Entered) (o : Outcome Past) → e ≡ enterF f syms p cur at m → o ≡ afterF l f scopes syms p u cur t at e
     → o ≡ recordF l f scopes syms p u cur t at m
 record-entered l f scopes syms p u cur t at m e o enters after = rw (record-is l f scopes syms p u cur t at m, ← enters, after)
+
+-- with no tally before it
+pub record-first : (l : ℕ) (f : List ℕ) (scopes syms : ℕ) (p : Place) (u : Role) (cur : ℕ) (t : Tally) (at : ℕ) (m : List ℕ)
+    (o : Outcome Past) → o ≡ recordF l f scopes syms p u cur t at m → t ≡ noTally → o ≡ recordF l f scopes syms p u cur noTally at m
+record-first l f scopes syms p u cur t at m o e none = e ∙ ap (λ (s : Tally). recordF l f scopes syms p u cur s at m) none
 
 -- or refused at once
 pub record-refused : (l : ℕ) (f : List ℕ) (scopes syms : ℕ) (p : Place) (u : Role) (cur : ℕ) (t : Tally) (at : ℕ) (m m₁ : List ℕ)
@@ -205,14 +279,11 @@ module _ (m : List ℕ) (i u : ℕ) (so-far : u ≡ i + unnamed (drop i m)) wher
 
 -- ---- behind the tree
 
-module _ (f : List ℕ) (scopes syms at : ℕ) (m₀ m : List ℕ) (a : Answer) (none : Tally) (is-none : none ≡ noTally)
-    (answered : past a m ≡ recordF 64 f scopes syms Program Plain 0 none at m₀) where
+module _ (f : List ℕ) (scopes syms at : ℕ) (m₀ m : List ℕ) (a : Answer)
+    (answered : past a m ≡ recordF 64 f scopes syms Program Plain 0 noTally at m₀) where
   ends : treeF f scopes syms at m₀ ≡ answerOf (endF f (length m₀) (past a m))
   unfolding treeF
-  ends =
-      let e : past a m ≡ recordF 64 f scopes syms Program Plain 0 noTally at m₀ =
-      answered ∙ ap (λ (t : Tally). recordF 64 f scopes syms Program Plain 0 t at m₀) is-none in
-      sym (ap (λ (o : Outcome Past). answerOf (endF f (length m₀) o)) e)
+  ends = sym (ap (λ (o : Outcome Past). answerOf (endF f (length m₀) o)) answered)
 
   pub tree-refused : (c p : ℕ) → a ≡ RefusedAnswer c p → a ≡ treeF f scopes syms at m₀
   unfolding endF

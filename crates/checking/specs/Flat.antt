@@ -1,17 +1,30 @@
 -- What the check computes: the reader's answers and marks, with no tree.
 -- Assumes nothing.
 use Prim.Native.Nat.{ℕ, zero, suc, _+_, _*_, min}
-use mathlib.Core.Bool.{Bool, not, _&&_}
-use mathlib.Core.List.{List}
+use mathlib.Core.Bool.{Bool, true, false, not, _&&_}
+use mathlib.Core.List.{List, [], _∷_}
 use lib.Dec.{eqb, leb}
 use lib.ListN.{getD, length, replicate}
+use Rattle.meaning.specs.Numbers.Tag
+use Rattle.meaning.specs.Numbers.Form
 use Rattle.meaning.specs.Numbers.Mode
 use Rattle.meaning.specs.Numbers.Refusal
-use Rattle.meaning.specs.Tree.{if_then_else_}
-use Rattle.meaning.specs.Grammar.{allowed, two, fieldAt, isRow, right, scopeOf, below, childrenOf, placeOf, headOf, mayName, naming, unnamed}
-use Rattle.meaning.specs.Reading.{Outcome, accepted, refused, _>>=_, _>>_, ensure, field, symbolsIn, readScopes, readSymbols, mostBytes}
+use Rattle.meaning.specs.Tree.{if_then_else_, oneOf}
+use Rattle.meaning.specs.Grammar.{index, allowed, two, fieldAt, isRow, right, scopeOf, below, childrenOf, placeOf, headOf, mayName, naming, unnamed}
+use Rattle.meaning.specs.Reading.{Outcome, accepted, refused, _>>=_, _>>_, ensure, field, judged, symbolsIn, readScopes, readSymbols, mostBytes}
 use Rattle.meaning.specs.declared.Place.{Place}
-use Rattle.meaning.specs.declared.Place.the-variants.{Settings, Program}
+use Rattle.meaning.specs.declared.Place.the-variants.{
+  Settings,
+  Program,
+  PlainItem,
+  Name,
+  ForLeft,
+  ForOfLeft,
+  Expression,
+  SwitchExpression,
+  ClassItem,
+  DefaultExport,
+}
 use Rattle.meaning.specs.declared.Field.{Field}
 use Rattle.meaning.specs.declared.Reading.{Reading}
 use Rattle.meaning.specs.declared.Reading.the-variants.{Whole as WholeField, Refused as RefusedField}
@@ -75,7 +88,29 @@ leafSize f p u syms l at =
     else 0)
     else 0
 
+-- ---- where an expression stands
+
+-- by its tag, or by its form
+unfoldable pub expressionAt : List ℕ → ℕ → Bool
+expressionAt f at =
+    let tag = getD f at 0 in
+    if oneOf (Tag.Expression ∷ Tag.Read ∷ Tag.Call ∷ Tag.Load ∷ []) tag then true
+    else if oneOf (Tag.Function ∷ Tag.Class ∷ []) tag then eqb (two f (at + 3)) Form.Expression
+    else false
+
+-- by its place, and where a place takes others too, by what stands there; a Name counts as one
+unfoldable pub expressionHere : List ℕ → Place → ℕ → Bool
+expressionHere f p at =
+    let here = index p in
+    if oneOf (index Expression ∷ index SwitchExpression ∷ index Name ∷ []) here then true
+    else if oneOf (index PlainItem ∷ index ForLeft ∷ index ForOfLeft ∷ index ClassItem ∷ index DefaultExport ∷ []) here then expressionAt f at
+    else false
+
 -- ---- records
+
+-- the checks 2 to 5 of a record but for its scope row
+unfoldable pub rightAt : List ℕ → ℕ → Place → ℕ → Reading
+rightAt f syms p at = judged (right p syms) at (fieldAt f p at)
 
 -- the checks 2 to 5 of a record
 unfoldable pub enterF : List ℕ → ℕ → Place → ℕ → ℕ → List ℕ → Outcome Entered

@@ -16,22 +16,26 @@ use meaning::Place;
 use meaning::Reading;
 use meaning::Rows;
 use meaning::ScopeId;
+use meaning::form;
 use meaning::mode;
 use meaning::refusal;
 use meaning::tag;
 ghost use mathlib.Core.Path.{_≡_};
 ghost use mathlib.Core.Bool.{_||_};
-ghost use Prim.Native.Nat.{_≤_, min};
+ghost use Prim.Native.Nat.{_+_, _≤_, min};
 ghost use lib.ListN.{getD, length, replicate};
 ghost use lib.Dec.{eqb};
 ghost use Rattle.meaning.specs.Tree.{if_then_else_};
-ghost use Rattle.meaning.specs.Grammar.{mayName, naming, unnamed};
+ghost use Rattle.meaning.specs.Grammar.{two, mayName, naming, unnamed};
 ghost use Rattle.meaning.specs.Numbers.Tag;
 ghost use Rattle.meaning.specs.Reading.{scopeAt, symbolAt, mostRows, readScopes, readSymbols, readFile};
 ghost use Rattle.meaning.specs.Lowering.{checkFile, figuresOf};
 ghost use Rattle.figures.specs.Figures.{figuredOf};
 ghost use Rattle.meaning.specs.declared.Reading.the-variants.{Whole as WholeField};
-ghost use Rattle.checking.specs.Flat.{isWhole, expressionSize, mentionSize, leafSize, entered, enterF, past, recordF, childrenF, afterF, treeF, withRecords, runAnswer, symbolsF, rowsF, settingsF, fileF, checkedOf};
+ghost use Rattle.meaning.specs.declared.Place.the-variants.{Program as ProgramPlace};
+ghost use Rattle.figures.specs.declared.tally.Role.the-variants.{Plain as PlainRole};
+ghost use Rattle.figures.specs.Tally.{noTally};
+ghost use Rattle.checking.specs.Flat.{expressionAt, expressionHere, rightAt, isWhole, expressionSize, mentionSize, leafSize, entered, enterF, past, recordF, childrenF, afterF, treeF, withRecords, runAnswer, symbolsF, rowsF, settingsF, fileF, checkedOf};
 ghost use Rattle.checking.specs.Survey.{withFigures, surveyedOf};
 
 // A file holds so many bytes at most, and its records so many levels; more rows than such a file has.
@@ -153,6 +157,41 @@ fn enter_record(
     read
 }
 
+// The same of a record that names no scope.
+fn read_right(file: &[u8], symbols: usize, place: Place, at: usize) -> Reading
+    ensures { λ r. ⌜ r ≡ rightAt (now (file .entry)) symbols place at ⌝ }
+{
+    let read = fields::read_field(file, place, at);
+    let Reading::Whole(x) = read else {
+        return read;
+    };
+    if !rules::is_right(place, symbols, x) {
+        return Reading::Refused(refusal::WRONG_NUMBER, at);
+    }
+    read
+}
+
+// The same of an expression: Expression, Read, Call and Load name no scope, Function and Class do. What has another tag is a Name, or is
+// refused as its field is read.
+fn enter_expression(
+    file: &[u8],
+    marks: &mut [u8],
+    symbols: usize,
+    place: Place,
+    cur: ScopeId,
+    at: usize,
+) -> Reading
+    ensures { λ r. ⌜ entered r (now (marks .exit)) ≡ enterF (now (file .entry)) symbols place (cur .0) at (now (marks .entry)) ⌝ }
+{
+    let tag = fields::read_tag(file, at);
+    match tag {
+        tag::EXPRESSION | tag::CALL => read_right(file, symbols, place, at),
+        tag::READ | tag::LOAD => read_right(file, symbols, place, at),
+        tag::FUNCTION | tag::CLASS => enter_record(file, marks, symbols, place, cur, at),
+        _ => enter_record(file, marks, symbols, place, cur, at),
+    }
+}
+
 // ---- leaves: plain records without scope and children, passed at once
 
 // A field with this tag may stand here, and is whole with `len` bytes of numbers; its tag is not looked at.
@@ -211,12 +250,71 @@ fn leaf_size(file: &[u8], place: Place, up: Role, symbols: usize, levels: u16, a
     if !tally::is_plain(up) {
         return 0;
     }
-    let tag = fields::tag_at(file, at);
+    let tag = fields::read_tag(file, at);
     match tag {
         tag::EXPRESSION => expression_size(file, place, at),
         tag::READ => mention_size(file, place, symbols, tag::READ, at),
         tag::NAME => mention_size(file, place, symbols, tag::NAME, at),
         _ => 0,
+    }
+}
+
+// ---- where an expression stands
+
+// The form of the Function or Class at an offset.
+fn form_at(file: &[u8], at: usize) -> u16
+    ensures { λ r. ⌜ r ≡ two (now (file .entry)) (at + 3) ⌝ }
+{
+    if file.len() <= at {
+        return 0;
+    }
+    fields::read_two(file, at + NUMBER_A)
+}
+
+// What stands at an offset is an expression by its tag, or by its form.
+fn is_expression(file: &[u8], at: usize) -> bool
+    ensures { λ r. ⌜ r ≡ expressionAt (now (file .entry)) at ⌝ }
+{
+    let tag = fields::read_tag(file, at);
+    match tag {
+        tag::EXPRESSION => true,
+        tag::READ => true,
+        tag::CALL => true,
+        tag::LOAD => true,
+        tag::FUNCTION => form_at(file, at) == form::EXPRESSION,
+        tag::CLASS => form_at(file, at) == form::EXPRESSION,
+        _ => false,
+    }
+}
+
+// An expression is looked for at a place: always, or by what stands there, or never. A Name, which is a leaf too, counts as one here.
+fn takes_expression(file: &[u8], place: Place, at: usize) -> bool
+    ensures { λ r. ⌜ r ≡ expressionHere (now (file .entry)) place at ⌝ }
+{
+    match place {
+        Place::Expression => true,
+        Place::SwitchExpression => true,
+        Place::Name => true,
+        Place::PlainItem => is_expression(file, at),
+        Place::ForLeft => is_expression(file, at),
+        Place::ForOfLeft => is_expression(file, at),
+        Place::ClassItem => is_expression(file, at),
+        Place::DefaultExport => is_expression(file, at),
+        Place::Settings => false,
+        Place::ScopeRow => false,
+        Place::SymbolRow => false,
+        Place::Program => false,
+        Place::ProgramItem => false,
+        Place::ListItem => false,
+        Place::Statement => false,
+        Place::Declarator => false,
+        Place::ForOfDeclarator => false,
+        Place::Case => false,
+        Place::TryPart => false,
+        Place::Catch => false,
+        Place::Body => false,
+        Place::ExportedDeclaration => false,
+        Place::Specifier => false,
     }
 }
 
@@ -257,7 +355,8 @@ fn check_entered(
     Answer::Next(next, tally::add_record(before, role, inserted, x, kids))
 }
 
-// A record at a place that is no expression's.
+// A statement, what else stands in Program or a list, or a part of one: Declarators, Cases, Catches, Bodies, StaticBlocks, Specifiers. Most
+// of them name a scope.
 fn check_statement(
     file: &[u8],
     marks: &mut [u8],
@@ -277,7 +376,8 @@ fn check_statement(
     }
 }
 
-// An expression.
+// An expression: an Expression, a Read, a Call, a Load, or a Function or Class of form 1. An Expression without children and a Read are
+// leaves and passed at once, and so is a Name, though it is a part of a Declarator or a Catch.
 fn check_expression(
     file: &[u8],
     marks: &mut [u8],
@@ -289,15 +389,23 @@ fn check_expression(
     ensures { λ r. ⌜ past r (now (marks .exit)) ≡ recordF levels (now (file .entry)) (rows .scopes) (rows .symbols) (site .place) (site .role) (site .scope .0) (done .tally) (done .at) (now (marks .entry)) ⌝ }
 {
     let place = site.place;
+    let role = site.role;
     let scope = site.scope;
-    let read = enter_record(file, marks, rows.symbols as usize, place, scope, done.at);
+    let symbols = rows.symbols as usize;
+    let size = leaf_size(file, place, role, symbols, levels, done.at);
+    if size != 0 {
+        let next = done.at + (size as usize);
+        let before = done.tally;
+        return Answer::Next(next, tally::add_leaf(before, size));
+    }
+    let read = enter_expression(file, marks, symbols, place, scope, done.at);
     match read {
         Reading::Whole(x) => check_entered(file, marks, rows, site, done, levels, x),
         Reading::Refused(c, p) => Answer::Refused(c, p),
     }
 }
 
-// A child at its place.
+// A child at its place: an expression, or a statement or a part of one.
 fn check_child(
     file: &[u8],
     marks: &mut [u8],
@@ -309,19 +417,10 @@ fn check_child(
     ensures { λ r. ⌜ past r (now (marks .exit)) ≡ recordF levels (now (file .entry)) (rows .scopes) (rows .symbols) (site .place) (site .role) (site .scope .0) (done .tally) (done .at) (now (marks .entry)) ⌝ }
 {
     let place = site.place;
-    let role = site.role;
-    let size = leaf_size(file, place, role, rows.symbols as usize, levels, done.at);
-    if size != 0 {
-        let next = done.at + (size as usize);
-        let before = done.tally;
-        return Answer::Next(next, tally::add_leaf(before, size));
+    if takes_expression(file, place, done.at) {
+        return check_expression(file, marks, rows, site, done, levels);
     }
-    match place {
-        Place::Expression | Place::SwitchExpression => {
-            check_expression(file, marks, rows, site, done, levels)
-        }
-        _ => check_statement(file, marks, rows, site, done, levels),
-    }
+    check_statement(file, marks, rows, site, done, levels)
 }
 
 // The children of a record at `site`, one after another; the site's scope is that around the children.
@@ -469,18 +568,29 @@ fn first_unnamed(marks: &[u8]) -> usize
     i
 }
 
+// Program and all in it, with all levels left.
+fn check_program(file: &[u8], marks: &mut [u8], rows: RowCounts, at: usize) -> Answer
+    ensures { λ r. ⌜ past r (now (marks .exit)) ≡ recordF 64 (now (file .entry)) (rows .scopes) (rows .symbols) ProgramPlace PlainRole 0 noTally at (now (marks .entry)) ⌝ }
+{
+    let place = Place::Program;
+    let role = Role::Plain;
+    let scope = ScopeId(0);
+    let tally = tally::no_tally();
+    let site = Site { place, role, scope };
+    let done = Progress { at, tally };
+    let read = enter_record(file, marks, rows.symbols as usize, place, scope, at);
+    match read {
+        Reading::Whole(x) => check_entered(file, marks, rows, site, done, MOST_LEVELS, x),
+        Reading::Refused(c, p) => Answer::Refused(c, p),
+    }
+}
+
 // The tree, what stands behind it, and the lowest unnamed row.
 fn check_tree(file: &[u8], marks: &mut [u8], rows: RowCounts, at: usize) -> Answer
     requires { ⌜ length (now marks) ≤ mostRows ⌝ }
     ensures { λ r. ⌜ r ≡ treeF (now (file .entry)) (rows .scopes) (rows .symbols) at (now (marks .entry)) ⌝ }
 {
-    let site = Site {
-        place: Place::Program,
-        role: Role::Plain,
-        scope: ScopeId(0),
-    };
-    let tally = tally::no_tally();
-    let a = check_statement(file, marks, rows, site, Progress { at, tally }, MOST_LEVELS);
+    let a = check_program(file, marks, rows, at);
     let Answer::Next(next, t) = a else {
         return a;
     };

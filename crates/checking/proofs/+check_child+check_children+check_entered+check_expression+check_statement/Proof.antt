@@ -26,8 +26,10 @@ use Rattle.checking.proofs.+check_child+check_children+check_entered+ch
 use Rattle.checking.proofs.check_statement.Reads as check-statement
 use Rattle.checking.proofs.check_statement.Kinds as check-statement-kinds
 use Rattle.checking.proofs.+check_child+check_children+check_entered+check_expression+check_statement.Lts-check_statement as check-statement-lts
+use Rattle.checking.proofs.enter_expression.Reads as enter-expression-reads
 use Rattle.checking.proofs.enter_record.Reads as enter-record-reads
 use Rattle.checking.proofs.leaf_size.Reads as leaf-size-reads
+use Rattle.checking.proofs.takes_expression.Reads as takes-expression-reads
 use Rattle.rules.proofs.children_of.Reads as children-of-reads
 use Rattle.rules.proofs.place_of.Reads as place-of-reads
 use Rattle.rules.proofs.scope_in.Reads as scope-in-reads
@@ -91,10 +93,8 @@ check-statement-below t = and 2 check-statement-kinds.ps (falls 2 check-statemen
 -- the contracts of what each calls
 abbrev check-child-calls : ℕ → check-child-lts.Claims
 check-child-calls t = (
-  leaf-size-reads.Asked,
-  leaf-size-reads.Learnt,
-  add-leaf-reads.Asked,
-  add-leaf-reads.Learnt,
+  takes-expression-reads.Asked,
+  takes-expression-reads.Learnt,
   check-expression-below t,
   check-expression.Post,
   check-statement-below t,
@@ -131,8 +131,12 @@ check-entered-calls t = (
 
 abbrev check-expression-calls : ℕ → check-expression-lts.Claims
 check-expression-calls t = (
-  enter-record-reads.Asked,
-  enter-record-reads.Learnt,
+  leaf-size-reads.Asked,
+  leaf-size-reads.Learnt,
+  add-leaf-reads.Asked,
+  add-leaf-reads.Learnt,
+  enter-expression-reads.Asked,
+  enter-expression-reads.Learnt,
   check-entered-below t,
   check-entered.Post,
 )
@@ -145,28 +149,13 @@ check-statement-calls t = (
   check-entered.Post,
 )
 
-check-child-add-next : (t : ℕ)
-    → check-child-lts.Need-add-next (check-child-calls t) (check-child-at t) check-child.Post
-check-child-add-next t c =
-    let at-if1 = c .before in
-    let at-leaf-size = at-if1 .before in
-    let fits = leaf-inside _ _ _ _ _ _ _ (at-leaf-size .leaf-size .ensures) (at-if1 .if1 .taken) in
-    omega arith
-
 check-child-returns : (t : ℕ)
     → check-child-lts.Need-returns (check-child-calls t) (check-child-at t) check-child.Post
-check-child-returns t c =
-    let at-if1 = c .before .before .before in
-    let at-leaf-size = at-if1 .before in
-    leaf-fine _ _ _ _ _ _ _ (at-leaf-size .leaf-size .ensures) (at-if1 .if1 .taken) _ _ _ _ _ (c .add-leaf .ensures)
+check-child-returns t c = c .before .before .check-expression .ensures
 
 check-child-returns-2 : (t : ℕ)
     → check-child-lts.Need-returns-2 (check-child-calls t) (check-child-at t) check-child.Post
-check-child-returns-2 t c = c .before .before .check-expression .ensures
-
-check-child-returns-3 : (t : ℕ)
-    → check-child-lts.Need-returns-3 (check-child-calls t) (check-child-at t) check-child.Post
-check-child-returns-3 t c = c .before .before .check-statement .ensures
+check-child-returns-2 t c = c .before .before .check-statement .ensures
 
 abbrev check-children-Inv-loop : check-children-lts.InvT-loop
 check-children-Inv-loop file marks₀ rows x levels n around role scope at₀ t₀ k₀ marks at t k =
@@ -263,28 +252,43 @@ check-entered-returns-3 t c =
     (at-check-children .check-children .ensures)) _ _ _ _ (at-inside .inside .given .1) (at-inserts .inserts .ensures)
     (c .add-record .ensures)
 
-check-expression-same-length : (t : ℕ)
-    → check-expression-lts.Need-same-length (check-expression-calls t) (check-expression-at t) check-expression.Post
-check-expression-same-length t c =
-    let at-check-entered = c .before .before in
-    let at-enter-record = at-check-entered .before .before .before .before .before .before .before in
-    at-check-entered .check-entered .kept .1 .0 ∙ at-enter-record .enter-record .kept .1 .0
+check-expression-add-next : (t : ℕ)
+    → check-expression-lts.Need-add-next (check-expression-calls t) (check-expression-at t) check-expression.Post
+check-expression-add-next t c =
+    let at-if1 = c .before in
+    let at-leaf-size = at-if1 .before in
+    let fits = leaf-inside _ _ _ _ _ _ _ (at-leaf-size .leaf-size .ensures) (at-if1 .if1 .taken) in
+    omega arith
 
 check-expression-returns : (t : ℕ)
     → check-expression-lts.Need-returns (check-expression-calls t) (check-expression-at t) check-expression.Post
 check-expression-returns t c =
+    let at-if1 = c .before .before .before in
+    let at-leaf-size = at-if1 .before in
+    leaf-fine _ _ _ _ _ _ _ (at-leaf-size .leaf-size .ensures) (at-if1 .if1 .taken) _ _ _ _ _ (c .add-leaf .ensures)
+
+check-expression-same-length : (t : ℕ)
+    → check-expression-lts.Need-same-length (check-expression-calls t) (check-expression-at t) check-expression.Post
+check-expression-same-length t c =
     let at-check-entered = c .before .before in
-    let at-read = at-check-entered .before .before .before in
-    let at-enter-record = at-read .before .before .before .before in
-    record-entered _ _ _ _ _ _ _ _ _ _ _ _ (rw (at-read .read .given .1) at (at-enter-record .enter-record .ensures))
-    (at-check-entered .check-entered .ensures)
+    let at-enter-expression = at-check-entered .before .before .before .before .before .before .before in
+    at-check-entered .check-entered .kept .1 .0 ∙ at-enter-expression .enter-expression .kept .1 .0
 
 check-expression-returns-2 : (t : ℕ)
     → check-expression-lts.Need-returns-2 (check-expression-calls t) (check-expression-at t) check-expression.Post
 check-expression-returns-2 t c =
+    let at-check-entered = c .before .before in
+    let at-read = at-check-entered .before .before .before in
+    let at-enter-expression = at-read .before .before .before .before in
+    record-entered _ _ _ _ _ _ _ _ _ _ _ _ (rw (at-read .read .given .1) at (at-enter-expression .enter-expression .ensures))
+    (at-check-entered .check-entered .ensures)
+
+check-expression-returns-3 : (t : ℕ)
+    → check-expression-lts.Need-returns-3 (check-expression-calls t) (check-expression-at t) check-expression.Post
+check-expression-returns-3 t c =
     let at-read2 = c .before in
-    let at-enter-record = at-read2 .before .before .before .before in
-    record-refused _ _ _ _ _ _ _ _ _ _ _ _ _ _ (at-enter-record .enter-record .ensures) (at-read2 .read2 .given .1)
+    let at-enter-expression = at-read2 .before .before .before .before in
+    record-refused _ _ _ _ _ _ _ _ _ _ _ _ _ _ (at-enter-expression .enter-expression .ensures) (at-read2 .read2 .given .1)
 
 check-statement-same-length : (t : ℕ)
     → check-statement-lts.Need-same-length (check-statement-calls t) (check-statement-at t) check-statement.Post
@@ -314,12 +318,12 @@ pub +check-child+check-children+check-entered+check-expression+check-statement-s
     close
     μ-check-child μ-check-children μ-check-entered μ-check-expression μ-check-statement
     (λ t. check-child-lts.spec (check-child-calls t) (check-child-at t) check-child.Post
-    (λ c. search needs) (λ c κs. search needs) (λ c. search needs) (check-child-add-next t) (λ c κs. search needs) (check-child-returns t) (λ c κs. search needs) (λ c κs. search needs) (λ c. search needs) (check-child-returns-2 t) (λ c. search needs) (check-child-returns-3 t))
+    (λ c κs. search needs) (λ c κs. search needs) (λ c. search needs) (check-child-returns t) (λ c κs. search needs) (λ c. search needs) (check-child-returns-2 t))
     (λ t. check-children-lts.spec (check-children-calls t) (check-children-at t) check-children.Post
     check-children-Inv-loop check-children-μ-loop (λ c κs. search needs) (λ c κs. search needs) (check-children-loop-holds t) (λ c κs. search needs) (λ c κs. search needs) (λ c κs. search needs) (λ c. search needs) (λ c. search needs) (check-children-same-length t) (check-children-returns t) (λ c. search needs) (λ c. search needs) (check-children-loop-again t) (λ c. search needs) (check-children-returns-2 t))
     (λ t. check-entered-lts.spec (check-entered-calls t) (check-entered-at t) check-entered.Post
     (check-entered-returns t) (λ c κs. search needs) (λ c κs. search needs) (λ c. search needs) (λ c κs. search needs) (λ c. search needs) (λ c. search needs) (λ c. search needs) (check-entered-returns-2 t) (λ c κs. search needs) (λ c κs. search needs) (λ c. search needs) (check-entered-returns-3 t))
     (λ t. check-expression-lts.spec (check-expression-calls t) (check-expression-at t) check-expression.Post
-    (λ c. search needs) (λ c κs. search needs) (λ c. search needs) (λ c κs. search needs) (λ c. search needs) (check-expression-same-length t) (check-expression-returns t) (λ c. search needs) (check-expression-returns-2 t))
+    (λ c. search needs) (λ c κs. search needs) (λ c. search needs) (check-expression-add-next t) (λ c κs. search needs) (check-expression-returns t) (λ c κs. search needs) (λ c. search needs) (λ c κs. search needs) (λ c. search needs) (check-expression-same-length t) (check-expression-returns-2 t) (λ c. search needs) (check-expression-returns-3 t))
     (λ t. check-statement-lts.spec (check-statement-calls t) (check-statement-at t) check-statement.Post
     (λ c. search needs) (λ c κs. search needs) (λ c. search needs) (λ c κs. search needs) (λ c. search needs) (check-statement-same-length t) (check-statement-returns t) (λ c. search needs) (check-statement-returns-2 t))

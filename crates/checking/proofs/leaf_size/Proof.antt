@@ -23,14 +23,14 @@ returns-3 : tie.Need-returns-3
 unfolding leafSize
 returns-3 c =
     let at-match = c .before in
-    let at-tag-at = at-match .before in
-    let at-if2 = at-tag-at .before in
+    let at-read-tag = at-match .before in
+    let at-if2 = at-read-tag .before in
     let at-is-plain = at-if2 .before in
     rw (
       ne-eqb _ _ (at-is-plain .before .if1 .left),
       ← at-is-plain .is-plain .ensures,
       not-false (at-is-plain .is-plain .result) (at-if2 .if2 .left),
-      ← at-tag-at .tag-at .ensures,
+      ← at-read-tag .read-tag .ensures,
       at-match .match .keys1,
       c .expression-size .ensures,
     )
@@ -39,14 +39,14 @@ returns-4 : tie.Need-returns-4
 unfolding leafSize
 returns-4 c =
     let at-match = c .before in
-    let at-tag-at = at-match .before in
-    let at-if2 = at-tag-at .before in
+    let at-read-tag = at-match .before in
+    let at-if2 = at-read-tag .before in
     let at-is-plain = at-if2 .before in
     rw (
       ne-eqb _ _ (at-is-plain .before .if1 .left),
       ← at-is-plain .is-plain .ensures,
       not-false (at-is-plain .is-plain .result) (at-if2 .if2 .left),
-      ← at-tag-at .tag-at .ensures,
+      ← at-read-tag .read-tag .ensures,
       at-match .match .keys2,
       c .mention-size .ensures,
     )
@@ -55,14 +55,14 @@ returns-5 : tie.Need-returns-5
 unfolding leafSize
 returns-5 c =
     let at-match = c .before in
-    let at-tag-at = at-match .before in
-    let at-if2 = at-tag-at .before in
+    let at-read-tag = at-match .before in
+    let at-if2 = at-read-tag .before in
     let at-is-plain = at-if2 .before in
     rw (
       ne-eqb _ _ (at-is-plain .before .if1 .left),
       ← at-is-plain .is-plain .ensures,
       not-false (at-is-plain .is-plain .result) (at-if2 .if2 .left),
-      ← at-tag-at .tag-at .ensures,
+      ← at-read-tag .read-tag .ensures,
       at-match .match .keys3,
       c .mention-size2 .ensures,
     )
@@ -71,14 +71,14 @@ returns-6 : tie.Need-returns-6
 unfolding leafSize
 returns-6 c =
     let at-match = c in
-    let at-tag-at = at-match .before in
-    let at-if2 = at-tag-at .before in
+    let at-read-tag = at-match .before in
+    let at-if2 = at-read-tag .before in
     let at-is-plain = at-if2 .before in
     rw (
       ne-eqb _ _ (at-is-plain .before .if1 .left),
       ← at-is-plain .is-plain .ensures,
       not-false (at-is-plain .is-plain .result) (at-if2 .if2 .left),
-      ← at-tag-at .tag-at .ensures,
+      ← at-read-tag .read-tag .ensures,
       ne-eqb _ 24 (at-match .match .rest .0 .0 .1),
       ne-eqb _ 25 (at-match .match .rest .0 .1),
       ne-eqb _ 26 (at-match .match .rest .1),
