@@ -66,7 +66,7 @@ entering (Whole x) test at g = judging (test x) x at g
 entering (RefusedField c q) test at g = refl
 
 -- its scope row is named after the checks of its field
-pub enter-is : (f : List ℕ) (syms : ℕ) (p : Place) (cur at : ℕ) (m : List ℕ)
+enter-is : (f : List ℕ) (syms : ℕ) (p : Place) (cur at : ℕ) (m : List ℕ)
     → enterF f syms p cur at m ≡ (field (rightAt f syms p at) >>= namedF f cur at m)
 unfolding enterF rightAt
 enter-is f syms p cur at m = entering (fieldAt f p at) (right p syms) at (namedF f cur at m)
@@ -87,7 +87,7 @@ field-all f p at P h k =
     (if-all P (ltb (length f) (at + fieldBytes t)) _ _ (h _ _) k)))
 
 -- where the field that stands there names no scope, there is nothing to name
-pub enter-unscoped : (f : List ℕ) (syms : ℕ) (p : Place) (cur at : ℕ) (m : List ℕ) → scopeOf (headOf (fieldOf f at)) ≡ 0
+enter-unscoped : (f : List ℕ) (syms : ℕ) (p : Place) (cur at : ℕ) (m : List ℕ) → scopeOf (headOf (fieldOf f at)) ≡ 0
     → entered (rightAt f syms p at) m ≡ enterF f syms p cur at m
 unfolding rightAt mayName naming
 enter-unscoped f syms p cur at m none =

@@ -172,7 +172,7 @@ fn read_right(file: &[u8], symbols: usize, place: Place, at: usize) -> Reading
 }
 
 // The same of an expression: Expression, Read, Call and Load name no scope, Function and Class do. What has another tag is a Name, or is
-// refused as its field is read.
+// refused as its field is read. No arm has two tags in a row, which would be tested as a range.
 fn enter_expression(
     file: &[u8],
     marks: &mut [u8],

@@ -94,7 +94,7 @@ fn join(high: u8, low: u8) -> u16
 }
 
 // The number at an offset; a missing byte reads as 0.
-pub fn read_two(file: &[u8], at: usize) -> u16
+fn two_at(file: &[u8], at: usize) -> u16
     ensures { λ r. ⌜ r ≡ two (now (file .entry)) at ⌝ }
 {
     let high = byte(file, at);
@@ -314,7 +314,7 @@ fn field_at(file: &[u8], place: Place, at: usize) -> Reading
         return Reading::Refused(refusal::WRONG_TAG, at);
     }
     let len = numbers_of(tag);
-    if (read_two(file, at + TAG_BYTES) as usize) != NUMBER_BYTES * (len as usize) {
+    if (two_at(file, at + TAG_BYTES) as usize) != NUMBER_BYTES * (len as usize) {
         return Reading::Refused(refusal::WRONG_LENGTH, at);
     }
     if file.len() - at - HEAD_BYTES < NUMBER_BYTES * (len as usize) {
@@ -336,7 +336,7 @@ fn number_of(file: &[u8], at: usize, len: u8, i: u8) -> u16
     ensures { λ r. ⌜ r ≡ number (now (file .entry)) at len i ⌝ }
 {
     if i < len {
-        return read_two(file, at + HEAD_BYTES + NUMBER_BYTES * (i as usize));
+        return two_at(file, at + HEAD_BYTES + NUMBER_BYTES * (i as usize));
     }
     0
 }
@@ -381,6 +381,13 @@ impl<'a> Reader<'a> {
         tag_at(self.file, self.at)
     }
 
+    // The number at the offset; a missing byte reads as 0.
+    pub fn number(self) -> u16
+        ensures { λ r. ⌜ r ≡ two (now (self .entry .file)) (self .entry .at) ⌝ }
+    {
+        two_at(self.file, self.at)
+    }
+
     // The field at the offset: head cut, tag, length, payload cut.
     pub fn field(self, place: Place) -> Reading
         ensures { λ r. ⌜ r ≡ fieldAt (now (self .entry .file)) place (self .entry .at) ⌝ }
@@ -394,6 +401,13 @@ pub fn read_tag(file: &[u8], at: usize) -> u16
     ensures { λ r. ⌜ r ≡ getD (now (file .entry)) at 0 ⌝ }
 {
     Reader::new(file, at).tag()
+}
+
+// The number at an offset of a file; a missing byte reads as 0.
+pub fn read_two(file: &[u8], at: usize) -> u16
+    ensures { λ r. ⌜ r ≡ two (now (file .entry)) at ⌝ }
+{
+    Reader::new(file, at).number()
 }
 
 // The field at an offset of a file.

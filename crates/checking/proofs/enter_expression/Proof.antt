@@ -2,6 +2,7 @@
 use mathlib.Core.Path.{refl}
 use mathlib.Core.List.{[], _∷_}
 use borrow.Author.Needs.{needs}
+use Rattle.meaning.specs.Numbers.Tag
 use Rattle.meaning.specs.Grammar.{scopeOf}
 use Rattle.checking.proofs.Laws.{enter-tagged}
 use Rattle.checking.proofs.enter_expression.Statement.{statement}
@@ -13,7 +14,7 @@ returns c =
     let at-match = c .before in
     let at-read-tag = at-match .before in
     rw (c .read-right .ensures)
-    (enter-tagged _ _ _ _ _ _ (24 ∷ 27 ∷ []) _ (at-read-tag .read-tag .ensures) (λ a b c. refl) (at-match .match .keys1))
+    (enter-tagged _ _ _ _ _ _ (Tag.Expression ∷ Tag.Call ∷ []) _ (at-read-tag .read-tag .ensures) (λ a b c. refl) (at-match .match .keys1))
 
 returns-2 : tie.Need-returns-2
 unfolding scopeOf
@@ -21,7 +22,7 @@ returns-2 c =
     let at-match = c .before in
     let at-read-tag = at-match .before in
     rw (c .read-right2 .ensures)
-    (enter-tagged _ _ _ _ _ _ (25 ∷ 28 ∷ []) _ (at-read-tag .read-tag .ensures) (λ a b c. refl) (at-match .match .keys2))
+    (enter-tagged _ _ _ _ _ _ (Tag.Read ∷ Tag.Load ∷ []) _ (at-read-tag .read-tag .ensures) (λ a b c. refl) (at-match .match .keys2))
 
 pub enter-expression-spec : {M : Type 1} → statement M
 enter-expression-spec =

@@ -2,6 +2,7 @@
 use mathlib.Core.List.{List, [], _∷_}
 use Prim.Native.Nat.{ℕ}
 use borrow.Author.Needs.{needs}
+use Rattle.meaning.specs.Numbers.Tag
 use Rattle.spec_laws.specs.Match.{other}
 use Rattle.checking.specs.Flat.{expressionAt}
 use Rattle.checking.proofs.is_expression.Statement.{statement}
@@ -9,7 +10,7 @@ use Rattle.checking.proofs.is_expression.Tie as tie
 
 -- the last arm first
 abbrev keys : List ℕ
-keys = 15 ∷ 13 ∷ 28 ∷ 27 ∷ 25 ∷ 24 ∷ []
+keys = Tag.Class ∷ Tag.Function ∷ Tag.Load ∷ Tag.Call ∷ Tag.Read ∷ Tag.Expression ∷ []
 
 returns : tie.Need-returns
 unfolding expressionAt
@@ -43,7 +44,7 @@ returns-7 : tie.Need-returns-7
 unfolding expressionAt
 returns-7 c =
     let away = other keys _ (c .match .rest) in
-    rw (← c .before .read-tag .ensures, away 24 tt, away 25 tt, away 27 tt, away 28 tt, away 13 tt, away 15 tt)
+    rw (← c .before .read-tag .ensures, away Tag.Expression tt, away Tag.Read tt, away Tag.Call tt, away Tag.Load tt, away Tag.Function tt, away Tag.Class tt)
 
 pub is-expression-spec : {M : Type 1} → statement M
 is-expression-spec =

@@ -45,8 +45,8 @@ returns-4 : tie.Need-returns-4
 unfolding fieldAt
 returns-4 c =
     let at-if4 = c in
-    let at-read-two = at-if4 .before in
-    let at-numbers-of = at-read-two .before in
+    let at-two-at = at-if4 .before in
+    let at-numbers-of = at-two-at .before in
     let at-if3 = at-numbers-of .before in
     let at-is-allowed = at-if3 .before in
     let at-tag-at = at-is-allowed .before in
@@ -59,7 +59,7 @@ returns-4 c =
       ← at-is-allowed .is-allowed .ensures,
       at-if3 .if3 .left,
       ← at-numbers-of .numbers-of .ensures,
-      ← at-read-two .read-two .ensures,
+      ← at-two-at .two-at .ensures,
       ne-eqb _ _ (at-if4 .if4 .taken),
     )
 
@@ -67,8 +67,8 @@ returns-5 : tie.Need-returns-5
 unfolding fieldAt fieldBytes
 returns-5 c =
     let at-if4 = c .before in
-    let at-read-two = at-if4 .before in
-    let at-numbers-of = at-read-two .before in
+    let at-two-at = at-if4 .before in
+    let at-numbers-of = at-two-at .before in
     let at-if3 = at-numbers-of .before in
     let at-is-allowed = at-if3 .before in
     let at-tag-at = at-is-allowed .before in
@@ -81,7 +81,7 @@ returns-5 c =
       ← at-is-allowed .is-allowed .ensures,
       at-if3 .if3 .left,
       ← at-numbers-of .numbers-of .ensures,
-      ← at-read-two .read-two .ensures,
+      ← at-two-at .two-at .ensures,
       eq-eqb _ _ (at-if4 .if4 .left),
       lt-ltb (length file) (at + (3 + 2 * at-numbers-of .numbers-of .result)) (omega arith),
     )
@@ -93,8 +93,8 @@ returns-6 c =
     let at-read-number2 = at-read-number3 .before in
     let at-read-number = at-read-number2 .before in
     let at-if4 = at-read-number .before .before in
-    let at-read-two = at-if4 .before in
-    let at-numbers-of = at-read-two .before in
+    let at-two-at = at-if4 .before in
+    let at-numbers-of = at-two-at .before in
     let at-if3 = at-numbers-of .before in
     let at-is-allowed = at-if3 .before in
     let at-tag-at = at-is-allowed .before in
@@ -107,7 +107,7 @@ returns-6 c =
       ← at-is-allowed .is-allowed .ensures,
       at-if3 .if3 .left,
       ← at-numbers-of .numbers-of .ensures,
-      ← at-read-two .read-two .ensures,
+      ← at-two-at .two-at .ensures,
       eq-eqb _ _ (at-if4 .if4 .left),
       le-ltb (length file) (at + (3 + 2 * at-numbers-of .numbers-of .result)) (omega arith),
       ← at-read-number .read-number .ensures,

@@ -8,9 +8,9 @@ use Rattle.fields.proofs.number_of.Tie as tie
 returns : tie.Need-returns
 unfolding number
 returns c =
-    let at-read-two = c in
-    let at-if1 = at-read-two .before in
-    rw (lt-ltb _ _ (at-if1 .if1 .taken), ← at-read-two .read-two .ensures)
+    let at-two-at = c in
+    let at-if1 = at-two-at .before in
+    rw (lt-ltb _ _ (at-if1 .if1 .taken), ← at-two-at .two-at .ensures)
 
 returns-2 : tie.Need-returns-2
 unfolding number
