@@ -114,7 +114,10 @@ pub enum Checked {
 // Marks row s as named, if a record below the scope `cur` may name it; row 0 is none.
 fn name_scope(file: &[u8], marks: &mut [u8], cur: ScopeId, s: ScopeId) -> bool
     ensures told { λ r. ⌜ r ≡ mayName (now (file .entry)) (cur .0) (now (marks .entry)) (s .0) ⌝ }
-    ensures marked { λ r. ⌜ now (marks .exit) ≡ (if mayName (now (file .entry)) (cur .0) (now (marks .entry)) (s .0) then naming (now (marks .entry)) (s .0) else now (marks .entry)) ⌝ }
+    ensures marked { λ r. ⌜
+        now (marks .exit)
+        ≡ (if mayName (now (file .entry)) (cur .0) (now (marks .entry)) (s .0) then naming (now (marks .entry)) (s .0) else now (marks .entry))
+        ⌝ }
 {
     let n = s.0 as usize;
     if n == 0 {
@@ -330,7 +333,10 @@ fn check_entered(
     levels: u16,
     x: Field,
 ) -> Answer
-    ensures { λ r. ⌜ past r (now (marks .exit)) ≡ afterF levels (now (file .entry)) (rows .scopes) (rows .symbols) (site .place) (site .role) (site .scope .0) (done .tally) (done .at) (entered (WholeField x) (now (marks .entry))) ⌝ }
+    ensures { λ r. ⌜
+        past r (now (marks .exit))
+        ≡ afterF levels (now (file .entry)) (rows .scopes) (rows .symbols) (site .place) (site .role) (site .scope .0) (done .tally) (done .at) (entered (WholeField x) (now (marks .entry)))
+        ⌝ }
 {
     if levels == 0 {
         return Answer::Refused(refusal::TOO_DEEP, done.at);
@@ -365,7 +371,10 @@ fn check_statement(
     done: Progress,
     levels: u16,
 ) -> Answer
-    ensures { λ r. ⌜ past r (now (marks .exit)) ≡ recordF levels (now (file .entry)) (rows .scopes) (rows .symbols) (site .place) (site .role) (site .scope .0) (done .tally) (done .at) (now (marks .entry)) ⌝ }
+    ensures { λ r. ⌜
+        past r (now (marks .exit))
+        ≡ recordF levels (now (file .entry)) (rows .scopes) (rows .symbols) (site .place) (site .role) (site .scope .0) (done .tally) (done .at) (now (marks .entry))
+        ⌝ }
 {
     let place = site.place;
     let scope = site.scope;
@@ -386,7 +395,10 @@ fn check_expression(
     done: Progress,
     levels: u16,
 ) -> Answer
-    ensures { λ r. ⌜ past r (now (marks .exit)) ≡ recordF levels (now (file .entry)) (rows .scopes) (rows .symbols) (site .place) (site .role) (site .scope .0) (done .tally) (done .at) (now (marks .entry)) ⌝ }
+    ensures { λ r. ⌜
+        past r (now (marks .exit))
+        ≡ recordF levels (now (file .entry)) (rows .scopes) (rows .symbols) (site .place) (site .role) (site .scope .0) (done .tally) (done .at) (now (marks .entry))
+        ⌝ }
 {
     let place = site.place;
     let role = site.role;
@@ -414,7 +426,10 @@ fn check_child(
     done: Progress,
     levels: u16,
 ) -> Answer
-    ensures { λ r. ⌜ past r (now (marks .exit)) ≡ recordF levels (now (file .entry)) (rows .scopes) (rows .symbols) (site .place) (site .role) (site .scope .0) (done .tally) (done .at) (now (marks .entry)) ⌝ }
+    ensures { λ r. ⌜
+        past r (now (marks .exit))
+        ≡ recordF levels (now (file .entry)) (rows .scopes) (rows .symbols) (site .place) (site .role) (site .scope .0) (done .tally) (done .at) (now (marks .entry))
+        ⌝ }
 {
     let place = site.place;
     if takes_expression(file, place, done.at) {
@@ -432,7 +447,10 @@ fn check_children(
     x: Field,
     levels: u16,
 ) -> Answer
-    ensures { λ r. ⌜ past r (now (marks .exit)) ≡ childrenF levels (now (file .entry)) (rows .scopes) (rows .symbols) (site .place) (site .role) x (site .scope .0) (now (marks .entry)) ⌝ }
+    ensures { λ r. ⌜
+        past r (now (marks .exit))
+        ≡ childrenF levels (now (file .entry)) (rows .scopes) (rows .symbols) (site .place) (site .role) x (site .scope .0) (now (marks .entry))
+        ⌝ }
 {
     let n = rules::children_of(x);
     let around = site.place;
@@ -570,7 +588,10 @@ fn first_unnamed(marks: &[u8]) -> usize
 
 // Program and all in it, with all levels left.
 fn check_program(file: &[u8], marks: &mut [u8], rows: RowCounts, at: usize) -> Answer
-    ensures { λ r. ⌜ past r (now (marks .exit)) ≡ recordF 64 (now (file .entry)) (rows .scopes) (rows .symbols) ProgramPlace PlainRole 0 noTally at (now (marks .entry)) ⌝ }
+    ensures { λ r. ⌜
+        past r (now (marks .exit))
+        ≡ recordF 64 (now (file .entry)) (rows .scopes) (rows .symbols) ProgramPlace PlainRole 0 noTally at (now (marks .entry))
+        ⌝ }
 {
     let place = Place::Program;
     let role = Role::Plain;
