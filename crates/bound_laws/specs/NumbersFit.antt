@@ -17,15 +17,12 @@ use Rattle.meaning.specs.declared.Place.{Place}
 use Rattle.meaning.specs.declared.Field.{Field}
 use Rattle.meaning.specs.Walk.{storeOf, start, visits, treeAt, storeAt}
 use Rattle.spec_laws.specs.Tags.{clash}
+use Rattle.spec_laws.specs.Trees.{Bytes}
 use Rattle.parsing.specs.Parsed.{Parsed, parsed-none, parsed-more}
 use Rattle.parsing.specs.Files.{file-parsed}
 use Rattle.bound_laws.specs.Fits.{walk-fits}
 use Rattle.bound_laws.specs.Numbers.{All, UpTo, HeadWithin, TreeWithin, ScopeWithin, SymbolWithin, StoreWithin, either}
 use Rattle.bound_laws.specs.NumbersVisits.{SpotWithin, settled-within, tree-within, store-within, visits-within}
-
--- every byte is below 256: what a proof has of a `&[u8]`, as `.shared-slice-known .given`
-abbrev pub Bytes : List ℕ → Type 0
-Bytes f = (i : ℕ) → getD f i 0 ≤ 255
 
 -- ---- a field
 

@@ -17,7 +17,7 @@ use Rattle.meaning.specs.Lowering.{admit, lastSpot}
 use Rattle.charge_laws.specs.Counts.Figures.{joined}
 use Rattle.charge_laws.specs.Fit.Accepted.{accepted-charged}
 use Rattle.charge_laws.specs.Fit.Final.{never-above}
-use Rattle.bound_laws.specs.NumbersFit.{Bytes}
+use Rattle.spec_laws.specs.Trees.{Bytes}
 use Rattle.tables.specs.Loops.{turns}
 use Rattle.path.specs.Path.{Tables}
 use Rattle.representation.specs.Spots.Spots.{held}

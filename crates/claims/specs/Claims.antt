@@ -34,7 +34,7 @@ use Rattle.charge_laws.specs.Counts.Figures.{joined}
 use Rattle.charge_laws.specs.Fit.Accepted.{accepted-dues}
 use Rattle.charge_laws.specs.Fit.Ends.{walk-ends}
 use Rattle.charge_laws.specs.Fit.Final.{charges-final}
-use Rattle.bound_laws.specs.NumbersFit.{Bytes}
+use Rattle.spec_laws.specs.Trees.{Bytes}
 use Rattle.figures.specs.Figures.{shownFigures, figuredOf}
 use Rattle.checking.specs.Flat.{checkedOf}
 use Rattle.tables.specs.Loops.{turns}

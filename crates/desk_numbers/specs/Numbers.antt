@@ -11,7 +11,7 @@ use Rattle.start.specs.declared.Started.{Started}
 use Rattle.start.specs.declared.Started.the-variants as started
 use Rattle.start.specs.Start.{Begun}
 use Rattle.walk.specs.Visit.{isOverF}
-use Rattle.desk_numbers.specs.Answers.{refusalNumbers, fineNumbers, startedNumbers as answeredNumbers}
+use Rattle.desk_numbers.specs.Answers.{startedNumbers}
 
 -- ---- where a walk stands
 
@@ -56,21 +56,13 @@ pub record Begins : Type 0 where
 abbrev pub begun : List ℕ → List ℕ → List ℕ → List ℕ → List ℕ → Begins
 begun a w r s y = record { answer = a; walk = w; records = r; scopes = s; symbols = y }
 
--- a refusal leaves the walk's numbers as they were
-abbrev pub startedNumbers : List ℕ → Started → List ℕ → List ℕ → List ℕ → Begins
-startedNumbers old (started.Ready w) = begun fineNumbers (walkNumbers w)
-startedNumbers old (started.Refused c p) = begun (refusalNumbers c p) old
+-- the walk's numbers behind a start: a refusal leaves them as they were
+abbrev pub walkAfter : List ℕ → Started → List ℕ
+walkAfter old (started.Ready w) = walkNumbers w
+walkAfter old (started.Refused c p) = old
 
 abbrev pub begunNumbers : List ℕ → Begun → Begins
-begunNumbers old b = startedNumbers old (b .answer) (b .records) (b .scopes) (b .symbols)
-
--- the answer is the one in 01's numbers
-answer-told : (old : List ℕ) (a : Started) (r s y : List ℕ) → startedNumbers old a r s y .answer ≡ answeredNumbers a
-answer-told old (started.Ready w) r s y = refl
-answer-told old (started.Refused c p) r s y = refl
-
-pub answer-begun : (old : List ℕ) (b : Begun) → begunNumbers old b .answer ≡ answeredNumbers (b .answer)
-answer-begun old b = answer-told old (b .answer) (b .records) (b .scopes) (b .symbols)
+begunNumbers old b = begun (startedNumbers (b .answer)) (walkAfter old (b .answer)) (b .records) (b .scopes) (b .symbols)
 
 -- 1 or 0, the walk's numbers and the tables
 pub record Visits : Type 0 where

@@ -18,7 +18,8 @@ use Rattle.meaning.specs.Lowering.{Lent, checkOutput, admit, admitOutput, lastS
 use Rattle.spec_laws.specs.Tags.{clash}
 use Rattle.charge_laws.specs.Totals.Fits.{accepted-fits}
 use Rattle.bound_laws.specs.Numbers.{TreeWithin}
-use Rattle.bound_laws.specs.NumbersFit.{Bytes, numbers-fit}
+use Rattle.spec_laws.specs.Trees.{Bytes}
+use Rattle.bound_laws.specs.NumbersFit.{numbers-fit}
 use Rattle.figures.specs.Figures.{shownFigures}
 use Rattle.checking.specs.declared.Surveyed.{Surveyed}
 use Rattle.checking.specs.declared.Surveyed.the-variants.{Fine, Refused as RefusedSurvey}

@@ -37,7 +37,7 @@ ofForOf asIs = keep
 ofForOf insert = forOfInsert
 ofForOf wrap = forOfWrap
 
--- A Block below a Try or a Catch is never met here with a using: the visit to its Try took it up.
+-- A Block below a Try, or below a Catch of one, is never met here with a using: the visit to the Try took it up (`part-taken-up`).
 unfoldable pub actOf : List Symbol → Head → Forest → Act
 actOf asRead h k =
     let t = h .tag in

@@ -13,6 +13,7 @@ use Rattle.meaning.specs.Tree.{if_then_else_}
 use Rattle.meaning.specs.File.{twoBytes}
 use Rattle.meaning.specs.Grammar.{two}
 use Rattle.spec_laws.specs.Tags.{and-right}
+use Rattle.spec_laws.specs.Trees.{Bytes}
 use Rattle.notation.specs.Notation.{Part, part, nothing, space, comma, dot, digit0, digit9, colon, fieldFrom, isDigit, isSpace, withDigit, numbered, fielded, dotted, after, read, most, encoded, limit, mayPart, mayStand, spelledFrom, spelled}
 use Rattle.notation.specs.Shown.{decimal, shownByte, shownBytes, numbersIn, shownNumbers, shownField, wholeField, gap, shownFrom, mostShown, shown}
 use Rattle.notation.specs.ShownTurns.{decimal-one, decimal-more, decimal-length, whole-fits, shown-bytes, shown-field, no-field, no-bytes}
@@ -99,10 +100,6 @@ goes-byte b bs h =
     goes-both (decimal 3 b) (part bs [] false 0) (dot ∷ []) (part bs [] true b) (part (bs ++ b ∷ []) [] false 0)
     (goes-decimal 3 b bs [] (omega arith) (omega arith) h (omega arith))
     (goes-one (part bs [] true b) dot (part (bs ++ b ∷ []) [] false 0) refl (rw w))
-
--- each is at most 255, as in every `&[u8]`
-abbrev pub Bytes : List ℕ → Type 0
-Bytes bs = (i : ℕ) → getD bs i 0 ≤ 255
 
 bytes-take : (n : ℕ) (bs : List ℕ) → Bytes bs → Bytes (take n bs)
 bytes-take zero bs h i = omega arith

@@ -33,11 +33,11 @@ use Rattle.meaning.specs.declared.Place.{Place}
 use Rattle.meaning.specs.declared.Place.the-variants.{Settings, ScopeRow, SymbolRow}
 use Rattle.meaning.specs.declared.Field.{Field}
 use Rattle.spec_laws.specs.Tags.{and-left, and-right}
-use Rattle.spec_laws.specs.Trees.{numbers-most}
+use Rattle.spec_laws.specs.Trees.{Bytes, numbers-most}
 use Rattle.parsing.specs.Parsed.{FieldAt, Parsed, parsed-none, parsed-more, ParsedFile}
 use Rattle.parsing.specs.Fields.{only-tag}
 use Rattle.parsing.specs.Files.{file-parsed}
-use Rattle.bound_laws.specs.NumbersFit.{Bytes, tag-most}
+use Rattle.bound_laws.specs.NumbersFit.{tag-most}
 use Rattle.readback_laws.specs.Length.{complete, record-complete}
 
 -- the bytes from one offset to another

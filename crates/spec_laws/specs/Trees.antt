@@ -6,7 +6,7 @@ use mathlib.Core.List.{List, [], _∷_, _++_}
 use Prim.Native.Nat.{ℕ, zero, suc, _+_, _*_, _≤_}
 use native.Mathlib.Omega.{arith}
 use lib.Dec.{eqb}
-use lib.ListN.{length, set, length-set}
+use lib.ListN.{length, getD, set, length-set}
 use lib.Seq.{sets}
 use borrow.Author.Tests.{eqb-true}
 use Rattle.meaning.specs.Numbers.Tag
@@ -42,7 +42,11 @@ pub length-setRow : {X : Type 0} (xs : List X) (s : ℕ) (x : X) → length (set
 length-setRow xs zero x = refl
 length-setRow xs (suc i) x = length-set xs i x
 
--- ---- the bytes of a field
+-- ---- bytes
+
+-- each is at most 255: what a proof has of a `&[u8]`, as `.shared-slice-known .given`
+abbrev pub Bytes : List ℕ → Type 0
+Bytes f = (i : ℕ) → getD f i 0 ≤ 255
 
 most : (b : Bool) (x y : ℕ) → x ≤ 4 → y ≤ 4 → (if b then x else y) ≤ 4
 most true x y p q = p

@@ -107,7 +107,7 @@ parts-none h k r e =
 
 -- if it is a Try, or a Catch of one, no part of it has a using
 abbrev Inside : List Crumb → Node × Store → Type 0
-Inside path e = (eqb (e .0 .head .tag) Tag.Try || (eqb (e .0 .head .tag) Tag.Catch && inTry path)) ≡ true → anyPartUsing (e .0 .children) ≡ false
+Inside path e = Taken (crumb (e .0 .head) none none ∷ path) (e .0 .children)
 
 kept-inside : (path : List Crumb) (h : Head) (k r : Forest) → Idle h k → Taken path (more h k r) → (b c : Bool)
     → eqb (h .tag) Tag.Try ≡ b → eqb (h .tag) Tag.Catch ≡ c → (b || (c && inTry path)) ≡ true → anyPartUsing k ≡ false
@@ -119,7 +119,7 @@ kept-inside path h k r i t false false e f p = absurd (clash refl p)
 -- BY THE VIEW of a visit
 act-inside : {a : Act} {h : Head} {k : Forest} (path : List Crumb) (r : Forest) (cur hoist : ℕ) (st : Store) → Taken path (more h k r)
     → Chosen a h k → Inside path (enterAs a cur hoist h k st)
-unfolding enterAs enterProgram enterFunctionBody enterForOfStatement enterTryStatement transformBlockStatement transformStatements transformForStatement transformSwitchStatement takeUpFor createTryStmt anyUsing isUsing _&_
+unfolding inTry enterAs enterProgram enterFunctionBody enterForOfStatement enterTryStatement transformBlockStatement transformStatements transformForStatement transformSwitchStatement takeUpFor createTryStmt anyUsing isUsing _&_
 act-inside {h = h} {k = k} path r cur hoist st t (kept i) = kept-inside path h k r i t (eqb (h .tag) Tag.Try) (eqb (h .tag) Tag.Catch) refl refl
 act-inside {h = h} {k = k} path r cur hoist st t (as-program e u) =
     at-tag (λ g. Inside path (enterProgram g k st)) h Tag.Program e (λ p. absurd (clash refl p))

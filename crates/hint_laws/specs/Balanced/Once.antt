@@ -9,7 +9,7 @@ use lib.ListN.{length}
 use lib.Dec.{eqb}
 use borrow.Author.Tests.{eqb-true, eq-eqb}
 use Rattle.meaning.specs.Numbers.Tag
-use Rattle.meaning.specs.Tree.{if_then_else_, oneOf, Head, Forest, none, more, one, count, _&_}
+use Rattle.meaning.specs.Tree.{if_then_else_, oneOf, Head, Forest, none, more, count, _&_}
 use Rattle.meaning.specs.File.{File, Symbol}
 use Rattle.meaning.specs.Grammar.{tagsOf, allowed}
 use Rattle.meaning.specs.declared.Place.the-variants.{Program}
@@ -55,7 +55,7 @@ use Rattle.spec_laws.specs.Bools.{or-false}
 use Rattle.charge_laws.specs.VisitCharges.{standing, visitsIn}
 use Rattle.charge_laws.specs.Totals.Roles.{LacksBelow, Regular}
 use Rattle.charge_laws.specs.Totals.Accepted.{accepted-is}
-use Rattle.charge_laws.specs.Counts.Left.{rest, left, left-settle, visit-left}
+use Rattle.charge_laws.specs.Counts.Left.{rest, left, visit-left}
 use Rattle.charge_laws.specs.Counts.Pending.{Pending, ready, pending-visit, pending-start, spot-fits}
 use Rattle.charge_laws.specs.Fit.Placed.{Placed, same-tag, accepted-placed}
 use Rattle.charge_laws.specs.Fit.Orderly.{accepted-orderly}

@@ -9,12 +9,11 @@ use lib.ListN.{length}
 use lib.Dec.{eqb, leb, ltb}
 use borrow.Author.Tests.{leb-true, le-ltb}
 use Rattle.meaning.specs.Numbers.Tag
-use Rattle.meaning.specs.Tree.{if_then_else_, oneOf, Head, hd, Forest, none, more, one, count, row}
+use Rattle.meaning.specs.Tree.{if_then_else_, oneOf, Head, hd, Forest, none, more, one, count}
 use Rattle.meaning.specs.File.{File, numbersOf, hasChildren, ownNumbers, recordNumbers}
 use Rattle.meaning.specs.Reading.{accepted, readFile}
 use Rattle.meaning.specs.Hint.{syncDispose, asyncDispose, hintOf, letterOf}
 use Rattle.meaning.specs.Statements.{isUsing, isAwaitUsing, letterIf}
-use Rattle.meaning.specs.ForOf.{bindsIdentifier}
 use Rattle.spec_laws.specs.Tags.{Seen, other, here, there, seen, and-left}
 use Rattle.hint_laws.specs.Hints.{sumOver, namesOf, ofInitializer, overDeclarators, isExpression, shown, asInSource, ofSource, wanted, letterFor, usingsIn, forOfUsing, asksFor, asked, called, callsIn, calls}
 use Rattle.hint_laws.specs.Requested.Everywhere.{Everywhere, everywhere, sums-same}

@@ -38,7 +38,7 @@ use Rattle.meaning.specs.Lowering.{lastSpot}
 use Rattle.charge_laws.specs.Counts.Enter.{proper}
 use Rattle.charge_laws.specs.Counts.Pending.{Pending, pending-start, pending-visit}
 use Rattle.charge_laws.specs.Fit.Accepted.{accepted-fit}
-use Rattle.bound_laws.specs.NumbersFit.{Bytes}
+use Rattle.spec_laws.specs.Trees.{Bytes}
 use Rattle.bound_laws.specs.Last.{last-spot, last-figures}
 use Rattle.readback_laws.specs.ReadBack.{recordReads, fieldsFor, fieldsOf, read-back, fieldCount, count-++, rows-++, scopes-count, symbols-count}
 use Rattle.readback_laws.specs.Written.{file-written}
