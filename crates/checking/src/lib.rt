@@ -1,6 +1,7 @@
 // Checking a tree file on its bytes, and the figures of what it is lowered to.
 use fields::EXPRESSION_BYTES;
 use fields::HEAD_BYTES;
+use fields::LENGTHS;
 use fields::MENTION_BYTES;
 use fields::NUMBER_A;
 use fields::NUMBER_B;
@@ -46,11 +47,11 @@ const MOST_LEVELS: u16 = 64;
 const MOST_ROWS: usize = 9362;
 
 // The numbers of a leaf in bytes, and the whole field.
-const EXPRESSION_LENGTH: u16 = (EXPRESSION_BYTES - HEAD_BYTES) as u16;
+const EXPRESSION_LENGTH: u16 = LENGTHS[tag::EXPRESSION as usize] as u16;
 
 const EXPRESSION_SIZE: u32 = EXPRESSION_BYTES as u32;
 
-const MENTION_LENGTH: u16 = (MENTION_BYTES - HEAD_BYTES) as u16;
+const MENTION_LENGTH: u16 = LENGTHS[tag::READ as usize] as u16;
 
 const MENTION_SIZE: u32 = MENTION_BYTES as u32;
 

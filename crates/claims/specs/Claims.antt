@@ -19,10 +19,10 @@ use mathlib.Core.List.{List, map}
 use mathlib.Core.Logic.{_⊎_, ⊎-map}
 use Prim.Native.Nat.{ℕ, suc, _+_, _*_, _≤_, _<_}
 use lib.Dec.{eqb, leb}
-use lib.ListN.{length, take}
+use lib.ListN.{length, take, getD}
 use Rattle.meaning.specs.Numbers.Tag
 use Rattle.meaning.specs.Tree.{size, flatten}
-use Rattle.meaning.specs.File.{File, written}
+use Rattle.meaning.specs.File.{File, numbersOf, written}
 use Rattle.meaning.specs.Reading.{Outcome, accepted, refused, readFile}
 use Rattle.meaning.specs.Walk.{isOver, visits, start, treeAt, storeAt, fileAt}
 use Rattle.meaning.specs.Charges.{_⊕_, total, figuresIn, finalFigures}
@@ -52,6 +52,7 @@ use Rattle.readback_laws.specs.Decoded.{treeIn}
 use Rattle.readback_laws.specs.Back.{Childless, hints-back}
 use Rattle.readback_laws.specs.Childless.{accepted-childless}
 use Rattle.readback_laws.specs.Written.{file-written}
+use Rattle.fields.specs.Lengths.{lengths, noTags, lengths-count, lengths-right, lengths-none}
 use Rattle.readback_laws.specs.Loads.Written.{isLoad, loads-written}
 use Rattle.representation.specs.Shown.Shown.{recordsIn, scopesIn, symbolsIn}
 use Rattle.claims.specs.Refusals.Numbers.{read-numbers, figures-numbers, admit-numbers, lower-numbers}
@@ -293,3 +294,12 @@ small-tables = small-refused
 pub only-small-tables : (bytes : List ℕ) (lent : Lent) (out p : ℕ) → lower bytes lent out ≡ refused 9 p
     → (f : File) × (checkFile bytes ≡ accepted f) × Short lent (finalFigures f) × (p ≡ firstShort lent (finalFigures f))
 only-small-tables = refused-small
+
+-- ---- REQUEST 3 of document 02: lengths from a table
+
+-- Every length of a field that the code uses is an entry of one table: `fields::length_of` answers `getD lengths tag 0`. It has the tags 0 to 42;
+-- each entry is 01's length in bytes, two for each number that the tag has, and so is the 0 behind the last;
+-- the tags below 43 that do not exist have 0.
+pub lengths-are-01 : (length lengths ≡ 43) × ((t : ℕ) → getD lengths t 0 ≡ 2 * numbersOf t)
+    × (map (λ t. getD lengths t 0) noTags ≡ map (λ t. 0) noTags)
+lengths-are-01 = (lengths-count, lengths-right, lengths-none)

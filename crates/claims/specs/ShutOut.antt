@@ -1,16 +1,17 @@
--- What 01 shuts out by name. Each wrong lowering is written down here and refuted on a file: it is not 01's.
+-- What 01 shuts out by name, and what the claims on requests shut out. Each wrong lowering is written down here and refuted on a file: it is
+-- not 01's.
 -- Assumes nothing.
 use mathlib.Core.Path.{_≡_, refl, ap, _∙_}
 use mathlib.Core.Bool.{Bool, true, false, _&&_}
-use mathlib.Core.List.{List, [], _∷_}
-use Prim.Native.Nat.{ℕ, zero, suc, _-_}
+use mathlib.Core.List.{List, [], _∷_, map}
+use Prim.Native.Nat.{ℕ, zero, suc, _*_, _-_, _/_}
 use native.Mathlib.Omega.{arith}
 use lib.ListN.{length, getD}
 use lib.Dec.{eqb}
 use Rattle.meaning.specs.Numbers.Tag
 use Rattle.meaning.specs.Numbers.KnownName
 use Rattle.meaning.specs.Tree.{if_then_else_, hd, Forest, none, more}
-use Rattle.meaning.specs.File.{File, Symbol, written}
+use Rattle.meaning.specs.File.{File, Symbol, numbersOf, written}
 use Rattle.meaning.specs.Statements.{wrapInitializer}
 use Rattle.meaning.specs.Reading.{Outcome, accepted, refused, _>>=_, _>>_, readFile}
 use Rattle.meaning.specs.Walk.{Spot, isOver, visits, start, fileAt}
@@ -20,6 +21,7 @@ use Rattle.meaning.specs.Notation.{bytes}
 use Rattle.meaning.specs.Computing.{computing}
 use Rattle.meaning.specs.Hint.{hintOf, letterOf}
 use Rattle.spec_laws.specs.Tags.{clash}
+use Rattle.fields.specs.Lengths.{lengths}
 use Rattle.path.specs.Path.{Tables}
 use Rattle.representation.specs.Spots.Spots.{Rest, held}
 use Rattle.walk.specs.Over.{isOverIn}
@@ -396,3 +398,25 @@ no-wrapped-default e = omega (arith, default-lowered, default-wrapped, ap (λ (l
 
 pub wrapped-not-hinted : Hinted wrappingDefault exporting → ⊥
 wrapped-not-hinted e = omega (arith, default-asked, default-wrapped, e anyCalled)
+
+-- ---- lengths that are none of 01's (excluded by `lengths-are-01`)
+
+-- a table is right if each entry is 01's length in bytes
+abbrev pub RightLengths : List ℕ → Type 0
+RightLengths table = (t : ℕ) → getD table t 0 ≡ 2 * numbersOf t
+
+-- entries that count numbers, not bytes
+unfoldable pub countTable : List ℕ
+countTable = map (λ (n : ℕ). n / 2) lengths
+
+pub no-count-table : RightLengths countTable → ⊥
+unfolding countTable lengths numbersOf
+no-count-table right = omega (arith, right Tag.Program)
+
+-- tags that do not exist passed over with a number
+unfoldable pub filledTable : List ℕ
+filledTable = map (λ (n : ℕ). if eqb n 0 then 2 else n) lengths
+
+pub no-filled-table : RightLengths filledTable → ⊥
+unfolding filledTable lengths numbersOf
+no-filled-table right = omega (arith, right 21)

@@ -1,16 +1,14 @@
 -- Matches over tags: the compiler tests the numbers of an arm one by one, and numbers in a row as a range.
 -- Assumes nothing.
 use mathlib.Core.Path.{_≡_, refl}
-use mathlib.Core.Logic.{inl, inr, ⊎-elim}
-use mathlib.Core.Bool.{Bool, true, false, _||_}
+use mathlib.Core.Logic.{inl, inr}
+use mathlib.Core.Bool.{Bool, false, _||_}
 use mathlib.Core.List.{List, [], _∷_, map}
-use Prim.Native.Nat.{ℕ, zero, suc, _+_, _≤_, _<_}
-use native.Mathlib.Nat.{eq-or-lt-of-le}
-use native.Mathlib.Omega.{arith}
+use Prim.Native.Nat.{ℕ, _+_, _≤_, _<_}
 use types.Run.{OneOf}
-use lib.Dec.{ltb}
-use borrow.Author.Tests.{ltb-true, ltb-false, ne-eqb}
+use borrow.Author.Tests.{ne-eqb}
 use Rattle.meaning.specs.Tree.{if_then_else_, oneOf}
+use Rattle.fields.specs.Ranges.{row, row-at, below-or-not}
 
 -- two functions agree at a key of an arm if they agree at all of them
 pub at-keys : {X : Type 0} (f g : ℕ → X) (ks : List ℕ) (t : ℕ) → map f ks ≡ map g ks → OneOf ks t → f t ≡ g t
@@ -37,34 +35,13 @@ no-arm : (arms : List (List ℕ)) (t : ℕ) → Rest arms t → keyed arms t ≡
 no-arm [] t h = refl
 no-arm (ks ∷ arms) t h = rw (no-key ks t (h .1), no-arm arms t (h .0))
 
--- f at the n numbers from lo on
-abbrev row : {X : Type 0} → (ℕ → X) → ℕ → ℕ → List X
-row f lo zero = []
-row f lo (suc n) = f lo ∷ row f (suc lo) n
-
-row-at : {X : Type 0} (f g : ℕ → X) (lo n t : ℕ) → row f lo n ≡ row g lo n → lo ≤ t → t < lo + n → f t ≡ g t
-row-at f g lo zero t e h l = absurd (omega arith)
-row-at f g lo (suc n) t e h l =
-    ⊎-elim (λ q. cc) (λ q. row-at f g (suc lo) n t (cc) q (omega arith)) (eq-or-lt-of-le h)
-
 -- two functions agree in a range if they agree at all its numbers but the keys of arms
 pub in-range : {X : Type 0} (f g : ℕ → X) (arms : List (List ℕ)) (lo n t : ℕ)
     → row (λ x. if keyed arms x then g x else f x) lo n ≡ row g lo n → Rest arms t → lo ≤ t → t < lo + n → f t ≡ g t
 in-range f g arms lo n t e r h l =
     rw (no-arm arms t r) at (row-at (λ x. if keyed arms x then g x else f x) g lo n t e h l)
 
--- a number above all of a list is none of them
-pub above : (ks : List ℕ) (m t : ℕ) → map (λ k. ltb k m) ks ≡ map (λ _. true) ks → m ≤ t → oneOf ks t ≡ false
-above [] m t e h = refl
-above (k ∷ ks) m t e h =
-    let l : k < m = ltb-true k m (cc) in
-    rw (ne-eqb t k (λ q. omega (arith, l, q)), above ks m t (cc) h)
-
-below-or-not : {X : Type 0} (t m : ℕ) (b : Bool) → ltb t m ≡ b → (t < m → X) → (m ≤ t → X) → X
-below-or-not t m true e below not-below = below (ltb-true t m e)
-below-or-not t m false e below not-below = not-below (ltb-false t m e)
-
 -- two functions agree from a number on if they agree in a range, and behind it
 pub from-on : {X : Type 0} (f g : ℕ → X) (arms : List (List ℕ)) (lo n t : ℕ)
     → row (λ x. if keyed arms x then g x else f x) lo n ≡ row g lo n → (lo + n ≤ t → f t ≡ g t) → Rest arms t → lo ≤ t → f t ≡ g t
-from-on f g arms lo n t e behind r h = below-or-not t (lo + n) (ltb t (lo + n)) refl (λ l. in-range f g arms lo n t e r h l) behind
+from-on f g arms lo n t e behind r h = below-or-not t (lo + n) (λ l. in-range f g arms lo n t e r h l) behind

@@ -13,6 +13,7 @@ ghost use Rattle.meaning.specs.Numbers.Tag;
 ghost use Rattle.meaning.specs.Tree.{oneOf};
 ghost use Rattle.meaning.specs.File.{numbersOf, headBytes, fieldBytes, twoBytes};
 ghost use Rattle.meaning.specs.Grammar.{statements, expressions, allowed, two, number, fieldOf, fieldAt};
+ghost use Rattle.fields.specs.Lengths.{lengths};
 
 // ---- sizes in bytes
 
@@ -32,50 +33,90 @@ pub const NUMBER_C: usize = NUMBER_B + NUMBER_BYTES;
 
 pub const NUMBER_D: usize = NUMBER_C + NUMBER_BYTES;
 
-// A field with so many numbers.
-const ONE_NUMBER: usize = HEAD_BYTES + NUMBER_BYTES;
+// ---- lengths: the table
 
-const TWO_NUMBERS: usize = ONE_NUMBER + NUMBER_BYTES;
+// The bytes of a field's numbers, for each tag; 0 for a tag that does not exist. Every length of a field is taken from here.
+pub const LENGTHS: [u8; 43] = [
+    0, // 0
+    4, // 1 Program
+    4, // 2 Block
+    6, // 3 Plain
+    4, // 4 Label
+    4, // 5 Declaration
+    6, // 6 Declarator
+    4, // 7 For
+    6, // 8 ForOf
+    4, // 9 Switch
+    4, // 10 Case
+    4, // 11 Try
+    8, // 12 Catch
+    8, // 13 Function
+    2, // 14 Body
+    8, // 15 Class
+    4, // 16 StaticBlock
+    6, // 17 ModuleLine
+    2, // 18 DefaultExport
+    2, // 19 ExportedDeclaration
+    4, // 20 Specifier
+    0, // 21
+    0, // 22
+    0, // 23
+    4, // 24 Expression
+    2, // 25 Read
+    2, // 26 Name
+    6, // 27 Call
+    4, // 28 Load
+    6, // 29 Step
+    0, // 30
+    0, // 31
+    0, // 32
+    0, // 33
+    0, // 34
+    0, // 35
+    0, // 36
+    0, // 37
+    0, // 38
+    0, // 39
+    4, // 40 Settings
+    4, // 41 Scope
+    8, // 42 Symbol
+];
 
-const THREE_NUMBERS: usize = TWO_NUMBERS + NUMBER_BYTES;
+// Whole fields by their tags; an export is a DefaultExport or an ExportedDeclaration, and a mention a Read or a Name.
+pub const SETTINGS_BYTES: usize = HEAD_BYTES + (LENGTHS[tag::SETTINGS as usize] as usize);
 
-const FOUR_NUMBERS: usize = THREE_NUMBERS + NUMBER_BYTES;
+pub const SCOPE_BYTES: usize = HEAD_BYTES + (LENGTHS[tag::SCOPE as usize] as usize);
+
+pub const SYMBOL_BYTES: usize = HEAD_BYTES + (LENGTHS[tag::SYMBOL as usize] as usize);
+
+pub const BLOCK_BYTES: usize = HEAD_BYTES + (LENGTHS[tag::BLOCK as usize] as usize);
+
+pub const DECLARATION_BYTES: usize = HEAD_BYTES + (LENGTHS[tag::DECLARATION as usize] as usize);
+
+pub const DECLARATOR_BYTES: usize = HEAD_BYTES + (LENGTHS[tag::DECLARATOR as usize] as usize);
+
+pub const TRY_BYTES: usize = HEAD_BYTES + (LENGTHS[tag::TRY as usize] as usize);
+
+pub const CATCH_BYTES: usize = HEAD_BYTES + (LENGTHS[tag::CATCH as usize] as usize);
+
+pub const MODULE_LINE_BYTES: usize = HEAD_BYTES + (LENGTHS[tag::MODULE_LINE as usize] as usize);
+
+pub const EXPORT_BYTES: usize = HEAD_BYTES + (LENGTHS[tag::DEFAULT_EXPORT as usize] as usize);
+
+pub const SPECIFIER_BYTES: usize = HEAD_BYTES + (LENGTHS[tag::SPECIFIER as usize] as usize);
+
+pub const EXPRESSION_BYTES: usize = HEAD_BYTES + (LENGTHS[tag::EXPRESSION as usize] as usize);
+
+pub const MENTION_BYTES: usize = HEAD_BYTES + (LENGTHS[tag::READ as usize] as usize);
+
+pub const CALL_BYTES: usize = HEAD_BYTES + (LENGTHS[tag::CALL as usize] as usize);
+
+pub const LOAD_BYTES: usize = HEAD_BYTES + (LENGTHS[tag::LOAD as usize] as usize);
+
+pub const STEP_BYTES: usize = HEAD_BYTES + (LENGTHS[tag::STEP as usize] as usize);
 
 // The largest field.
-pub const MOST_FIELD_BYTES: usize = FOUR_NUMBERS;
-
-// Fields by their tags; an export is a DefaultExport or an ExportedDeclaration, and a mention a Read or a Name.
-pub const SETTINGS_BYTES: usize = TWO_NUMBERS;
-
-pub const SCOPE_BYTES: usize = TWO_NUMBERS;
-
-pub const SYMBOL_BYTES: usize = FOUR_NUMBERS;
-
-pub const BLOCK_BYTES: usize = TWO_NUMBERS;
-
-pub const DECLARATION_BYTES: usize = TWO_NUMBERS;
-
-pub const DECLARATOR_BYTES: usize = THREE_NUMBERS;
-
-pub const TRY_BYTES: usize = TWO_NUMBERS;
-
-pub const CATCH_BYTES: usize = FOUR_NUMBERS;
-
-pub const MODULE_LINE_BYTES: usize = THREE_NUMBERS;
-
-pub const EXPORT_BYTES: usize = ONE_NUMBER;
-
-pub const SPECIFIER_BYTES: usize = TWO_NUMBERS;
-
-pub const EXPRESSION_BYTES: usize = TWO_NUMBERS;
-
-pub const MENTION_BYTES: usize = ONE_NUMBER;
-
-pub const CALL_BYTES: usize = THREE_NUMBERS;
-
-pub const LOAD_BYTES: usize = TWO_NUMBERS;
-
-pub const STEP_BYTES: usize = THREE_NUMBERS;
+pub const MOST_FIELD_BYTES: usize = SYMBOL_BYTES;
 
 // ---- bytes and fields
 
@@ -132,36 +173,27 @@ pub fn tag_at(file: &[u8], at: usize) -> u16
     byte(file, at) as u16
 }
 
-// How many numbers a tag has. No arm has two tags in a row, which would be tested as a range: so the compiler makes a table.
+// The bytes of the numbers of a field of this tag, and 0 for a tag that does not exist.
+pub fn length_of(tag: u16) -> u8
+    ensures entry { λ r. ⌜ r ≡ getD lengths tag 0 ⌝ }
+    ensures rule { λ r. ⌜ r ≡ 2 * numbersOf tag ⌝ }
+{
+    let t = tag as usize;
+    if t < LENGTHS.len() { LENGTHS[t] } else { 0 }
+}
+
+// How many numbers a tag has.
 pub fn numbers_of(tag: u16) -> u8
     ensures { λ r. ⌜ r ≡ numbersOf tag ⌝ }
 {
-    match tag {
-        tag::BODY | tag::DEFAULT_EXPORT | tag::READ => 1,
-        tag::EXPORTED_DECLARATION | tag::NAME => 1,
-        tag::PROGRAM
-        | tag::LABEL
-        | tag::FOR
-        | tag::SWITCH
-        | tag::TRY
-        | tag::STATIC_BLOCK
-        | tag::SPECIFIER
-        | tag::EXPRESSION
-        | tag::LOAD
-        | tag::SETTINGS => 2,
-        tag::BLOCK | tag::DECLARATION | tag::CASE | tag::SCOPE => 2,
-        tag::PLAIN | tag::DECLARATOR | tag::FOR_OF | tag::MODULE_LINE | tag::CALL | tag::STEP => 3,
-        tag::CATCH | tag::CLASS | tag::SYMBOL => 4,
-        tag::FUNCTION => 4,
-        _ => 0,
-    }
+    length_of(tag) / 2
 }
 
 // The bytes of a field of this tag.
 pub fn bytes_of(tag: u16) -> u16
     ensures { λ r. ⌜ r ≡ fieldBytes tag ⌝ }
 {
-    (HEAD_BYTES + NUMBER_BYTES * (numbers_of(tag) as usize)) as u16
+    (HEAD_BYTES as u16) + (length_of(tag) as u16)
 }
 
 // ---- which tags a place takes
@@ -313,20 +345,21 @@ fn field_at(file: &[u8], place: Place, at: usize) -> Reading
     if !is_allowed(place, tag) {
         return Reading::Refused(refusal::WRONG_TAG, at);
     }
-    let len = numbers_of(tag);
-    if (two_at(file, at + TAG_BYTES) as usize) != NUMBER_BYTES * (len as usize) {
+    let length = length_of(tag);
+    if two_at(file, at + TAG_BYTES) != (length as u16) {
         return Reading::Refused(refusal::WRONG_LENGTH, at);
     }
-    if file.len() - at - HEAD_BYTES < NUMBER_BYTES * (len as usize) {
+    if file.len() - at - HEAD_BYTES < (length as usize) {
         return Reading::Refused(refusal::CUT, at);
     }
+    let len = numbers_of(tag);
     Reading::Whole(Field {
         tag: tag,
         a: read_number(file, at, len, 0),
         b: read_number(file, at, len, 1),
         c: read_number(file, at, len, 2),
         d: read_number(file, at, len, 3),
-        next: at + (HEAD_BYTES + NUMBER_BYTES * (len as usize)),
+        next: at + (HEAD_BYTES + (length as usize)),
     })
 }
 
@@ -354,7 +387,7 @@ pub fn field_of(file: &[u8], offset: u32) -> Field
         b: number_of(file, at, len, 1),
         c: number_of(file, at, len, 2),
         d: number_of(file, at, len, 3),
-        next: at + (HEAD_BYTES + NUMBER_BYTES * (len as usize)),
+        next: at + (bytes_of(tag) as usize),
     }
 }
 

@@ -45,8 +45,8 @@ pub next-is : (at n : ℕ) (r : Row) → n ≡ fieldBytes (r .tag % 256) → at 
 unfolding fieldBytes
 next-is at n r e = omega (arith, record-length r)
 
-pub next-whole : (at n : ℕ) (r : Row) → n ≡ numbersOf (r .tag % 256) → at + 1 + 2 * n + 2 ≡ at + length (recordField r)
-next-whole at n r e = omega (arith, record-length r)
+pub next-whole : (at len : ℕ) (r : Row) → len ≡ 2 * numbersOf (r .tag % 256) → at + 1 + len + 2 ≡ at + length (recordField r)
+next-whole at len r e = omega (arith, record-length r)
 
 pub next-most : (at at′ first k : ℕ) (r : Row) → at′ ≡ at + length (recordField r) → at ≤ first + mostBytes * k → at′ ≤ first + mostBytes * (k + 1)
 next-most at at′ first k r e h = omega (arith, record-long r)

@@ -1,9 +1,9 @@
 -- A record whose numbers are stored over one another: the bytes are those of the record.
 -- Assumes nothing.
-use mathlib.Core.Path.{_≡_, refl, sym, _∙_}
+use mathlib.Core.Path.{_≡_, refl, _∙_}
 use mathlib.Core.List.{List, [], _∷_}
 use mathlib.Core.Bool.{Bool, true, false}
-use Prim.Native.Nat.{ℕ, zero, suc, _+_, _*_, _-_, _/_, _%_, _≤_}
+use Prim.Native.Nat.{ℕ, zero, suc, _+_, _*_, _-_, _/_, _%_, _≤_, _<_}
 use native.Mathlib.Omega.{arith}
 use lib.ListN.{set}
 use lib.Seq.{sets, set-set, set-comm}
@@ -18,13 +18,13 @@ use Rattle.writing.specs.Stored.{putNumber, field-put}
 
 -- ---- the head
 
-pub head-is : (out : List ℕ) (at t n : ℕ) → n ≤ 4
-    → set (set (set out at t) (at + 1) 0) (at + 2) (2 * n) ≡ sets (set out at t) (at + 1) (twoBytes (2 * n ∷ []))
+pub head-is : (out : List ℕ) (at t len : ℕ) → len < 256
+    → set (set (set out at t) (at + 1) 0) (at + 2) len ≡ sets (set out at t) (at + 1) (twoBytes (len ∷ []))
 unfolding twoBytes
-head-is out at t n h =
+head-is out at t len h =
     let a : suc (at + 1) ≡ at + 2 = omega arith in
-    let d : 2 * n / 256 ≡ 0 = omega arith in
-    let m : 2 * n % 256 ≡ 2 * n = omega arith in
+    let d : len / 256 ≡ 0 = omega arith in
+    let m : len % 256 ≡ len = omega arith in
     rw (a, d, m)
 
 -- ---- the numbers
@@ -97,18 +97,19 @@ over false (suc (suc (suc (suc zero)))) at l r o s m e = four-over false at l r 
 over h (suc (suc (suc (suc (suc n))))) at l r o s m e = absurd (omega arith)
 
 -- A RECORD, its head and then its numbers.
-pub record-over : (r : Row) (n at l : ℕ) (h : Bool) (out : List ℕ) → n ≡ numbersOf (r .tag % 256) → h ≡ hasChildren (r .tag % 256)
-    → (n ≡ 0 → ⊥) → l ≡ at + 1 + 2 * n
-    → numbersOver h at l r (sets (set out at (r .tag % 256)) (at + 1) (twoBytes (2 * n ∷ []))) ≡ sets out at (recordField r)
+pub record-over : (r : Row) (len at l : ℕ) (h : Bool) (out : List ℕ) → len ≡ 2 * numbersOf (r .tag % 256) → h ≡ hasChildren (r .tag % 256)
+    → (len ≡ 0 → ⊥) → l ≡ at + 1 + len
+    → numbersOver h at l r (sets (set out at (r .tag % 256)) (at + 1) (twoBytes (len ∷ []))) ≡ sets out at (recordField r)
 unfolding recordField ownNumbers
-record-over r n at l h out e d s k =
-    over h n at l r _ s (rw e (numbers-most _)) k ∙ rw (e, d) (field-put (r .tag % 256) _ _ _ (r .n) at out)
+record-over r len at l h out e d s k =
+    let n = numbersOf (r .tag % 256) in
+    rw e (over h n at l r _ (λ z. s (omega arith)) (numbers-most _) (omega arith) ∙ rw d (field-put (r .tag % 256) _ _ _ (r .n) at out))
 
 bare : (t a b c d at : ℕ) (out : List ℕ) → numbersOf t ≡ 0
     → sets (set out at t) (at + 1) (twoBytes (2 * 0 ∷ [])) ≡ sets out at (fieldWith t a b c d)
 bare t a b c d at out z = rw z at (field-put t a b c d at out)
 
-pub bare-over : (r : Row) (n at : ℕ) (out : List ℕ) → n ≡ numbersOf (r .tag % 256) → n ≡ 0
-    → sets (set out at (r .tag % 256)) (at + 1) (twoBytes (2 * n ∷ [])) ≡ sets out at (recordField r)
+pub bare-over : (r : Row) (len at : ℕ) (out : List ℕ) → len ≡ 2 * numbersOf (r .tag % 256) → len ≡ 0
+    → sets (set out at (r .tag % 256)) (at + 1) (twoBytes (len ∷ [])) ≡ sets out at (recordField r)
 unfolding recordField
-bare-over r n at out e z = rw z (bare (r .tag % 256) _ _ _ (r .n) at out (sym e ∙ z))
+bare-over r len at out e z = rw z (bare (r .tag % 256) _ _ _ (r .n) at out (omega arith))

@@ -48,7 +48,7 @@ fn put_field(out: &mut [u8], at: usize, tag: u16, a: u16, b: u16, c: u16, d: u16
 {
     let count = fields::numbers_of(tag);
     fields::put(out, at, tag as u8);
-    fields::put_two(out, at + TAG_BYTES, 2 * (count as u16));
+    fields::put_two(out, at + TAG_BYTES, fields::length_of(tag) as u16);
     put_number(out, at, count, 0, a);
     put_number(out, at, count, 1, b);
     put_number(out, at, count, 2, c);
@@ -166,14 +166,14 @@ fn put_two_at(out: &mut [u8], at: usize, v: u16)
     out[at + 1] = (v % 256) as u8;
 }
 
-// A tag, and the length of so many numbers.
-fn put_head(out: &mut [u8], at: usize, tag: u16, count: u8)
-    requires { ⌜ (tag ≤ 255) × (count ≤ 4) × (at + headBytes ≤ length (now out)) ⌝ }
-    ensures { λ _. ⌜ now (out .exit) ≡ sets (set (now (out .entry)) at tag) (at + 1) (twoBytes (2 * count ∷ [])) ⌝ }
+// A tag, and the length of its numbers.
+fn put_head(out: &mut [u8], at: usize, tag: u16, len: u8)
+    requires { ⌜ (tag ≤ 255) × (at + headBytes ≤ length (now out)) ⌝ }
+    ensures { λ _. ⌜ now (out .exit) ≡ sets (set (now (out .entry)) at tag) (at + 1) (twoBytes (len ∷ [])) ⌝ }
 {
     out[at] = tag as u8;
     out[at + 1] = 0;
-    out[at + 2] = 2 * count;
+    out[at + 2] = len;
 }
 
 // The lesser of two offsets.
@@ -227,10 +227,10 @@ fn put_whole(out: &mut [u8], at: usize, r: Row) -> usize
     ensures next { λ e. ⌜ e ≡ at + length (recordField r) ⌝ }
 {
     let tag = r.tag % 256;
-    let count = fields::numbers_of(tag);
-    let last = at + TAG_BYTES + NUMBER_BYTES * (count as usize);
-    put_head(out, at, tag, count);
-    if count == 0 {
+    let len = fields::length_of(tag);
+    let last = at + TAG_BYTES + (len as usize);
+    put_head(out, at, tag, len);
+    if len == 0 {
         return last + NUMBER_BYTES;
     }
     put_numbers(out, at, last, rules::has_children(tag), r);

@@ -1,5 +1,5 @@
 -- `fields::field_at` meets its contract. Assumes nothing.
-use Prim.Native.Nat.{_+_, _*_}
+use Prim.Native.Nat.{_+_}
 use native.Mathlib.Omega.{arith}
 use lib.ListN.{length}
 use borrow.Author.Needs.{needs}
@@ -46,8 +46,8 @@ unfolding fieldAt
 returns-4 c =
     let at-if4 = c in
     let at-two-at = at-if4 .before in
-    let at-numbers-of = at-two-at .before in
-    let at-if3 = at-numbers-of .before in
+    let at-length-of = at-two-at .before in
+    let at-if3 = at-length-of .before in
     let at-is-allowed = at-if3 .before in
     let at-tag-at = at-is-allowed .before in
     let start = at-tag-at .before .before .before .before in
@@ -58,8 +58,8 @@ returns-4 c =
       ← at-tag-at .tag-at .ensures,
       ← at-is-allowed .is-allowed .ensures,
       at-if3 .if3 .left,
-      ← at-numbers-of .numbers-of .ensures,
       ← at-two-at .two-at .ensures,
+      ← at-length-of .length-of .ensures .1,
       ne-eqb _ _ (at-if4 .if4 .taken),
     )
 
@@ -68,8 +68,8 @@ unfolding fieldAt fieldBytes
 returns-5 c =
     let at-if4 = c .before in
     let at-two-at = at-if4 .before in
-    let at-numbers-of = at-two-at .before in
-    let at-if3 = at-numbers-of .before in
+    let at-length-of = at-two-at .before in
+    let at-if3 = at-length-of .before in
     let at-is-allowed = at-if3 .before in
     let at-tag-at = at-is-allowed .before in
     let start = at-tag-at .before .before .before .before in
@@ -80,10 +80,10 @@ returns-5 c =
       ← at-tag-at .tag-at .ensures,
       ← at-is-allowed .is-allowed .ensures,
       at-if3 .if3 .left,
-      ← at-numbers-of .numbers-of .ensures,
       ← at-two-at .two-at .ensures,
+      ← at-length-of .length-of .ensures .1,
       eq-eqb _ _ (at-if4 .if4 .left),
-      lt-ltb (length file) (at + (3 + 2 * at-numbers-of .numbers-of .result)) (omega arith),
+      lt-ltb (length file) (at + (3 + at-length-of .length-of .result)) (omega arith),
     )
 
 returns-6 : tie.Need-returns-6
@@ -92,10 +92,11 @@ returns-6 c =
     let at-read-number3 = c .before in
     let at-read-number2 = at-read-number3 .before in
     let at-read-number = at-read-number2 .before in
-    let at-if4 = at-read-number .before .before in
+    let at-numbers-of = at-read-number .before in
+    let at-if4 = at-numbers-of .before .before in
     let at-two-at = at-if4 .before in
-    let at-numbers-of = at-two-at .before in
-    let at-if3 = at-numbers-of .before in
+    let at-length-of = at-two-at .before in
+    let at-if3 = at-length-of .before in
     let at-is-allowed = at-if3 .before in
     let at-tag-at = at-is-allowed .before in
     let start = at-tag-at .before .before .before .before in
@@ -106,10 +107,11 @@ returns-6 c =
       ← at-tag-at .tag-at .ensures,
       ← at-is-allowed .is-allowed .ensures,
       at-if3 .if3 .left,
-      ← at-numbers-of .numbers-of .ensures,
       ← at-two-at .two-at .ensures,
+      ← at-length-of .length-of .ensures .1,
+      ← at-numbers-of .numbers-of .ensures,
       eq-eqb _ _ (at-if4 .if4 .left),
-      le-ltb (length file) (at + (3 + 2 * at-numbers-of .numbers-of .result)) (omega arith),
+      le-ltb (length file) (at + (3 + at-length-of .length-of .result)) (omega arith),
       ← at-read-number .read-number .ensures,
       ← at-read-number2 .read-number2 .ensures,
       ← at-read-number3 .read-number3 .ensures,
@@ -120,9 +122,7 @@ pub field-at-spec : {M : Type 1} → statement M
 field-at-spec =
     tie.close
     (tie.spec
-    returns (λ c. search needs) returns-2 (λ c κs. search needs) (λ c κs. search needs) returns-3
-    (λ c κs. search needs) (λ c. search needs) (λ c κs. search needs) (λ c. search needs)
-    (λ c. search needs) (λ c. search needs) returns-4 (λ c. search needs) (λ c. search needs)
-    (λ c. search needs) (λ c. search needs) returns-5 (λ c κs. search needs) (λ c κs. search needs)
-    (λ c κs. search needs) (λ c κs. search needs) (λ c. search needs) (λ c. search needs)
-    (λ c. search needs) (λ c. search needs) returns-6)
+    returns (λ c. search needs) returns-2 (λ c κs. search needs) (λ c κs. search needs) returns-3 (λ c κs. search needs)
+    (λ c. search needs) (λ c κs. search needs) (λ c. search needs) returns-4 (λ c. search needs) (λ c. search needs)
+    (λ c. search needs) returns-5 (λ c κs. search needs) (λ c κs. search needs) (λ c κs. search needs)
+    (λ c κs. search needs) (λ c κs. search needs) (λ c. search needs) (λ c. search needs) (λ c. search needs) returns-6)

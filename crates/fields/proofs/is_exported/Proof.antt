@@ -5,7 +5,8 @@ use mathlib.Core.List.{List, [], _∷_}
 use Prim.Native.Nat.{ℕ}
 use native.Mathlib.Omega.{arith}
 use Rattle.meaning.specs.Tree.{oneOf}
-use Rattle.fields.proofs.Laws.{at-keys, above, from-on}
+use Rattle.fields.specs.Ranges.{above}
+use Rattle.fields.proofs.Laws.{at-keys, from-on}
 use Rattle.fields.proofs.is_exported.Statement.{statement}
 use Rattle.fields.proofs.is_exported.Tie as tie
 

@@ -6,7 +6,8 @@ use Prim.Native.Nat.{ℕ}
 use native.Mathlib.Omega.{arith}
 use Rattle.meaning.specs.Tree.{oneOf}
 use Rattle.meaning.specs.Grammar.{expressions}
-use Rattle.fields.proofs.Laws.{at-keys, in-range, above, from-on}
+use Rattle.fields.specs.Ranges.{above}
+use Rattle.fields.proofs.Laws.{at-keys, in-range, from-on}
 use Rattle.fields.proofs.is_expression.Statement.{statement}
 use Rattle.fields.proofs.is_expression.Tie as tie
 

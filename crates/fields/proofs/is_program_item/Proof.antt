@@ -8,7 +8,8 @@ use native.Mathlib.Omega.{arith}
 use borrow.Author.Needs.{needs}
 use Rattle.meaning.specs.Tree.{oneOf}
 use Rattle.meaning.specs.Grammar.{statements}
-use Rattle.fields.proofs.Laws.{in-range, above, from-on}
+use Rattle.fields.specs.Ranges.{above}
+use Rattle.fields.proofs.Laws.{in-range, from-on}
 use Rattle.fields.proofs.is_program_item.Statement.{statement}
 use Rattle.fields.proofs.is_program_item.Tie as tie
 

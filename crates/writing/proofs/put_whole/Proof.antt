@@ -1,6 +1,6 @@
 -- `writing::put_whole` meets its contract. Assumes nothing.
 use mathlib.Core.Path.{refl}
-use Prim.Native.Nat.{_≤_}
+use Prim.Native.Nat.{_%_}
 use native.Mathlib.Omega.{arith}
 use Rattle.spec_laws.specs.Trees.{numbers-most}
 use Rattle.writing.proofs.Laws.{next-whole}
@@ -9,25 +9,21 @@ use borrow.Author.Needs.{needs}
 use Rattle.writing.proofs.put_whole.Statement.{statement}
 use Rattle.writing.proofs.put_whole.Tie as tie
 
-put-head-requires : tie.Need-put-head-requires
-put-head-requires c κs =
-    let at-numbers-of = c .before in
-    (search needs, rw (at-numbers-of .numbers-of .ensures) (numbers-most _), search needs)
-
 returns : tie.Need-returns
 returns c =
     let at-if1 = c in
     let at-put-head = at-if1 .before .before .before in
-    let at-numbers-of = at-put-head .before .before in
-    let at-start = at-numbers-of .before .before .before in
-    (rw (at-put-head .put-head .ensures) (bare-over (at-start .args .r) _ _ _ (at-numbers-of .numbers-of .ensures) (at-if1 .if1 .taken)), next-whole _ _ (at-start .args .r) (at-numbers-of .numbers-of .ensures))
+    let at-length-of = at-put-head .before .before in
+    let at-start = at-length-of .before .before .before in
+    (rw (at-put-head .put-head .ensures) (bare-over (at-start .args .r) _ _ _ (at-length-of .length-of .ensures .1) (at-if1 .if1 .taken)), next-whole _ _ (at-start .args .r) (at-length-of .length-of .ensures .1))
 
 put-numbers-requires : tie.Need-put-numbers-requires
 put-numbers-requires c κs =
     let at-if1 = c .before .before in
-    let at-numbers-of = at-if1 .before .before .before .before .before in
-    let m : at-numbers-of .numbers-of .result ≤ 4 = rw (at-numbers-of .numbers-of .ensures) (numbers-most _) in
-    (search needs, omega (arith, at-if1 .if1 .left), search needs)
+    let at-length-of = at-if1 .before .before .before .before .before in
+    let l = at-length-of .length-of .ensures .1 in
+    let m = numbers-most (at-length-of .before .before .before .args .r .tag % 256) in
+    (search needs, omega (arith, at-if1 .if1 .left), omega (arith, l, m))
 
 returns-2 : tie.Need-returns-2
 returns-2 c =
@@ -35,12 +31,14 @@ returns-2 c =
     let at-has-children = at-put-numbers .before in
     let at-if1 = at-has-children .before .before in
     let at-put-head = at-if1 .before .before .before in
-    let at-numbers-of = at-put-head .before .before in
-    let at-start = at-numbers-of .before .before .before in
-    (rw (at-put-numbers .put-numbers .ensures, at-put-head .put-head .ensures) (record-over (at-start .args .r) _ _ _ _ _ (at-numbers-of .numbers-of .ensures) (at-has-children .has-children .ensures) (at-if1 .if1 .left) refl), next-whole _ _ (at-start .args .r) (at-numbers-of .numbers-of .ensures))
+    let at-length-of = at-put-head .before .before in
+    let at-start = at-length-of .before .before .before in
+    (rw (at-put-numbers .put-numbers .ensures, at-put-head .put-head .ensures) (record-over (at-start .args .r) _ _ _ _ _ (at-length-of .length-of .ensures .1) (at-has-children .has-children .ensures) (at-if1 .if1 .left) refl), next-whole _ _ (at-start .args .r) (at-length-of .length-of .ensures .1))
 
 pub put-whole-spec : {M : Type 1} → statement M
 put-whole-spec =
     tie.close
     (tie.spec
-    (λ c κs. search needs) (λ c. search needs) (λ c. search needs) (λ c. search needs) (λ c. search needs) put-head-requires (λ c. search needs) (λ c. search needs) returns (λ c κs. search needs) put-numbers-requires (λ c. search needs) (λ c. search needs) returns-2)
+    (λ c κs. search needs) (λ c. search needs) (λ c. search needs) (λ c. search needs) (λ c κs. search needs)
+    (λ c. search needs) (λ c. search needs) returns (λ c κs. search needs) put-numbers-requires (λ c. search needs)
+    (λ c. search needs) returns-2)

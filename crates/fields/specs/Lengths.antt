@@ -1,0 +1,60 @@
+-- The table of lengths, and that it is 01's: one test computed over the whole table, which is the rule at each entry.
+-- Assumes nothing.
+use mathlib.Core.Path.{_≡_, refl, ap, _∙_}
+use mathlib.Core.List.{List, [], _∷_, map}
+use Prim.Native.Nat.{ℕ, _*_, _≤_}
+use native.Mathlib.Omega.{arith}
+use lib.ListN.{getD, length}
+use Rattle.meaning.specs.File.{numbersOf}
+use Rattle.fields.specs.Ranges.{row, row-entry, row-behind, above, below-or-not}
+
+-- the bytes of a field's numbers, for each tag from 0 to 42; 0 for a tag that does not exist
+unfoldable pub lengths : List ℕ
+lengths =
+    0 ∷ 4 ∷ 4 ∷ 6 ∷ 4 ∷ 4 ∷ 6 ∷ 4 ∷ 6 ∷ 4
+    ∷ 4 ∷ 4 ∷ 8 ∷ 8 ∷ 2 ∷ 8 ∷ 4 ∷ 6 ∷ 2 ∷ 2
+    ∷ 4 ∷ 0 ∷ 0 ∷ 0 ∷ 4 ∷ 2 ∷ 2 ∷ 6 ∷ 4 ∷ 6
+    ∷ 0 ∷ 0 ∷ 0 ∷ 0 ∷ 0 ∷ 0 ∷ 0 ∷ 0 ∷ 0 ∷ 0
+    ∷ 4 ∷ 4 ∷ 8 ∷ []
+
+-- the tags below 43 that do not exist
+abbrev pub noTags : List ℕ
+noTags = 0 ∷ 21 ∷ 22 ∷ 23 ∷ 30 ∷ 31 ∷ 32 ∷ 33 ∷ 34 ∷ 35 ∷ 36 ∷ 37 ∷ 38 ∷ 39 ∷ []
+
+-- 01's length: two bytes for each number
+abbrev pub lengthOf : ℕ → ℕ
+lengthOf t = 2 * numbersOf t
+
+-- the test
+lengths-test : lengths ≡ row lengthOf 0 43
+unfolding lengths numbersOf
+lengths-test = refl
+
+-- no tag is above 42
+none-behind : (t : ℕ) → 43 ≤ t → 0 ≡ lengthOf t
+unfolding numbersOf
+none-behind t h =
+    rw (
+      above (14 ∷ 18 ∷ 19 ∷ 25 ∷ 26 ∷ []) 43 t refl h,
+      above (1 ∷ 2 ∷ 4 ∷ 5 ∷ 7 ∷ 9 ∷ 10 ∷ 11 ∷ 16 ∷ 20 ∷ 24 ∷ 28 ∷ 40 ∷ 41 ∷ []) 43 t refl h,
+      above (3 ∷ 6 ∷ 8 ∷ 17 ∷ 27 ∷ 29 ∷ []) 43 t refl h,
+      above (12 ∷ 13 ∷ 15 ∷ 42 ∷ []) 43 t refl h,
+    )
+
+pub lengths-behind : (t : ℕ) → 43 ≤ t → getD lengths t 0 ≡ 0
+lengths-behind t h = ap (λ (table : List ℕ). getD table t 0) lengths-test ∙ row-behind lengthOf 0 43 t h
+
+-- the rule, at each entry and behind the last
+pub lengths-right : (t : ℕ) → getD lengths t 0 ≡ lengthOf t
+lengths-right t =
+    below-or-not t 43
+    (λ h. ap (λ (table : List ℕ). getD table t 0) lengths-test ∙ row-entry lengthOf 0 43 t t (omega arith) h)
+    (λ h. lengths-behind t h ∙ none-behind t h)
+
+pub lengths-count : length lengths ≡ 43
+unfolding lengths
+lengths-count = refl
+
+pub lengths-none : map (λ t. getD lengths t 0) noTags ≡ map (λ t. 0) noTags
+unfolding lengths
+lengths-none = refl
