@@ -2,7 +2,7 @@
 -- Assumes nothing.
 use mathlib.Core.Path.{_≡_, refl, ap, _∙_}
 use mathlib.Core.List.{List, [], _∷_, map}
-use Prim.Native.Nat.{ℕ, _*_, _≤_}
+use Prim.Native.Nat.{ℕ, _*_, _/_, _≤_}
 use native.Mathlib.Omega.{arith}
 use lib.ListN.{getD, length}
 use Rattle.meaning.specs.File.{numbersOf}
@@ -24,6 +24,10 @@ noTags = 0 ∷ 21 ∷ 22 ∷ 23 ∷ 30 ∷ 31 ∷ 32 ∷ 33 ∷ 34 ∷ 35 ∷ 36
 -- 01's length: two bytes for each number
 abbrev pub lengthOf : ℕ → ℕ
 lengthOf t = 2 * numbersOf t
+
+-- and how many numbers are in a length
+pub half : {l n : ℕ} → l ≡ 2 * n → n ≡ l / 2
+half e = omega arith
 
 -- the test
 lengths-test : lengths ≡ row lengthOf 0 43

@@ -352,7 +352,7 @@ fn field_at(file: &[u8], place: Place, at: usize) -> Reading
     if file.len() - at - HEAD_BYTES < (length as usize) {
         return Reading::Refused(refusal::CUT, at);
     }
-    let len = numbers_of(tag);
+    let len = length / 2;
     Reading::Whole(Field {
         tag: tag,
         a: read_number(file, at, len, 0),
@@ -380,14 +380,15 @@ pub fn field_of(file: &[u8], offset: u32) -> Field
 {
     let at = offset as usize;
     let tag = tag_at(file, at);
-    let len = numbers_of(tag);
+    let length = length_of(tag);
+    let len = length / 2;
     Field {
         tag: tag,
         a: number_of(file, at, len, 0),
         b: number_of(file, at, len, 1),
         c: number_of(file, at, len, 2),
         d: number_of(file, at, len, 3),
-        next: at + (bytes_of(tag) as usize),
+        next: at + (HEAD_BYTES + (length as usize)),
     }
 }
 

@@ -6,6 +6,7 @@ use borrow.Author.Needs.{needs}
 use borrow.Author.Tests.{eq-eqb, ne-eqb, lt-ltb, le-ltb}
 use Rattle.meaning.specs.File.{fieldBytes}
 use Rattle.meaning.specs.Grammar.{fieldAt, fieldOf}
+use Rattle.fields.specs.Lengths.{half}
 use Rattle.fields.proofs.field_at.Statement.{statement}
 use Rattle.fields.proofs.field_at.Tie as tie
 
@@ -92,8 +93,7 @@ returns-6 c =
     let at-read-number3 = c .before in
     let at-read-number2 = at-read-number3 .before in
     let at-read-number = at-read-number2 .before in
-    let at-numbers-of = at-read-number .before in
-    let at-if4 = at-numbers-of .before .before in
+    let at-if4 = at-read-number .before .before in
     let at-two-at = at-if4 .before in
     let at-length-of = at-two-at .before in
     let at-if3 = at-length-of .before in
@@ -109,7 +109,7 @@ returns-6 c =
       at-if3 .if3 .left,
       ← at-two-at .two-at .ensures,
       ← at-length-of .length-of .ensures .1,
-      ← at-numbers-of .numbers-of .ensures,
+      half (at-length-of .length-of .ensures .1),
       eq-eqb _ _ (at-if4 .if4 .left),
       le-ltb (length file) (at + (3 + at-length-of .length-of .result)) (omega arith),
       ← at-read-number .read-number .ensures,
@@ -125,4 +125,4 @@ field-at-spec =
     returns (λ c. search needs) returns-2 (λ c κs. search needs) (λ c κs. search needs) returns-3 (λ c κs. search needs)
     (λ c. search needs) (λ c κs. search needs) (λ c. search needs) returns-4 (λ c. search needs) (λ c. search needs)
     (λ c. search needs) returns-5 (λ c κs. search needs) (λ c κs. search needs) (λ c κs. search needs)
-    (λ c κs. search needs) (λ c κs. search needs) (λ c. search needs) (λ c. search needs) (λ c. search needs) returns-6)
+    (λ c κs. search needs) (λ c. search needs) (λ c. search needs) (λ c. search needs) returns-6)
