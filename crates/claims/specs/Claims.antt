@@ -1,4 +1,4 @@
--- WHAT IS CLAIMED, demand by demand.
+-- WHAT IS CLAIMED, demand by demand, and then for each request of document 02.
 --
 -- The public functions are `checking::check`, `checking::figures`, `start::start`, `walk::visit` (with `walk::is_over` and `walk::visit_some`)
 -- and `lowering::lower`; crate desk has the calls for C.
@@ -48,11 +48,11 @@ use Rattle.walk.specs.Plain.{visitSomeF, some-visits}
 use Rattle.hint_laws.specs.Hints.{asked, given}
 use Rattle.bound_laws.specs.Last.{last-spot, last-is}
 use Rattle.readback_laws.specs.ReadBack.{fieldsOf, fieldCount, isRecord}
+use Rattle.fields.specs.Lengths.{lengths, noTags, lengths-count, lengths-right, lengths-none}
 use Rattle.readback_laws.specs.Decoded.{treeIn}
 use Rattle.readback_laws.specs.Back.{Childless, hints-back}
 use Rattle.readback_laws.specs.Childless.{accepted-childless}
 use Rattle.readback_laws.specs.Written.{file-written}
-use Rattle.fields.specs.Lengths.{lengths, noTags, lengths-count, lengths-right, lengths-none}
 use Rattle.readback_laws.specs.Loads.Written.{isLoad, loads-written}
 use Rattle.representation.specs.Shown.Shown.{recordsIn, scopesIn, symbolsIn}
 use Rattle.claims.specs.Refusals.Numbers.{read-numbers, figures-numbers, admit-numbers, lower-numbers}
@@ -297,9 +297,8 @@ only-small-tables = refused-small
 
 -- ---- REQUEST 3 of document 02: lengths from a table
 
--- Every length of a field that the code uses is an entry of one table: `fields::length_of` answers `getD lengths tag 0`. It has the tags 0 to 42;
--- each entry is 01's length in bytes, two for each number that the tag has, and so is the 0 behind the last;
--- the tags below 43 that do not exist have 0.
+-- The table of lengths, whose entry at a tag `fields::length_of` answers (`getD lengths tag 0`), has the tags 0 to 42; each entry, and the 0 behind
+-- the last, is 01's length in bytes, two for each number that the tag has; the tags below 43 that do not exist have 0.
 pub lengths-are-01 : (length lengths ≡ 43) × ((t : ℕ) → getD lengths t 0 ≡ 2 * numbersOf t)
     × (map (λ t. getD lengths t 0) noTags ≡ map (λ t. 0) noTags)
 lengths-are-01 = (lengths-count, lengths-right, lengths-none)

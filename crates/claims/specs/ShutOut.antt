@@ -1,5 +1,5 @@
--- What 01 shuts out by name, and what the claims on requests shut out. Each wrong lowering is written down here and refuted on a file: it is
--- not 01's.
+-- What 01 shuts out by name: each wrong lowering is written down here and refuted on a file, it is not 01's. And what the claims on requests
+-- shut out.
 -- Assumes nothing.
 use mathlib.Core.Path.{_≡_, refl, ap, _∙_}
 use mathlib.Core.Bool.{Bool, true, false, _&&_}
@@ -401,7 +401,7 @@ wrapped-not-hinted e = omega (arith, default-asked, default-wrapped, e anyCalled
 
 -- ---- lengths that are none of 01's (excluded by `lengths-are-01`)
 
--- a table is right if each entry is 01's length in bytes
+-- what `lengths-are-01` says of the table
 abbrev pub RightLengths : List ℕ → Type 0
 RightLengths table = (t : ℕ) → getD table t 0 ≡ 2 * numbersOf t
 
@@ -413,7 +413,7 @@ pub no-count-table : RightLengths countTable → ⊥
 unfolding countTable lengths numbersOf
 no-count-table right = omega (arith, right Tag.Program)
 
--- tags that do not exist passed over with a number
+-- a length where no tag is
 unfoldable pub filledTable : List ℕ
 filledTable = map (λ (n : ℕ). if eqb n 0 then 2 else n) lengths
 

@@ -8,7 +8,7 @@ use Prim.Native.Nat.{ℕ, _+_, _≤_, _<_}
 use types.Run.{OneOf}
 use borrow.Author.Tests.{ne-eqb}
 use Rattle.meaning.specs.Tree.{if_then_else_, oneOf}
-use Rattle.fields.specs.Ranges.{row, row-at, below-or-not}
+use Rattle.fields.specs.Ranges.{values, values-agree, below-or-not}
 
 -- two functions agree at a key of an arm if they agree at all of them
 pub at-keys : {X : Type 0} (f g : ℕ → X) (ks : List ℕ) (t : ℕ) → map f ks ≡ map g ks → OneOf ks t → f t ≡ g t
@@ -37,11 +37,11 @@ no-arm (ks ∷ arms) t h = rw (no-key ks t (h .1), no-arm arms t (h .0))
 
 -- two functions agree in a range if they agree at all its numbers but the keys of arms
 pub in-range : {X : Type 0} (f g : ℕ → X) (arms : List (List ℕ)) (lo n t : ℕ)
-    → row (λ x. if keyed arms x then g x else f x) lo n ≡ row g lo n → Rest arms t → lo ≤ t → t < lo + n → f t ≡ g t
+    → values (λ x. if keyed arms x then g x else f x) lo n ≡ values g lo n → Rest arms t → lo ≤ t → t < lo + n → f t ≡ g t
 in-range f g arms lo n t e r h l =
-    rw (no-arm arms t r) at (row-at (λ x. if keyed arms x then g x else f x) g lo n t e h l)
+    rw (no-arm arms t r) at (values-agree (λ x. if keyed arms x then g x else f x) g lo n t e h l)
 
 -- two functions agree from a number on if they agree in a range, and behind it
 pub from-on : {X : Type 0} (f g : ℕ → X) (arms : List (List ℕ)) (lo n t : ℕ)
-    → row (λ x. if keyed arms x then g x else f x) lo n ≡ row g lo n → (lo + n ≤ t → f t ≡ g t) → Rest arms t → lo ≤ t → f t ≡ g t
+    → values (λ x. if keyed arms x then g x else f x) lo n ≡ values g lo n → (lo + n ≤ t → f t ≡ g t) → Rest arms t → lo ≤ t → f t ≡ g t
 from-on f g arms lo n t e behind r h = below-or-not t (lo + n) (λ l. in-range f g arms lo n t e r h l) behind

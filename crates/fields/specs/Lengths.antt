@@ -5,8 +5,9 @@ use mathlib.Core.List.{List, [], _∷_, map}
 use Prim.Native.Nat.{ℕ, _*_, _/_, _≤_}
 use native.Mathlib.Omega.{arith}
 use lib.ListN.{getD, length}
+use Rattle.meaning.specs.Numbers.Tag
 use Rattle.meaning.specs.File.{numbersOf}
-use Rattle.fields.specs.Ranges.{row, row-entry, row-behind, above, below-or-not}
+use Rattle.fields.specs.Ranges.{values, values-entry, values-behind, above, below-or-not}
 
 -- the bytes of a field's numbers, for each tag from 0 to 42; 0 for a tag that does not exist
 unfoldable pub lengths : List ℕ
@@ -30,7 +31,7 @@ pub half : {l n : ℕ} → l ≡ 2 * n → n ≡ l / 2
 half e = omega arith
 
 -- the test
-lengths-test : lengths ≡ row lengthOf 0 43
+lengths-test : lengths ≡ values lengthOf 0 43
 unfolding lengths numbersOf
 lengths-test = refl
 
@@ -39,20 +40,23 @@ none-behind : (t : ℕ) → 43 ≤ t → 0 ≡ lengthOf t
 unfolding numbersOf
 none-behind t h =
     rw (
-      above (14 ∷ 18 ∷ 19 ∷ 25 ∷ 26 ∷ []) 43 t refl h,
-      above (1 ∷ 2 ∷ 4 ∷ 5 ∷ 7 ∷ 9 ∷ 10 ∷ 11 ∷ 16 ∷ 20 ∷ 24 ∷ 28 ∷ 40 ∷ 41 ∷ []) 43 t refl h,
-      above (3 ∷ 6 ∷ 8 ∷ 17 ∷ 27 ∷ 29 ∷ []) 43 t refl h,
-      above (12 ∷ 13 ∷ 15 ∷ 42 ∷ []) 43 t refl h,
+      above (Tag.Body ∷ Tag.DefaultExport ∷ Tag.ExportedDeclaration ∷ Tag.Read ∷ Tag.Name ∷ []) 43 t refl h,
+      above
+          (Tag.Program ∷ Tag.Block ∷ Tag.Label ∷ Tag.Declaration ∷ Tag.For ∷ Tag.Switch ∷ Tag.Case ∷ Tag.Try ∷ Tag.StaticBlock ∷ Tag.Specifier
+          ∷ Tag.Expression ∷ Tag.Load ∷ Tag.Settings ∷ Tag.Scope ∷ [])
+          43 t refl h,
+      above (Tag.Plain ∷ Tag.Declarator ∷ Tag.ForOf ∷ Tag.ModuleLine ∷ Tag.Call ∷ Tag.Step ∷ []) 43 t refl h,
+      above (Tag.Catch ∷ Tag.Function ∷ Tag.Class ∷ Tag.Symbol ∷ []) 43 t refl h,
     )
 
 pub lengths-behind : (t : ℕ) → 43 ≤ t → getD lengths t 0 ≡ 0
-lengths-behind t h = ap (λ (table : List ℕ). getD table t 0) lengths-test ∙ row-behind lengthOf 0 43 t h
+lengths-behind t h = ap (λ (table : List ℕ). getD table t 0) lengths-test ∙ values-behind lengthOf 0 43 t h
 
 -- the rule, at each entry and behind the last
 pub lengths-right : (t : ℕ) → getD lengths t 0 ≡ lengthOf t
 lengths-right t =
     below-or-not t 43
-    (λ h. ap (λ (table : List ℕ). getD table t 0) lengths-test ∙ row-entry lengthOf 0 43 t t (omega arith) h)
+    (λ h. ap (λ (table : List ℕ). getD table t 0) lengths-test ∙ values-entry lengthOf 0 43 t t (omega arith) h)
     (λ h. lengths-behind t h ∙ none-behind t h)
 
 pub lengths-count : length lengths ≡ 43

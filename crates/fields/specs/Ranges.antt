@@ -13,26 +13,26 @@ use borrow.Author.Tests.{ltb-true, ltb-false, ne-eqb}
 use Rattle.meaning.specs.Tree.{oneOf}
 
 -- f at the n numbers from lo on
-abbrev pub row : {X : Type 0} → (ℕ → X) → ℕ → ℕ → List X
-row f lo zero = []
-row f lo (suc n) = f lo ∷ row f (suc lo) n
+abbrev pub values : {X : Type 0} → (ℕ → X) → ℕ → ℕ → List X
+values f lo zero = []
+values f lo (suc n) = f lo ∷ values f (suc lo) n
 
--- two functions agree at a number of a range if they agree at all of them
-pub row-at : {X : Type 0} (f g : ℕ → X) (lo n t : ℕ) → row f lo n ≡ row g lo n → lo ≤ t → t < lo + n → f t ≡ g t
-row-at f g lo zero t e h l = absurd (omega arith)
-row-at f g lo (suc n) t e h l =
-    ⊎-elim (λ q. cc) (λ q. row-at f g (suc lo) n t (cc) q (omega arith)) (eq-or-lt-of-le h)
+-- two functions agree at a number of a range if they agree at all of its numbers
+pub values-agree : {X : Type 0} (f g : ℕ → X) (lo n t : ℕ) → values f lo n ≡ values g lo n → lo ≤ t → t < lo + n → f t ≡ g t
+values-agree f g lo zero t e h l = absurd (omega arith)
+values-agree f g lo (suc n) t e h l =
+    ⊎-elim (λ q. cc) (λ q. values-agree f g (suc lo) n t (cc) q (omega arith)) (eq-or-lt-of-le h)
 
 -- the entry at a place, and behind the last
-pub row-entry : (f : ℕ → ℕ) (lo n k t : ℕ) → lo + k ≡ t → k < n → getD (row f lo n) k 0 ≡ f t
-row-entry f lo zero k t e h = absurd (omega arith)
-row-entry f lo (suc n) zero t e h = ap f (omega arith)
-row-entry f lo (suc n) (suc k) t e h = row-entry f (suc lo) n k t (omega arith) (omega arith)
+pub values-entry : (f : ℕ → ℕ) (lo n k t : ℕ) → lo + k ≡ t → k < n → getD (values f lo n) k 0 ≡ f t
+values-entry f lo zero k t e h = absurd (omega arith)
+values-entry f lo (suc n) zero t e h = ap f (omega arith)
+values-entry f lo (suc n) (suc k) t e h = values-entry f (suc lo) n k t (omega arith) (omega arith)
 
-pub row-behind : (f : ℕ → ℕ) (lo n k : ℕ) → n ≤ k → getD (row f lo n) k 0 ≡ 0
-row-behind f lo zero k h = refl
-row-behind f lo (suc n) zero h = absurd (omega arith)
-row-behind f lo (suc n) (suc k) h = row-behind f (suc lo) n k (omega arith)
+pub values-behind : (f : ℕ → ℕ) (lo n k : ℕ) → n ≤ k → getD (values f lo n) k 0 ≡ 0
+values-behind f lo zero k h = refl
+values-behind f lo (suc n) zero h = absurd (omega arith)
+values-behind f lo (suc n) (suc k) h = values-behind f (suc lo) n k (omega arith)
 
 -- a number above all of a list is none of them
 pub above : (ks : List ℕ) (m t : ℕ) → map (λ k. ltb k m) ks ≡ map (λ _. true) ks → m ≤ t → oneOf ks t ≡ false

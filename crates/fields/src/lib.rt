@@ -1,4 +1,4 @@
-// Fields of a tree file: the field at an offset, whether its tag may stand there, and the file reader.
+// Fields of a tree file: the table of their lengths, the field at an offset, whether its tag may stand there, and the file reader.
 use meaning::Field;
 use meaning::Place;
 use meaning::Reading;
@@ -320,11 +320,11 @@ pub fn is_allowed(place: Place, tag: u16) -> bool
 }
 
 // Number i of the whole field at an offset, or 0 where the field has no such number.
-fn read_number(file: &[u8], at: usize, len: u8, i: u8) -> u16
-    requires { ⌜ at + (headBytes + 2 * len) ≤ length (now file) ⌝ }
-    ensures { λ r. ⌜ r ≡ number (now (file .entry)) at len i ⌝ }
+fn read_number(file: &[u8], at: usize, count: u8, i: u8) -> u16
+    requires { ⌜ at + (headBytes + 2 * count) ≤ length (now file) ⌝ }
+    ensures { λ r. ⌜ r ≡ number (now (file .entry)) at count i ⌝ }
 {
-    if i < len {
+    if i < count {
         let from = at + HEAD_BYTES + NUMBER_BYTES * (i as usize);
         return join(file[from], file[from + 1]);
     }
@@ -352,23 +352,23 @@ fn field_at(file: &[u8], place: Place, at: usize) -> Reading
     if file.len() - at - HEAD_BYTES < (length as usize) {
         return Reading::Refused(refusal::CUT, at);
     }
-    let len = length / 2;
+    let count = length / 2;
     Reading::Whole(Field {
         tag: tag,
-        a: read_number(file, at, len, 0),
-        b: read_number(file, at, len, 1),
-        c: read_number(file, at, len, 2),
-        d: read_number(file, at, len, 3),
+        a: read_number(file, at, count, 0),
+        b: read_number(file, at, count, 1),
+        c: read_number(file, at, count, 2),
+        d: read_number(file, at, count, 3),
         next: at + (HEAD_BYTES + (length as usize)),
     })
 }
 
 // Number i of the field at an offset that may not be whole, or 0 where a field of its tag has no such number.
-fn number_of(file: &[u8], at: usize, len: u8, i: u8) -> u16
+fn number_of(file: &[u8], at: usize, count: u8, i: u8) -> u16
     requires { ⌜ at ≤ 4294967295 ⌝ }
-    ensures { λ r. ⌜ r ≡ number (now (file .entry)) at len i ⌝ }
+    ensures { λ r. ⌜ r ≡ number (now (file .entry)) at count i ⌝ }
 {
-    if i < len {
+    if i < count {
         return two_at(file, at + HEAD_BYTES + NUMBER_BYTES * (i as usize));
     }
     0
@@ -381,13 +381,13 @@ pub fn field_of(file: &[u8], offset: u32) -> Field
     let at = offset as usize;
     let tag = tag_at(file, at);
     let length = length_of(tag);
-    let len = length / 2;
+    let count = length / 2;
     Field {
         tag: tag,
-        a: number_of(file, at, len, 0),
-        b: number_of(file, at, len, 1),
-        c: number_of(file, at, len, 2),
-        d: number_of(file, at, len, 3),
+        a: number_of(file, at, count, 0),
+        b: number_of(file, at, count, 1),
+        c: number_of(file, at, count, 2),
+        d: number_of(file, at, count, 3),
         next: at + (HEAD_BYTES + (length as usize)),
     }
 }

@@ -167,13 +167,13 @@ fn put_two_at(out: &mut [u8], at: usize, v: u16)
 }
 
 // A tag, and the length of its numbers.
-fn put_head(out: &mut [u8], at: usize, tag: u16, len: u8)
+fn put_head(out: &mut [u8], at: usize, tag: u16, bytes: u8)
     requires { ⌜ (tag ≤ 255) × (at + headBytes ≤ length (now out)) ⌝ }
-    ensures { λ _. ⌜ now (out .exit) ≡ sets (set (now (out .entry)) at tag) (at + 1) (twoBytes (len ∷ [])) ⌝ }
+    ensures { λ _. ⌜ now (out .exit) ≡ sets (set (now (out .entry)) at tag) (at + 1) (twoBytes (bytes ∷ [])) ⌝ }
 {
     out[at] = tag as u8;
     out[at + 1] = 0;
-    out[at + 2] = len;
+    out[at + 2] = bytes;
 }
 
 // The lesser of two offsets.
@@ -227,10 +227,10 @@ fn put_whole(out: &mut [u8], at: usize, r: Row) -> usize
     ensures next { λ e. ⌜ e ≡ at + length (recordField r) ⌝ }
 {
     let tag = r.tag % 256;
-    let len = fields::length_of(tag);
-    let last = at + TAG_BYTES + (len as usize);
-    put_head(out, at, tag, len);
-    if len == 0 {
+    let length = fields::length_of(tag);
+    let last = at + TAG_BYTES + (length as usize);
+    put_head(out, at, tag, length);
+    if length == 0 {
         return last + NUMBER_BYTES;
     }
     put_numbers(out, at, last, rules::has_children(tag), r);
