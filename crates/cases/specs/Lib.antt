@@ -1,3 +1,4 @@
--- 01's cases, computed.
+-- The cases of 01 and of the requests, computed.
 pub mod Table
+pub mod TableDepth
 pub mod TableVisits

@@ -1,1 +1,1 @@
-// 01's cases as one table; no code.
+// The cases of 01 and of the requests as tables; no code.

@@ -14,7 +14,7 @@ use borrow.Author.Tests.{ne-eqb, le-leb, lt-leb}
 use Rattle.meaning.specs.Tree.{if_then_else_, hd}
 use Rattle.meaning.specs.File.{numbersOf, fieldBytes}
 use Rattle.meaning.specs.Grammar.{allowed, two, fieldOf, fieldAt, right, scopeOf, headOf, below, childrenOf, mayName, naming, unnamed}
-use Rattle.meaning.specs.Reading.{Outcome, accepted, refused, _>>=_, _>>_, ensure, field, judged, symbolsIn, readRows, andRows, mostRows}
+use Rattle.meaning.specs.Reading.{Outcome, accepted, refused, _>>=_, _>>_, ensure, field, tooDeep, judged, symbolsIn, readRows, andRows, mostRows}
 use Rattle.meaning.specs.declared.Place.{Place}
 use Rattle.meaning.specs.declared.Place.the-variants.{Program}
 use Rattle.meaning.specs.declared.Field.{Field}
@@ -39,7 +39,6 @@ use Rattle.checking.specs.Flat.{
   listF,
   recordF,
   childrenF,
-  kidsF,
   addedF,
   afterF,
   answerOf,
@@ -112,18 +111,35 @@ enter-tagged f syms p cur at m ks t is-tag none key =
     enter-unscoped f syms p cur at m
     (at-keys (λ k. scopeOf (hd k _ _ _)) (λ _. 0) ks (getD f at 0) (none _ _ _) (rw is-tag at key))
 
--- ---- one record: refused on entering, too deep, refused inside, or fine
+-- ---- one record: too deep, refused on entering, refused inside, or fine
+
+-- below the last level
+pub record-deep : (l : ℕ) (f : List ℕ) (scopes syms : ℕ) (p : Place) (u : Role) (cur : ℕ) (t : Tally) (at : ℕ) (m : List ℕ)
+    (a : Answer) → l ≡ 0 → a ≡ answerOf (tooDeep f at) → past a m ≡ recordF l f scopes syms p u cur t at m
+unfolding recordF
+record-deep l f scopes syms p u cur t at m a none answered = rw (none, answered) (both (ltb (length f) (at + 3)))
+  where
+    both : (cut : Bool) → past (answerOf (if cut then refused 2 at else refused 6 at)) m ≡ (if cut then refused 2 at else refused 6 at)
+    both true = refl
+    both false = refl
+
+-- with levels left
+pub record-level : (l : ℕ) (f : List ℕ) (scopes syms : ℕ) (p : Place) (u : Role) (cur : ℕ) (t : Tally) (at : ℕ) (m : List ℕ)
+    (o : Outcome Past) → (l ≡ 0 → ⊥) → o ≡ recordF (suc (l - 1)) f scopes syms p u cur t at m
+    → o ≡ recordF l f scopes syms p u cur t at m
+record-level l f scopes syms p u cur t at m o some e =
+    let s : suc (l - 1) ≡ l = omega arith in
+    rw s at e
 
 -- a record is entered, and then what is left of it
 record-is : (l : ℕ) (f : List ℕ) (scopes syms : ℕ) (p : Place) (u : Role) (cur : ℕ) (t : Tally) (at : ℕ) (m : List ℕ)
-    → recordF l f scopes syms p u cur t at m ≡ afterF l f scopes syms p u cur t at (enterF f syms p cur at m)
+    → recordF (suc l) f scopes syms p u cur t at m ≡ afterF l f scopes syms p u cur t (enterF f syms p cur at m)
 unfolding recordF childrenF afterF
-record-is zero f scopes syms p u cur t at m = refl
-record-is (suc l) f scopes syms p u cur t at m = refl
+record-is l f scopes syms p u cur t at m = refl
 
 pub record-entered : (l : ℕ) (f : List ℕ) (scopes syms : ℕ) (p : Place) (u : Role) (cur : ℕ) (t : Tally) (at : ℕ) (m : List ℕ)
-    (e : Outcome Entered) (o : Outcome Past) → e ≡ enterF f syms p cur at m → o ≡ afterF l f scopes syms p u cur t at e
-    → o ≡ recordF l f scopes syms p u cur t at m
+    (e : Outcome Entered) (o : Outcome Past) → e ≡ enterF f syms p cur at m → o ≡ afterF l f scopes syms p u cur t e
+    → o ≡ recordF (suc l) f scopes syms p u cur t at m
 record-entered l f scopes syms p u cur t at m e o enters after = rw (record-is l f scopes syms p u cur t at m, ← enters, after)
 
 -- with no tally before it
@@ -134,40 +150,31 @@ record-first l f scopes syms p u cur t at m o e none = e ∙ ap (λ (s : Tally).
 -- or refused at once
 pub record-refused : (l : ℕ) (f : List ℕ) (scopes syms : ℕ) (p : Place) (u : Role) (cur : ℕ) (t : Tally) (at : ℕ) (m m₁ : List ℕ)
     (d : Reading) (c q : ℕ) → entered d m₁ ≡ enterF f syms p cur at m → d ≡ RefusedField c q
-    → refused c q ≡ recordF l f scopes syms p u cur t at m
+    → refused c q ≡ recordF (suc l) f scopes syms p u cur t at m
 unfolding afterF
 record-refused l f scopes syms p u cur t at m m₁ d c q enters e =
     rw (record-is l f scopes syms p u cur t at m, ← enters, e)
 
-module _ (l : ℕ) (f : List ℕ) (scopes syms : ℕ) (p : Place) (u : Role) (cur : ℕ) (t : Tally) (at : ℕ) (m₁ : List ℕ)
-    (x : Field) where
-  pub after-deep : l ≡ 0 → refused 6 at ≡ afterF l f scopes syms p u cur t at (entered (Whole x) m₁)
+module _ (l : ℕ) (f : List ℕ) (scopes syms : ℕ) (p : Place) (u : Role) (cur : ℕ) (t : Tally) (m₁ : List ℕ)
+    (x : Field) (a : Answer) (m₂ : List ℕ)
+    (inside : past a m₂ ≡ childrenF l f scopes syms p u x (below cur (scopeOf (headOf x))) m₁) where
+  after-inside : afterF l f scopes syms p u cur t (entered (Whole x) m₁) ≡ past a m₂ >>= addedF f scopes syms u t x
   unfolding afterF
-  after-deep z = rw z
+  after-inside = rw (← inside)
 
-  module _ (a : Answer) (m₂ : List ℕ) (has-level : l ≡ 0 → ⊥)
-      (inside : past a m₂ ≡ childrenF (l - 1) f scopes syms p u x (below cur (scopeOf (headOf x))) m₁) where
-    after-inside : afterF l f scopes syms p u cur t at (entered (Whole x) m₁) ≡ past a m₂ >>= addedF f scopes syms u t x
-    unfolding afterF
-    after-inside =
-        let s : l ≡ suc (l - 1) = omega arith in
-        let k : kidsF l f scopes syms p u cur at x m₁ ≡ past a m₂ =
-        subst (λ (n : ℕ). kidsF n f scopes syms p u cur at x m₁ ≡ past a m₂) (sym s) (sym inside) in
-        rw k
+  pub after-stop : (c q : ℕ) → a ≡ RefusedAnswer c q
+      → past a m₂ ≡ afterF l f scopes syms p u cur t (entered (Whole x) m₁)
+  after-stop c q e = rw (after-inside, e)
 
-    pub after-stop : (c q : ℕ) → a ≡ RefusedAnswer c q
-        → past a m₂ ≡ afterF l f scopes syms p u cur t at (entered (Whole x) m₁)
-    after-stop c q e = rw (after-inside, e)
-
-    pub after-fine : (q : ℕ) (kids : Tally) (inserted : Bool) (sum : Tally) → a ≡ Next q kids
-        → inserted ≡ insertsIn (symbolsIn f syms (7 + 7 * scopes)) u (headOf x)
-        → sum ≡ cap (t ⊞ cap (own u inserted (headOf x) (childrenOf x) kids))
-        → past (Next q sum) m₂ ≡ afterF l f scopes syms p u cur t at (entered (Whole x) m₁)
-    after-fine q kids inserted sum e i r =
-        let w : sum ≡ addF f scopes syms u x t kids =
-        r ∙ ap (λ (b : Bool). cap (t ⊞ cap (own u b (headOf x) (childrenOf x) kids))) i in
-        ap (λ (s : Tally). past (Next q s) m₂) w
-        ∙ sym (after-inside ∙ ap (λ (b : Answer). past b m₂ >>= addedF f scopes syms u t x) e)
+  pub after-fine : (q : ℕ) (kids : Tally) (inserted : Bool) (sum : Tally) → a ≡ Next q kids
+      → inserted ≡ insertsIn (symbolsIn f syms (7 + 7 * scopes)) u (headOf x)
+      → sum ≡ cap (t ⊞ cap (own u inserted (headOf x) (childrenOf x) kids))
+      → past (Next q sum) m₂ ≡ afterF l f scopes syms p u cur t (entered (Whole x) m₁)
+  after-fine q kids inserted sum e i r =
+      let w : sum ≡ addF f scopes syms u x t kids =
+      r ∙ ap (λ (b : Bool). cap (t ⊞ cap (own u b (headOf x) (childrenOf x) kids))) i in
+      ap (λ (s : Tally). past (Next q s) m₂) w
+      ∙ sym (after-inside ∙ ap (λ (b : Answer). past b m₂ >>= addedF f scopes syms u t x) e)
 
 -- ---- records in a row
 

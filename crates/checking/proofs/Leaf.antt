@@ -1,13 +1,13 @@
 -- Leaves: the check of a record accepts what the code passes at once.
 -- Assumes nothing.
 use mathlib.Core.Path.{_≡_, refl, sym, ap, _∙_}
-use mathlib.Core.Bool.{Bool, true, false, not, _&&_}
+use mathlib.Core.Bool.{Bool, true, false, _&&_}
 use mathlib.Core.List.{List}
-use Prim.Native.Nat.{ℕ, suc, _+_, _-_, _*_, _≤_}
+use Prim.Native.Nat.{ℕ, suc, _+_, _*_, _≤_}
 use native.Mathlib.Omega.{arith}
 use lib.Dec.{eqb}
 use lib.ListN.{length, getD}
-use borrow.Author.Tests.{le-ltb, eqb-true, eqb-false, leb-true, not-true}
+use borrow.Author.Tests.{le-ltb, eqb-true, leb-true}
 use Rattle.meaning.specs.Tree.{if_then_else_}
 use Rattle.meaning.specs.File.{numbersOf, hasChildren, ownNumbers, fieldBytes}
 use Rattle.meaning.specs.Grammar.{
@@ -142,13 +142,13 @@ module _ (f : List ℕ) (syms : ℕ) (p : Place) (at : ℕ) where
         inside = s .inside;
       }) none
 
-  leaf-passed : (l : ℕ) (u : Role) → Passed (leafSize f p u syms l at)
+  leaf-passed : (u : Role) → Passed (leafSize f p u syms at)
   unfolding leafSize expressionSize mentionSize numbersOf hasChildren ownNumbers fieldBytes number right scopeOf headOf childrenOf own takesUp takesUpCases getsContext isExport itemsKept isUsing roleIndex
-  leaf-passed l u =
+  leaf-passed u =
       let first : at + 3 + 2 * 0 ≡ at + 3 = omega arith in
       let second : at + 3 + 2 * 1 ≡ at + 5 = omega arith in
       let row = isRow syms (two f (at + 3)) in
-      if-passed (not (eqb l 0) && eqb (roleIndex u) 0) _ 0 (λ _.
+      if-passed (eqb (roleIndex u) 0) _ 0 (λ _.
       if-passed _ _ _ (λ e.
       field-passed 24 2 (eqb (two f (at + 5)) 0) refl (λ _. refl) refl (λ z. rw second (eqb-true _ _ z)) refl (eqb-true _ _ e))
       (if-passed _ _ _ (λ e. field-passed 25 1 row refl (λ r. rw first r) refl (λ _. refl) refl (eqb-true _ _ e))
@@ -181,22 +181,18 @@ plain-is ExportedName e = cc
 plain-is Held e = cc
 plain-is (Body y) e = cc
 
-module _ (l : ℕ) (f : List ℕ) (syms : ℕ) (p : Place) (u : Role) (at size : ℕ) (is-size : size ≡ leafSize f p u syms l at)
+module _ (f : List ℕ) (syms : ℕ) (p : Place) (u : Role) (at size : ℕ) (is-size : size ≡ leafSize f p u syms at)
     (some : size ≡ 0 → ⊥) where
   leaf : Leaf f syms p at size
-  leaf = rw is-size (leaf-passed f syms p at l u (rw is-size at some))
+  leaf = rw is-size (leaf-passed f syms p at u (rw is-size at some))
 
   pub leaf-inside : at + size ≤ length f
   leaf-inside = leaf .inside
 
-  guarded : (l ≡ 0 → ⊥) × (u ≡ Plain)
+  is-plain : u ≡ Plain
   unfolding leafSize
-  guarded =
-      let tests = and-inv _ _ (passes _ _ (rw is-size at some)) in
-      (eqb-false l 0 (not-true _ (tests .0)), plain-is u (eqb-true _ _ (tests .1)))
+  is-plain = plain-is u (eqb-true _ _ (passes _ _ (rw is-size at some)))
 
-  pub leaf-fine : (scopes cur : ℕ) (t : Tally) (m : List ℕ) (sum : Tally) → sum ≡ cap (t ⊞ leafTally size)
-      → past (Next (at + size) sum) m ≡ recordF l f scopes syms p u cur t at m
-  leaf-fine scopes cur t m sum is-sum =
-      let s : l ≡ suc (l - 1) = omega (arith, guarded .0) in
-      rw (s, guarded .1, is-sum) (leaf-record (l - 1) f scopes syms p cur t at m size leaf)
+  pub leaf-fine : (l scopes cur : ℕ) (t : Tally) (m : List ℕ) (sum : Tally) → sum ≡ cap (t ⊞ leafTally size)
+      → past (Next (at + size) sum) m ≡ recordF (suc l) f scopes syms p u cur t at m
+  leaf-fine l scopes cur t m sum is-sum = rw (is-plain, is-sum) (leaf-record l f scopes syms p cur t at m size leaf)

@@ -5,9 +5,10 @@ use mathlib.Core.Bool.{Bool, true, false, _&&_}
 use mathlib.Core.List.{List}
 use Prim.Native.Nat.{ℕ, zero, suc, _+_, _*_}
 use native.Mathlib.Omega.{arith}
-use lib.Dec.{eqb, leb}
+use lib.Dec.{eqb, leb, ltb}
+use lib.ListN.{length}
 use Rattle.meaning.specs.Numbers.Tag
-use Rattle.meaning.specs.Tree.{Head, Forest, more, count}
+use Rattle.meaning.specs.Tree.{if_then_else_, Head, Forest, more, count}
 use Rattle.meaning.specs.File.{Symbol, numbersOf, hasChildren, ownNumbers}
 use Rattle.meaning.specs.Grammar.{
   fieldAt,
@@ -133,10 +134,10 @@ module _ (ys : List Symbol) (ups : ℕ → Role) (k : ℕ) (t : Tally) where
 -- ---- lists
 
 abbrev Inside : Type 0
-Inside = Place → Field → ℕ → ℕ → List ℕ → Outcome Records
+Inside = Place → Field → ℕ → List ℕ → Outcome Records
 
 abbrev InsideF : Type 0
-InsideF = Place → Role → ℕ → ℕ → Entered → Outcome Past
+InsideF = Place → Role → ℕ → Entered → Outcome Past
 
 module _ (f : List ℕ) (scopes syms : ℕ) where
   abbrev pub asRead : List Symbol
@@ -146,22 +147,22 @@ module _ (f : List ℕ) (scopes syms : ℕ) where
   abbrev oneF : InsideF → Place → Role → ℕ → Tally → ℕ → List ℕ → Outcome Past
   oneF insideF p u cur t at m =
       enterF f syms p cur at m >>= (λ e.
-      insideF p u cur at e >>= (λ q.
+      insideF p u cur e >>= (λ q.
       accepted (record { next = q .next; marks = q .marks; tally = addF f scopes syms u (e .field) t (q .tally) })))
 
   -- the record's own tally, from the tree and in the code
   Sums : Inside → Type 0
   Sums inside =
-      (p : Place) (u : Role) (x : Field) (at cur : ℕ) (m : List ℕ) (t : Tally) (kids : Records)
+      (p : Place) (u : Role) (x : Field) (cur : ℕ) (m : List ℕ) (t : Tally) (kids : Records)
       → right p syms x ≡ true
-      → inside p x at cur m ≡ accepted kids
+      → inside p x cur m ≡ accepted kids
       → cap (t ⊞ ownIn asRead u (headOf x) (kids .forest))
       ≡ addF f scopes syms u x (cap t) (cap (noTally ⊞ tallyOf asRead (upsF f u x) 0 (kids .forest)))
 
   link-list : (inside : Inside) (insideF : InsideF)
-      → ((p : Place) (u : Role) (x : Field) (at cur : ℕ) (m : List ℕ)
-      → forget asRead (upsF f u x) 0 noTally (inside p x at (below cur (scopeOf (headOf x))) m)
-      ≡ insideF p u cur at (record { field = x; marks = m }))
+      → ((p : Place) (u : Role) (x : Field) (cur : ℕ) (m : List ℕ)
+      → forget asRead (upsF f u x) 0 noTally (inside p x (below cur (scopeOf (headOf x))) m)
+      ≡ insideF p u cur (record { field = x; marks = m }))
       → Sums inside
       → (place : ℕ → Place) (ups : ℕ → Role) (cur n k : ℕ) (t : Tally) (at : ℕ) (m : List ℕ)
       → forget asRead ups k t (readList inside f syms place cur k n at m)
@@ -173,13 +174,13 @@ module _ (f : List ℕ) (scopes syms : ℕ) where
       after-field asRead ups k t (fieldAt f (place k) at) _ _ _ _ (λ x.
       after-tests asRead ups k t (right (place k) syms x) (mayName f cur m (scopeOf (headOf x))) at _ _ _ _ (λ r.
       after-kids asRead ups k t (headOf x) (upsF f (ups k) x)
-      (inside (place k) x at (below cur (scopeOf (headOf x))) (naming m (scopeOf (headOf x))))
+      (inside (place k) x (below cur (scopeOf (headOf x))) (naming m (scopeOf (headOf x))))
       _
       (addF f scopes syms (ups k) x (cap t))
       (λ q. readList inside f syms place cur (suc k) n (q .next) (q .marks))
       _
-      (hk (place k) (ups k) x at cur (naming m (scopeOf (headOf x))))
-      (λ kids e. hs (place k) (ups k) x at (below cur (scopeOf (headOf x))) (naming m (scopeOf (headOf x))) t kids r e)
+      (hk (place k) (ups k) x cur (naming m (scopeOf (headOf x))))
+      (λ kids e. hs (place k) (ups k) x (below cur (scopeOf (headOf x))) (naming m (scopeOf (headOf x))) t kids r e)
       (λ kids.
       link-list inside insideF hk hs place ups cur n (suc k) (t ⊞ ownIn asRead (ups k) (headOf x) (kids .forest)) (kids .next) (kids .marks)
       ∙ ap (λ (j : ℕ). listF (λ j s a m₁. oneF insideF (place j) (ups j) cur s a m₁) n j
@@ -190,9 +191,9 @@ module _ (f : List ℕ) (scopes syms : ℕ) where
 
   -- ---- with levels left
 
-  sums : (l : ℕ) → Sums (λ p x at cur m. readForest l f syms (placeOf p x) cur 0 (childrenOf x) (x .next) m)
+  sums : (l : ℕ) → Sums (λ p x cur m. readForest l f syms (placeOf p x) cur 0 (childrenOf x) (x .next) m)
   unfolding Sums headOf
-  sums l p u x at cur m t kids r e =
+  sums l p u x cur m t kids r e =
       let q = forest-parsed f syms l (placeOf p x) cur 0 (childrenOf x) (x .next) m kids e in
       ap (λ (n : ℕ). cap (t ⊞ own u (insertsIn asRead u (headOf x)) (headOf x) n (tallyOf asRead (roleOf u (x .tag) (isUsing (headOf x)) (bodyOf (kids .forest))) 0 (kids .forest))))
       (q .1)
@@ -201,23 +202,25 @@ module _ (f : List ℕ) (scopes syms : ℕ) where
       ∙ sym (add-cap t u (insertsIn asRead u (headOf x)) (headOf x) (childrenOf x) (tallyOf asRead (upsF f u x) 0 (kids .forest)))
       ∙ ap (λ (s : Tally). addF f scopes syms u x (cap t) (cap s)) (sym (none-⊞ (tallyOf asRead (upsF f u x) 0 (kids .forest))))
 
-  no-sums : Sums (λ p x at cur m. refused 6 at)
-  unfolding Sums
-  no-sums p u x at cur m t kids r e = absurd (let z : _≡_ {A = ℕ} 0 1 = cc in omega arith)
+  -- below the last level
+  link-deep : (ups : ℕ → Role) (k : ℕ) (t : Tally) (at : ℕ) (cut : Bool) (rest : Past → Outcome Past)
+      → forget asRead ups k t (if cut then refused 2 at else refused 6 at) ≡ (if cut then refused 2 at else refused 6 at) >>= rest
+  link-deep ups k t at true rest = refl
+  link-deep ups k t at false rest = refl
 
   pub link-forest : (l : ℕ) (place : ℕ → Place) (ups : ℕ → Role) (cur n k : ℕ) (t : Tally) (at : ℕ) (m : List ℕ)
       → forget asRead ups k t (readForest l f syms place cur k n at m)
       ≡ listF (λ j s a m₁. recordF l f scopes syms (place j) (ups j) cur s a m₁) n k (cap t) at m
-  unfolding readForest recordF
-  link-forest zero place ups cur n k t at m =
-      link-list (λ p x at cur m. refused 6 at) (λ p u cur at e. refused 6 at) (λ p u x at cur m. refl) no-sums place ups cur n k t at m
+  unfolding readForest recordF listF tallyOf
+  link-forest zero place ups cur zero k t at m = ap (λ (s : Tally). accepted (record { next = at; marks = m; tally = cap s })) (⊞-none t)
+  link-forest zero place ups cur (suc n) k t at m = link-deep ups k t at (ltb (length f) (at + 3)) _
   link-forest (suc l) place ups cur n k t at m =
       link-list
-      (λ p x at cur m. readForest l f syms (placeOf p x) cur 0 (childrenOf x) (x .next) m)
-      (λ p u cur at e.
+      (λ p x cur m. readForest l f syms (placeOf p x) cur 0 (childrenOf x) (x .next) m)
+      (λ p u cur e.
       listF
       (λ j s a m₁. recordF l f scopes syms (placeOf p (e .field) j) (upsF f u (e .field) j) (below cur (scopeOf (headOf (e .field)))) s a m₁)
       (childrenOf (e .field)) 0 noTally (e .field .next) (e .marks))
-      (λ p u x at cur m. link-forest l (placeOf p x) (upsF f u x) (below cur (scopeOf (headOf x))) (childrenOf x) 0 noTally (x .next) m)
+      (λ p u x cur m. link-forest l (placeOf p x) (upsF f u x) (below cur (scopeOf (headOf x))) (childrenOf x) 0 noTally (x .next) m)
       (sums l)
       place ups cur n k t at m

@@ -1,7 +1,7 @@
 -- What the check computes: the reader's answers and marks, with no tree.
 -- Assumes nothing.
 use Prim.Native.Nat.{ℕ, zero, suc, _+_, _*_, min}
-use mathlib.Core.Bool.{Bool, true, false, not, _&&_}
+use mathlib.Core.Bool.{Bool, true, false, _&&_}
 use mathlib.Core.List.{List, [], _∷_}
 use lib.Dec.{eqb, leb}
 use lib.ListN.{getD, length, replicate}
@@ -11,7 +11,7 @@ use Rattle.meaning.specs.Numbers.Mode
 use Rattle.meaning.specs.Numbers.Refusal
 use Rattle.meaning.specs.Tree.{if_then_else_, oneOf}
 use Rattle.meaning.specs.Grammar.{index, allowed, two, fieldAt, isRow, right, scopeOf, below, childrenOf, placeOf, headOf, mayName, naming, unnamed}
-use Rattle.meaning.specs.Reading.{Outcome, accepted, refused, _>>=_, _>>_, ensure, field, judged, symbolsIn, readScopes, readSymbols, mostBytes}
+use Rattle.meaning.specs.Reading.{Outcome, accepted, refused, _>>=_, _>>_, ensure, field, tooDeep, judged, symbolsIn, readScopes, readSymbols, mostBytes}
 use Rattle.meaning.specs.declared.Place.{Place}
 use Rattle.meaning.specs.declared.Place.the-variants.{
   Settings,
@@ -78,10 +78,10 @@ unfoldable pub mentionSize : List ℕ → Place → ℕ → ℕ → ℕ → ℕ
 mentionSize f p syms tag at = if isWhole f p tag 2 at && isRow syms (two f (at + 3)) then 5 else 0
 
 -- the bytes of the leaf at an offset, or 0 where there is none
-unfoldable pub leafSize : List ℕ → Place → Role → ℕ → ℕ → ℕ → ℕ
-leafSize f p u syms l at =
+unfoldable pub leafSize : List ℕ → Place → Role → ℕ → ℕ → ℕ
+leafSize f p u syms at =
     let tag = getD f at 0 in
-    if not (eqb l 0) && eqb (roleIndex u) 0
+    if eqb (roleIndex u) 0
     then (if eqb tag 24 then expressionSize f p at
     else if eqb tag 25 then mentionSize f p syms 25 at
     else if eqb tag 26 then mentionSize f p syms 26 at
@@ -138,9 +138,7 @@ listF one (suc n) k t at m = do
 
 -- one record, with levels left; it is `u` to the one around it, and the tally before it is t
 unfoldable pub recordF : ℕ → List ℕ → ℕ → ℕ → Place → Role → ℕ → Tally → ℕ → List ℕ → Outcome Past
-recordF zero f scopes syms p u cur t at m = do
-  e ← enterF f syms p cur at m
-  refused 6 at
+recordF zero f scopes syms p u cur t at m = tooDeep f at
 recordF (suc l) f scopes syms p u cur t at m = do
   e ← enterF f syms p cur at m
   q ←
@@ -159,21 +157,16 @@ unfoldable pub childrenF : ℕ → List ℕ → ℕ → ℕ → Place → Role �
 childrenF l f scopes syms p u x cur m =
     listF (λ k t a m₁. recordF l f scopes syms (placeOf p x k) (upsF f u x k) cur t a m₁) (childrenOf x) 0 noTally (x .next) m
 
--- the same with the levels of the record itself
-abbrev pub kidsF : ℕ → List ℕ → ℕ → ℕ → Place → Role → ℕ → ℕ → Field → List ℕ → Outcome Past
-kidsF zero f scopes syms p u cur at x m = refused 6 at
-kidsF (suc l) f scopes syms p u cur at x m = childrenF l f scopes syms p u x (below cur (scopeOf (headOf x))) m
-
 -- a record behind its children
 abbrev pub addedF : List ℕ → ℕ → ℕ → Role → Tally → Field → Past → Outcome Past
 addedF f scopes syms u t x q =
     accepted (record { next = q .next; marks = q .marks; tally = addF f scopes syms u x t (q .tally) })
 
--- what is left of recordF when a record was entered
-unfoldable pub afterF : ℕ → List ℕ → ℕ → ℕ → Place → Role → ℕ → Tally → ℕ → Outcome Entered → Outcome Past
-afterF l f scopes syms p u cur t at o = do
+-- what is left of a record that was entered, with levels left for its children
+unfoldable pub afterF : ℕ → List ℕ → ℕ → ℕ → Place → Role → ℕ → Tally → Outcome Entered → Outcome Past
+afterF l f scopes syms p u cur t o = do
   e ← o
-  q ← kidsF l f scopes syms p u cur at (e .field) (e .marks)
+  q ← childrenF l f scopes syms p u (e .field) (below cur (scopeOf (headOf (e .field)))) (e .marks)
   addedF f scopes syms u t (e .field) q
 
 -- ---- the whole file

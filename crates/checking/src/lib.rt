@@ -23,20 +23,20 @@ use meaning::refusal;
 use meaning::tag;
 ghost use mathlib.Core.Path.{_≡_};
 ghost use mathlib.Core.Bool.{_||_};
-ghost use Prim.Native.Nat.{_+_, _≤_, min};
+ghost use Prim.Native.Nat.{suc, _+_, _≤_, min};
 ghost use lib.ListN.{getD, length, replicate};
 ghost use lib.Dec.{eqb};
 ghost use Rattle.meaning.specs.Tree.{if_then_else_};
 ghost use Rattle.meaning.specs.Grammar.{two, mayName, naming, unnamed};
 ghost use Rattle.meaning.specs.Numbers.Tag;
-ghost use Rattle.meaning.specs.Reading.{scopeAt, symbolAt, mostRows, readScopes, readSymbols, readFile};
+ghost use Rattle.meaning.specs.Reading.{tooDeep, scopeAt, symbolAt, mostRows, readScopes, readSymbols, readFile};
 ghost use Rattle.meaning.specs.Lowering.{checkFile, figuresOf};
 ghost use Rattle.figures.specs.Figures.{figuredOf};
 ghost use Rattle.meaning.specs.declared.Reading.the-variants.{Whole as WholeField};
 ghost use Rattle.meaning.specs.declared.Place.the-variants.{Program as ProgramPlace};
 ghost use Rattle.figures.specs.declared.tally.Role.the-variants.{Plain as PlainRole};
 ghost use Rattle.figures.specs.Tally.{noTally};
-ghost use Rattle.checking.specs.Flat.{expressionAt, expressionHere, rightAt, isWhole, expressionSize, mentionSize, leafSize, entered, enterF, past, recordF, childrenF, afterF, treeF, withRecords, runAnswer, symbolsF, rowsF, settingsF, fileF, checkedOf};
+ghost use Rattle.checking.specs.Flat.{expressionAt, expressionHere, rightAt, isWhole, expressionSize, mentionSize, leafSize, entered, enterF, past, recordF, childrenF, afterF, answerOf, treeF, withRecords, runAnswer, symbolsF, rowsF, settingsF, fileF, checkedOf};
 ghost use Rattle.checking.specs.Survey.{withFigures, surveyedOf};
 
 // A file holds so many bytes at most, and its records so many levels; more rows than such a file has.
@@ -245,12 +245,9 @@ fn mention_size(file: &[u8], place: Place, symbols: usize, tag: u16, at: usize) 
 }
 
 // The bytes of the leaf at an offset, or 0 where there is none or its check could refuse it.
-fn leaf_size(file: &[u8], place: Place, up: Role, symbols: usize, levels: u16, at: usize) -> u32
-    ensures { λ r. ⌜ r ≡ leafSize (now (file .entry)) place up symbols levels at ⌝ }
+fn leaf_size(file: &[u8], place: Place, up: Role, symbols: usize, at: usize) -> u32
+    ensures { λ r. ⌜ r ≡ leafSize (now (file .entry)) place up symbols at ⌝ }
 {
-    if levels == 0 {
-        return 0;
-    }
     if !tally::is_plain(up) {
         return 0;
     }
@@ -324,46 +321,48 @@ fn takes_expression(file: &[u8], place: Place, at: usize) -> bool
 
 // ---- the cycle: a record's children are statements, expressions and parts of them
 
-// What is left of a record when its field was entered: its children and its tally.
+// A record below the last level: refused whatever its head says, once that is there.
+fn too_deep(file: &[u8], at: usize) -> Answer
+    ensures { λ r. ⌜ r ≡ answerOf (tooDeep (now (file .entry)) at) ⌝ }
+{
+    if file.len() <= at {
+        return Answer::Refused(refusal::CUT, at);
+    }
+    if file.len() - at < HEAD_BYTES {
+        return Answer::Refused(refusal::CUT, at);
+    }
+    Answer::Refused(refusal::TOO_DEEP, at)
+}
+
+// What is left of a record when its field was entered: its children, with so many levels left for them, and its tally.
 fn check_entered(
     file: &[u8],
     marks: &mut [u8],
     rows: RowCounts,
     site: Site,
-    done: Progress,
+    before: Tally,
     levels: u16,
     x: Field,
 ) -> Answer
     ensures { λ r. ⌜
         past r (now (marks .exit))
-        ≡ afterF levels (now (file .entry)) (rows .scopes) (rows .symbols) (site .place) (site .role) (site .scope .0) (done .tally) (done .at) (entered (WholeField x) (now (marks .entry)))
+        ≡ afterF levels (now (file .entry)) (rows .scopes) (rows .symbols) (site .place) (site .role) (site .scope .0) before (entered (WholeField x) (now (marks .entry)))
         ⌝ }
 {
-    if levels == 0 {
-        return Answer::Refused(refusal::TOO_DEEP, done.at);
-    }
     let place = site.place;
     let role = site.role;
     let around = site.scope;
     let scope = rules::scope_below(around, rules::scope_in(x));
-    let inside = check_children(
-        file,
-        marks,
-        rows,
-        Site { place, role, scope },
-        x,
-        levels - 1,
-    );
+    let inside = check_children(file, marks, rows, Site { place, role, scope }, x, levels);
     let Answer::Next(next, kids) = inside else {
         return inside;
     };
     let inserted = tally::inserts(file, rows.scopes, rows.symbols, role, x);
-    let before = done.tally;
     Answer::Next(next, tally::add_record(before, role, inserted, x, kids))
 }
 
 // A statement, what else stands in Program or a list, or a part of one: Declarators, Cases, Catches, Bodies, StaticBlocks, Specifiers. Most
-// of them name a scope.
+// of them name a scope. So many levels are left for its children.
 fn check_statement(
     file: &[u8],
     marks: &mut [u8],
@@ -374,20 +373,20 @@ fn check_statement(
 ) -> Answer
     ensures { λ r. ⌜
         past r (now (marks .exit))
-        ≡ recordF levels (now (file .entry)) (rows .scopes) (rows .symbols) (site .place) (site .role) (site .scope .0) (done .tally) (done .at) (now (marks .entry))
+        ≡ recordF (suc levels) (now (file .entry)) (rows .scopes) (rows .symbols) (site .place) (site .role) (site .scope .0) (done .tally) (done .at) (now (marks .entry))
         ⌝ }
 {
     let place = site.place;
     let scope = site.scope;
     let read = enter_record(file, marks, rows.symbols as usize, place, scope, done.at);
     match read {
-        Reading::Whole(x) => check_entered(file, marks, rows, site, done, levels, x),
+        Reading::Whole(x) => check_entered(file, marks, rows, site, done.tally, levels, x),
         Reading::Refused(c, p) => Answer::Refused(c, p),
     }
 }
 
 // An expression: an Expression, a Read, a Call, a Load, or a Function or Class of form 1. An Expression without children and a Read are
-// leaves and passed at once, and so is a Name, though it is a part of a Declarator or a Catch.
+// leaves and passed at once, and so is a Name, though it is a part of a Declarator or a Catch. So many levels are left for its children.
 fn check_expression(
     file: &[u8],
     marks: &mut [u8],
@@ -398,14 +397,14 @@ fn check_expression(
 ) -> Answer
     ensures { λ r. ⌜
         past r (now (marks .exit))
-        ≡ recordF levels (now (file .entry)) (rows .scopes) (rows .symbols) (site .place) (site .role) (site .scope .0) (done .tally) (done .at) (now (marks .entry))
+        ≡ recordF (suc levels) (now (file .entry)) (rows .scopes) (rows .symbols) (site .place) (site .role) (site .scope .0) (done .tally) (done .at) (now (marks .entry))
         ⌝ }
 {
     let place = site.place;
     let role = site.role;
     let scope = site.scope;
     let symbols = rows.symbols as usize;
-    let size = leaf_size(file, place, role, symbols, levels, done.at);
+    let size = leaf_size(file, place, role, symbols, done.at);
     if size != 0 {
         let next = done.at + (size as usize);
         let before = done.tally;
@@ -413,12 +412,12 @@ fn check_expression(
     }
     let read = enter_expression(file, marks, symbols, place, scope, done.at);
     match read {
-        Reading::Whole(x) => check_entered(file, marks, rows, site, done, levels, x),
+        Reading::Whole(x) => check_entered(file, marks, rows, site, done.tally, levels, x),
         Reading::Refused(c, p) => Answer::Refused(c, p),
     }
 }
 
-// A child at its place: an expression, or a statement or a part of one.
+// A child at its place: too deep, an expression, or a statement or a part of one.
 fn check_child(
     file: &[u8],
     marks: &mut [u8],
@@ -432,11 +431,14 @@ fn check_child(
         ≡ recordF levels (now (file .entry)) (rows .scopes) (rows .symbols) (site .place) (site .role) (site .scope .0) (done .tally) (done .at) (now (marks .entry))
         ⌝ }
 {
+    if levels == 0 {
+        return too_deep(file, done.at);
+    }
     let place = site.place;
     if takes_expression(file, place, done.at) {
-        return check_expression(file, marks, rows, site, done, levels);
+        return check_expression(file, marks, rows, site, done, levels - 1);
     }
-    check_statement(file, marks, rows, site, done, levels)
+    check_statement(file, marks, rows, site, done, levels - 1)
 }
 
 // The children of a record at `site`, one after another; the site's scope is that around the children.
@@ -599,10 +601,9 @@ fn check_program(file: &[u8], marks: &mut [u8], rows: RowCounts, at: usize) -> A
     let scope = ScopeId(0);
     let tally = tally::no_tally();
     let site = Site { place, role, scope };
-    let done = Progress { at, tally };
     let read = enter_record(file, marks, rows.symbols as usize, place, scope, at);
     match read {
-        Reading::Whole(x) => check_entered(file, marks, rows, site, done, MOST_LEVELS, x),
+        Reading::Whole(x) => check_entered(file, marks, rows, site, tally, MOST_LEVELS - 1, x),
         Reading::Refused(c, p) => Answer::Refused(c, p),
     }
 }

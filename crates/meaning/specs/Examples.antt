@@ -1,8 +1,8 @@
 -- Small files, computed: each holds the definitions to a rule of 01. All of 01's cases are in crates/cases.
 -- Assumes nothing.
 use mathlib.Core.Path.{_≡_, refl}
-use mathlib.Core.List.{List, [], _∷_}
-use Prim.Native.Nat.{ℕ}
+use mathlib.Core.List.{List, [], _∷_, _++_}
+use Prim.Native.Nat.{ℕ, zero, suc}
 use Prim.Native.String.{String}
 use lib.ListN.{take}
 use Rattle.meaning.specs.Numbers.SymbolFlag
@@ -31,6 +31,15 @@ gives r s y c b text = accepted (record { file = bytes text; figures = figures r
 abbrev wholeCase : List ℕ
 wholeCase = bytes "40:1,0 41:0,16 41:1,0 42:10,6,2,0 1:1,1 2:2,1 5:3,1 6:0,1,2 26:1 24:7,0"
 
+-- so many Expressions in each other, the innermost without its child
+unfoldable pub nested : ℕ → List ℕ
+nested zero = []
+nested (suc n) = bytes "24:1,1" ++ nested n
+
+-- Program, a Label and so many Expressions in each other
+abbrev pub deep : ℕ → List ℕ
+deep n = bytes "40:1,0 41:0,16 1:1,1 3:0,1,1" ++ nested n
+
 -- ---- reading
 
 -- a field's head is three bytes
@@ -57,6 +66,15 @@ named-once = refl
 pub unnamed-row : readFile (bytes "40:1,0 41:0,16 41:1,0 41:1,0 41:1,0 1:1,1 2:3,0") ≡ refused 5 14
 unfolding computing
 unnamed-row = refl
+
+-- a record at level 65 is too deep before its tag is looked at, once its head is there
+pub deep-tag : readFile (deep 62 ++ bytes "2:1,0") ≡ refused 6 464
+unfolding nested computing
+deep-tag = refl
+
+pub deep-cut-head : readFile (deep 62 ++ 24 ∷ 4 ∷ []) ≡ refused 2 464
+unfolding nested computing
+deep-cut-head = refl
 
 -- ---- figures and rows
 

@@ -4,12 +4,12 @@ use mathlib.Core.List.{List, [], _∷_}
 use mathlib.Core.Bool.{Bool, true, false, _||_, _&&_}
 use Prim.Native.Nat.{ℕ, zero, suc, _+_, _*_}
 use lib.ListN.{length, getD, replicate}
-use lib.Dec.{eqb, leb}
+use lib.Dec.{eqb, leb, ltb}
 use Rattle.meaning.specs.Numbers.Tag
 use Rattle.meaning.specs.Numbers.Mode
 use Rattle.meaning.specs.Numbers.Refusal
 use Rattle.meaning.specs.Tree.{if_then_else_, Forest, none, more}
-use Rattle.meaning.specs.File.{Scope, scopeRow, Symbol, symbolRow, File, settingsBytes, scopeBytes, symbolBytes}
+use Rattle.meaning.specs.File.{Scope, scopeRow, Symbol, symbolRow, File, headBytes, settingsBytes, scopeBytes, symbolBytes}
 use Rattle.meaning.specs.Grammar.{
   fieldAt,
   two,
@@ -70,25 +70,30 @@ pub record Records : Type 0 where
 abbrev records : Forest → ℕ → List ℕ → Records
 records t at m = record { forest = t; next = at; marks = m }
 
--- n records from child k on, each at its place, below the scope `cur`. `inside` reads a record's children: it is handed the record, its place and
--- offset, the scope below it and the marks.
+-- n records from child k on, each at its place, below the scope `cur`. `inside` reads a record's children: it is handed the record, its place,
+-- the scope below it and the marks.
 unfoldable pub readList
-    : (Place → Field → ℕ → ℕ → List ℕ → Outcome Records)
+    : (Place → Field → ℕ → List ℕ → Outcome Records)
     → List ℕ → ℕ → (ℕ → Place) → ℕ → ℕ → ℕ → ℕ → List ℕ → Outcome Records
 readList inside f syms place cur k zero at m = accepted (records none at m)
 readList inside f syms place cur k (suc n) at m = do
   x ← field (fieldAt f (place k) at)
   ensure (right (place k) syms x) Refusal.WrongNumber at
   ensure (mayName f cur m (scopeOf (headOf x))) Refusal.WrongNumber at
-  kids ← inside (place k) x at (below cur (scopeOf (headOf x))) (naming m (scopeOf (headOf x)))
+  kids ← inside (place k) x (below cur (scopeOf (headOf x))) (naming m (scopeOf (headOf x)))
   beside ← readList inside f syms place cur (suc k) n (kids .next) (kids .marks)
   accepted (records (more (headOf x) (kids .forest) (beside .forest)) (beside .next) (beside .marks))
 
--- with so many levels left: a record below the last is refused
+-- a record below the last level: whatever its head says, once it is there (02, request 6)
+abbrev pub tooDeep : {A : Type 0} → List ℕ → ℕ → Outcome A
+tooDeep f at = if ltb (length f) (at + headBytes) then refused Refusal.Cut at else refused Refusal.TooDeep at
+
+-- with so many levels left
 unfoldable pub readForest : ℕ → List ℕ → ℕ → (ℕ → Place) → ℕ → ℕ → ℕ → ℕ → List ℕ → Outcome Records
-readForest zero f syms = readList (λ p x at cur m. refused Refusal.TooDeep at) f syms
-readForest (suc l) f syms =
-    readList (λ p x at cur m. readForest l f syms (placeOf p x) cur 0 (childrenOf x) (x .next) m) f syms
+readForest zero f syms place cur k zero at m = accepted (records none at m)
+readForest zero f syms place cur k (suc n) at m = tooDeep f at
+readForest (suc l) f syms place cur k n at m =
+    readList (λ p x cur m. readForest l f syms (placeOf p x) cur 0 (childrenOf x) (x .next) m) f syms place cur k n at m
 
 -- ---- the rows
 
@@ -153,15 +158,15 @@ abbrev pub rows : Rows → Outcome Counted
 rows (Read k at) = accepted (record { number = k; next = at })
 rows (RefusedRows c p) = refused c p
 
--- The checks in their order: 1; field by field; 7; 5 for the lowest unnamed row.
-unfoldable pub readFile : List ℕ → Outcome File
-readFile f = do
+-- The checks in their order: 1; field by field; 7; 5 for the lowest unnamed row. The tree is read by `forest`.
+abbrev pub readWith : (List ℕ → ℕ → (ℕ → Place) → ℕ → ℕ → ℕ → ℕ → List ℕ → Outcome Records) → List ℕ → Outcome File
+readWith forest f = do
   ensure (leb (length f) mostBytes) Refusal.TooLong mostBytes
   settings ← field (fieldAt f Settings 0)
   ensure (leb (settings .a) Mode.Inline && leb (settings .b) 1) Refusal.WrongNumber 0
   scopes ← rows (readScopes f (settings .next))
   symbols ← rows (readSymbols f (scopes .number) (scopes .next))
-  program ← readForest mostLevels f (symbols .number) (λ _. Program) 0 0 1 (symbols .next) (replicate (scopes .number) 0)
+  program ← forest f (symbols .number) (λ _. Program) 0 0 1 (symbols .next) (replicate (scopes .number) 0)
   ensure (leb (length f) (program .next)) Refusal.BytesBehind (program .next)
   ensure (leb (scopes .number) (unnamed (program .marks))) Refusal.WrongNumber (settingsBytes + scopeBytes * unnamed (program .marks))
   accepted
@@ -172,3 +177,6 @@ readFile f = do
         symbols = symbolsIn f (symbols .number) (scopes .next);
         tree = program .forest;
       })
+
+unfoldable pub readFile : List ℕ → Outcome File
+readFile f = readWith (readForest mostLevels) f

@@ -8,7 +8,7 @@ use borrow.Author.Needs.{needs}
 use Rattle.meaning.specs.Grammar.{placeOf}
 use Rattle.checking.specs.Flat.{upsF, listF, recordF, childrenF}
 use Rattle.checking.proofs.Leaf.{leaf-inside, leaf-fine}
-use Rattle.checking.proofs.Laws.{record-entered, record-refused, after-deep, after-stop, after-fine, list-step, list-stop, list-end}
+use Rattle.checking.proofs.Laws.{record-deep, record-level, record-entered, record-refused, after-stop, after-fine, list-step, list-stop, list-end}
 use borrow.Fn.Kinds.{In}
 use borrow.Fn.PlainCycle.{Measures, is, falls, and}
 use Rattle.checking.proofs.check_child.Reads as check-child
@@ -30,6 +30,7 @@ use Rattle.checking.proofs.enter_expression.Reads as enter-expression-r
 use Rattle.checking.proofs.enter_record.Reads as enter-record-reads
 use Rattle.checking.proofs.leaf_size.Reads as leaf-size-reads
 use Rattle.checking.proofs.takes_expression.Reads as takes-expression-reads
+use Rattle.checking.proofs.too_deep.Reads as too-deep-reads
 use Rattle.rules.proofs.children_of.Reads as children-of-reads
 use Rattle.rules.proofs.place_of.Reads as place-of-reads
 use Rattle.rules.proofs.scope_in.Reads as scope-in-reads
@@ -42,22 +43,22 @@ use Rattle.figures.proofs.tally.role_in.Reads as role-in-reads
 use Rattle.checking.proofs.+check_child+check_children+check_entered+check_expression+check_statement.{statement}
 use Rattle.checking.proofs.+check_child+check_children+check_entered+check_expression+check_statement.Tie.{close}
 
--- an entered record hands its children a level less; a list asks for its children, a child for its record, and a record for
--- what is left of it, with the same levels
+-- a child is a record with a level less for its children; a record asks for what is left of it, that for its list of children, and a list for
+-- its children, with the same levels
 abbrev μ-check-child : Measures 2 check-child-kinds.ps ℕ
-μ-check-child κs a = 4 * a .1 .1 .1 .1 .1 .0 + 2
+μ-check-child κs a = 4 * a .1 .1 .1 .1 .1 .0
 
 abbrev μ-check-children : Measures 2 check-children-kinds.ps ℕ
-μ-check-children κs a = 4 * a .1 .1 .1 .1 .1 .0 + 3
+μ-check-children κs a = 4 * a .1 .1 .1 .1 .1 .0 + 1
 
 abbrev μ-check-entered : Measures 2 check-entered-kinds.ps ℕ
-μ-check-entered κs a = 4 * a .1 .1 .1 .1 .1 .0
+μ-check-entered κs a = 4 * a .1 .1 .1 .1 .1 .0 + 2
 
 abbrev μ-check-expression : Measures 2 check-expression-kinds.ps ℕ
-μ-check-expression κs a = 4 * a .1 .1 .1 .1 .1 .0 + 1
+μ-check-expression κs a = 4 * a .1 .1 .1 .1 .1 .0 + 3
 
 abbrev μ-check-statement : Measures 2 check-statement-kinds.ps ℕ
-μ-check-statement κs a = 4 * a .1 .1 .1 .1 .1 .0 + 1
+μ-check-statement κs a = 4 * a .1 .1 .1 .1 .1 .0 + 3
 
 -- what each is given at the measure t, and what a call of it asks below t
 abbrev check-child-at : ℕ → In 2 check-child-kinds.ps
@@ -93,6 +94,8 @@ check-statement-below t = and 2 check-statement-kinds.ps (falls 2 check-statemen
 -- the contracts of what each calls
 abbrev check-child-calls : ℕ → check-child-lts.Claims
 check-child-calls t = (
+  too-deep-reads.Asked,
+  too-deep-reads.Learnt,
   takes-expression-reads.Asked,
   takes-expression-reads.Learnt,
   check-expression-below t,
@@ -151,11 +154,19 @@ check-statement-calls t = (
 
 check-child-returns : (t : ℕ)
     → check-child-lts.Need-returns (check-child-calls t) (check-child-at t) check-child.Post
-check-child-returns t c = c .before .before .check-expression .ensures
+check-child-returns t c = record-deep _ _ _ _ _ _ _ _ _ _ _ (c .before .if1 .taken) (c .too-deep .ensures)
 
 check-child-returns-2 : (t : ℕ)
     → check-child-lts.Need-returns-2 (check-child-calls t) (check-child-at t) check-child.Post
-check-child-returns-2 t c = c .before .before .check-statement .ensures
+check-child-returns-2 t c =
+    let at-check-expression = c .before .before in
+    record-level _ _ _ _ _ _ _ _ _ _ _ (at-check-expression .before .before .before .before .if1 .left) (at-check-expression .check-expression .ensures)
+
+check-child-returns-3 : (t : ℕ)
+    → check-child-lts.Need-returns-3 (check-child-calls t) (check-child-at t) check-child.Post
+check-child-returns-3 t c =
+    let at-check-statement = c .before .before in
+    record-level _ _ _ _ _ _ _ _ _ _ _ (at-check-statement .before .before .before .before .if1 .left) (at-check-statement .check-statement .ensures)
 
 abbrev check-children-Inv-loop : check-children-lts.InvT-loop
 check-children-Inv-loop file marks₀ rows x levels n around role scope at₀ t₀ k₀ marks at t k =
@@ -223,31 +234,23 @@ check-children-returns-2 t c =
 
 check-entered-returns : (t : ℕ)
     → check-entered-lts.Need-returns (check-entered-calls t) (check-entered-at t) check-entered.Post
-check-entered-returns t c = after-deep _ _ _ _ _ _ _ _ _ _ _ (c .if1 .taken)
+check-entered-returns t c =
+    let at-check-children = c .before .before .before .before in
+    let at-scope-below = at-check-children .before .before in
+    let at-scope-in = at-scope-below .before in
+    after-stop _ _ _ _ _ _ _ _ _ _ (at-check-children .check-children .result) _
+    (rw (← at-scope-in .scope-in .ensures, ← at-scope-below .scope-below .ensures)
+    (at-check-children .check-children .ensures)) _ _ (c .enum-told .given .1)
 
 check-entered-returns-2 : (t : ℕ)
     → check-entered-lts.Need-returns-2 (check-entered-calls t) (check-entered-at t) check-entered.Post
 check-entered-returns-2 t c =
-    let at-check-children = c .before .before .before .before in
-    let at-scope-below = at-check-children .before .before in
-    let at-scope-in = at-scope-below .before in
-    let at-if1 = at-scope-in .before .before in
-    after-stop _ _ _ _ _ _ _ _ _ _ _ (at-check-children .check-children .result) _
-    (at-if1 .if1 .left)
-    (rw (← at-scope-in .scope-in .ensures, ← at-scope-below .scope-below .ensures)
-    (at-check-children .check-children .ensures)) _ _ (c .enum-told .given .1)
-
-check-entered-returns-3 : (t : ℕ)
-    → check-entered-lts.Need-returns-3 (check-entered-calls t) (check-entered-at t) check-entered.Post
-check-entered-returns-3 t c =
-    let at-inserts = c .before .before in
+    let at-inserts = c .before in
     let at-inside = at-inserts .before .before in
     let at-check-children = at-inside .before .before .before .before in
     let at-scope-below = at-check-children .before .before in
     let at-scope-in = at-scope-below .before in
-    let at-if1 = at-scope-in .before .before in
-    after-fine _ _ _ _ _ _ _ _ _ _ _ (at-check-children .check-children .result) _
-    (at-if1 .if1 .left)
+    after-fine _ _ _ _ _ _ _ _ _ _ (at-check-children .check-children .result) _
     (rw (← at-scope-in .scope-in .ensures, ← at-scope-below .scope-below .ensures)
     (at-check-children .check-children .ensures)) _ _ _ _ (at-inside .inside .given .1) (at-inserts .inserts .ensures)
     (c .add-record .ensures)
@@ -257,7 +260,7 @@ check-expression-add-next : (t : ℕ)
 check-expression-add-next t c =
     let at-if1 = c .before in
     let at-leaf-size = at-if1 .before in
-    let fits = leaf-inside _ _ _ _ _ _ _ (at-leaf-size .leaf-size .ensures) (at-if1 .if1 .taken) in
+    let fits = leaf-inside _ _ _ _ _ _ (at-leaf-size .leaf-size .ensures) (at-if1 .if1 .taken) in
     omega arith
 
 check-expression-returns : (t : ℕ)
@@ -265,7 +268,7 @@ check-expression-returns : (t : ℕ)
 check-expression-returns t c =
     let at-if1 = c .before .before .before in
     let at-leaf-size = at-if1 .before in
-    leaf-fine _ _ _ _ _ _ _ (at-leaf-size .leaf-size .ensures) (at-if1 .if1 .taken) _ _ _ _ _ (c .add-leaf .ensures)
+    leaf-fine _ _ _ _ _ _ (at-leaf-size .leaf-size .ensures) (at-if1 .if1 .taken) _ _ _ _ _ _ (c .add-leaf .ensures)
 
 check-expression-same-length : (t : ℕ)
     → check-expression-lts.Need-same-length (check-expression-calls t) (check-expression-at t) check-expression.Post
@@ -318,11 +321,11 @@ pub +check-child+check-children+check-entered+check-expression+check-statement-s
     close
     μ-check-child μ-check-children μ-check-entered μ-check-expression μ-check-statement
     (λ t. check-child-lts.spec (check-child-calls t) (check-child-at t) check-child.Post
-    (λ c κs. search needs) (λ c κs. search needs) (λ c. search needs) (check-child-returns t) (λ c κs. search needs) (λ c. search needs) (check-child-returns-2 t))
+    (λ c κs. search needs) (check-child-returns t) (λ c κs. search needs) (λ c. search needs) (λ c κs. search needs) (λ c. search needs) (check-child-returns-2 t) (λ c. search needs) (λ c κs. search needs) (λ c. search needs) (check-child-returns-3 t))
     (λ t. check-children-lts.spec (check-children-calls t) (check-children-at t) check-children.Post
     check-children-Inv-loop check-children-μ-loop (λ c κs. search needs) (λ c κs. search needs) (check-children-loop-holds t) (λ c κs. search needs) (λ c κs. search needs) (λ c κs. search needs) (λ c. search needs) (λ c. search needs) (check-children-same-length t) (check-children-returns t) (λ c. search needs) (λ c. search needs) (check-children-loop-again t) (λ c. search needs) (check-children-returns-2 t))
     (λ t. check-entered-lts.spec (check-entered-calls t) (check-entered-at t) check-entered.Post
-    (check-entered-returns t) (λ c κs. search needs) (λ c κs. search needs) (λ c. search needs) (λ c κs. search needs) (λ c. search needs) (λ c. search needs) (λ c. search needs) (check-entered-returns-2 t) (λ c κs. search needs) (λ c κs. search needs) (λ c. search needs) (check-entered-returns-3 t))
+    (λ c κs. search needs) (λ c κs. search needs) (λ c κs. search needs) (λ c. search needs) (λ c. search needs) (λ c. search needs) (check-entered-returns t) (λ c κs. search needs) (λ c κs. search needs) (λ c. search needs) (check-entered-returns-2 t))
     (λ t. check-expression-lts.spec (check-expression-calls t) (check-expression-at t) check-expression.Post
     (λ c. search needs) (λ c κs. search needs) (λ c. search needs) (check-expression-add-next t) (λ c κs. search needs) (check-expression-returns t) (λ c κs. search needs) (λ c. search needs) (λ c κs. search needs) (λ c. search needs) (check-expression-same-length t) (check-expression-returns-2 t) (λ c. search needs) (check-expression-returns-3 t))
     (λ t. check-statement-lts.spec (check-statement-calls t) (check-statement-at t) check-statement.Post
