@@ -34,7 +34,7 @@ enum {
     DESK_WRONG_TAG = 3,      /* a tag that is not allowed there */
     DESK_WRONG_LENGTH = 4,   /* a length that is not its tag's */
     DESK_WRONG_NUMBER = 5,   /* a number outside its rule, or a scope row that no record names */
-    DESK_TOO_DEEP = 6,       /* deeper than 64 records */
+    DESK_TOO_DEEP = 6,       /* deeper than 64 records, whatever the record is */
     DESK_BYTES_BEHIND = 7,   /* bytes behind the tree; place the first of them */
     DESK_INLINE_HELPER = 8,  /* inline mode, and something to lower; place 0 */
     DESK_SMALL_TABLE = 9,    /* too few rows; place 0 records, 1 scopes, 2 symbols, the first that is short */

@@ -411,6 +411,15 @@ fn wrapper(tag: u8) -> Option<u8> {
     }
 }
 
+/// A wrong number, tag or length.
+fn spoil(rng: &mut Rng, field: &mut [u8]) {
+    match rng.below(3) {
+        0 => set_number(field, 1, 2),
+        1 => field[0] = any_tag(rng),
+        _ => field[2] ^= 2,
+    }
+}
+
 /// Labels or expressions around a record, sometimes about as many as the depth allows.
 fn nest(rng: &mut Rng, fields: &mut Fields, at: usize) {
     let found = (at..fields.fields.len())
@@ -424,10 +433,15 @@ fn nest(rng: &mut Rng, fields: &mut Fields, at: usize) {
     let mut new = Vec::new();
     field(&mut new, around, &[rng.between(0, 9), 1]);
     let mut wrappers = vec![new; times];
-    if rng.chance(50) {
-        // A wrong number about where it becomes too deep.
-        if let Some(wrong) = wrappers.get_mut(56 + rng.place(9)) {
-            set_number(wrong, 1, 2);
+    let near = 56 + rng.place(9);
+    if near < times && rng.chance(50) {
+        // Something wrong about where it becomes too deep, or the file ends there.
+        if rng.chance(75) {
+            spoil(rng, &mut wrappers[near]);
+        } else {
+            wrappers.truncate(near + 1);
+            wrappers[near].truncate(rng.place(7));
+            fields.fields.truncate(at);
         }
     }
     fields.fields.splice(at..at, wrappers);

@@ -272,12 +272,6 @@ impl Parser<'_> {
             }
             _ => scope,
         };
-        if depth > MAX_DEPTH {
-            return Err(Refusal {
-                number: 6,
-                place: field.at,
-            });
-        }
         let mark = if place == Place::TryPart {
             Mark::TryPart
         } else {
@@ -419,7 +413,20 @@ impl Parser<'_> {
         (0..count).try_for_each(|_| self.one(family, place))
     }
 
+    /// Depth comes right after the three bytes of a head, whatever they say.
+    fn within_depth(&self, depth: usize) -> Result<(), Refusal> {
+        if depth <= MAX_DEPTH {
+            return Ok(());
+        }
+        let has_head = self.file.len() >= self.at + 3;
+        Err(Refusal {
+            number: if has_head { 6 } else { 2 },
+            place: self.at,
+        })
+    }
+
     fn one(&mut self, family: &mut Family, place: Place) -> Result<(), Refusal> {
+        self.within_depth(family.depth)?;
         let field = self.field(place.tags())?;
         let child = self.record(&field, place, family.scope, family.depth)?;
         if family.last.is_none() {

@@ -30,6 +30,7 @@ use Rattle.meaning.specs.Due.{dues}
 use Rattle.charge_laws.specs.VisitCharges.{visitCharges}
 use Rattle.meaning.specs.Lowering.{Lent, Written, checkFile, figuresOf, admit, lastSpot, lower}
 use Rattle.cases.specs.Table.{table, table-holds}
+use Rattle.cases.specs.TableDepth.{depthTable, depth-holds}
 use Rattle.charge_laws.specs.Counts.Figures.{joined}
 use Rattle.charge_laws.specs.Fit.Accepted.{accepted-dues}
 use Rattle.charge_laws.specs.Fit.Ends.{walk-ends}
@@ -55,6 +56,7 @@ use Rattle.readback_laws.specs.Childless.{accepted-childless}
 use Rattle.readback_laws.specs.Written.{file-written}
 use Rattle.readback_laws.specs.Loads.Written.{isLoad, loads-written}
 use Rattle.representation.specs.Shown.Shown.{recordsIn, scopesIn, symbolsIn}
+use Rattle.claims.specs.Depth.{readDeep, depthFirst, readBefore, Changed, depth-is-first, answer-changed, still-accepted, once-accepted}
 use Rattle.claims.specs.Refusals.Numbers.{read-numbers, figures-numbers, admit-numbers, lower-numbers}
 use Rattle.claims.specs.Refusals.Small.{Short, firstShort, small-refused, refused-small, lower-total, short-output, enough-output}
 use Rattle.lowering.specs.declared.Lowered.{Lowered}
@@ -302,3 +304,25 @@ only-small-tables = refused-small
 pub lengths-are-01 : (length lengths ≡ 43) × ((t : ℕ) → getD lengths t 0 ≡ 2 * numbersOf t)
     × (map (λ t. getD lengths t 0) noTags ≡ map (λ t. 0) noTags)
 lengths-are-01 = (lengths-count, lengths-right, lengths-none)
+
+-- ---- REQUEST 6 of document 02: depth before the rest
+
+-- Every reader here reads as `readFile` does up to level 64 (`readDeep`), and differs in what it answers for a record at level 65. The
+-- reader of before, `readBefore`, judged the record's field and numbers first, and then its depth.
+pub record DepthFirst (read : List ℕ → Outcome File) : Type 0 where
+  -- now: 2 where the three bytes of its head are not there, else 6, whatever they say
+  pub deep : (bytes : List ℕ) → read bytes ≡ readDeep depthFirst bytes
+  -- so each answer is the one of before, or it is 6 where there was 2 for a cut payload, 3, 4 or 5, at the same place
+  pub changed : (bytes : List ℕ) → Changed bytes (readBefore bytes) (read bytes)
+
+pub depth-first : DepthFirst readFile
+depth-first = record { deep = depth-is-first; changed = answer-changed }
+
+-- What was accepted still is, as the same file, and nothing else is.
+pub depth-accepts : (bytes : List ℕ) (f : File)
+    → (readBefore bytes ≡ accepted f → readFile bytes ≡ accepted f) × (readFile bytes ≡ accepted f → readBefore bytes ≡ accepted f)
+depth-accepts bytes f = (still-accepted bytes (answer-changed bytes), once-accepted bytes (answer-changed bytes))
+
+-- The cases on depth, as a table: 64 levels, and at level 65 a right record, 3, 4, 5, a cut payload, bytes that are no field, a cut head, none.
+pub depth-cases-hold : map (λ c. lower (c .input) (c .rows) (c .output)) depthTable ≡ map (λ c. c .answer) depthTable
+depth-cases-hold = depth-holds

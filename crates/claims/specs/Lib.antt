@@ -2,6 +2,7 @@
 pub mod Hinting
 pub mod Calls
 pub mod Desk
+pub mod Depth
 pub mod ShutOut
 pub mod Claims
 pub mod Refusals

@@ -3,7 +3,7 @@
 -- Assumes nothing.
 use mathlib.Core.Path.{_≡_, refl, ap, _∙_}
 use mathlib.Core.Bool.{Bool, true, false, _&&_}
-use mathlib.Core.List.{List, [], _∷_, map}
+use mathlib.Core.List.{List, [], _∷_, _++_, map}
 use Prim.Native.Nat.{ℕ, zero, suc, _*_, _-_, _/_}
 use native.Mathlib.Omega.{arith}
 use lib.ListN.{length, getD}
@@ -13,12 +13,13 @@ use Rattle.meaning.specs.Numbers.KnownName
 use Rattle.meaning.specs.Tree.{if_then_else_, hd, Forest, none, more}
 use Rattle.meaning.specs.File.{File, Symbol, numbersOf, written}
 use Rattle.meaning.specs.Statements.{wrapInitializer}
-use Rattle.meaning.specs.Reading.{Outcome, accepted, refused, _>>=_, _>>_, readFile}
+use Rattle.meaning.specs.Reading.{Outcome, accepted, refused, _>>=_, _>>_, readForest, mostLevels, readWith, readFile}
 use Rattle.meaning.specs.Walk.{Spot, isOver, visits, start, fileAt}
 use Rattle.meaning.specs.Charges.{Figures, figures, figuresAt, finalFigures}
 use Rattle.meaning.specs.Lowering.{Lent, Written, checkOutput, checkFile, admit, lastSpot, lower}
 use Rattle.meaning.specs.Notation.{bytes}
 use Rattle.meaning.specs.Computing.{computing}
+use Rattle.meaning.specs.Examples.{nested, deep}
 use Rattle.meaning.specs.Hint.{hintOf, letterOf}
 use Rattle.spec_laws.specs.Tags.{clash}
 use Rattle.fields.specs.Lengths.{lengths}
@@ -29,6 +30,8 @@ use Rattle.simulation.specs.Visit.{over-told}
 use Rattle.hint_laws.specs.Hints.{sumOver, namesOf, ofInitializer, overDeclarators, shown, asInSource, usingsIn, asksFor, asked, called, callsIn, calls, given}
 use Rattle.readback_laws.specs.ReadBack.{numbersIn, fieldsIn, fieldsOf}
 use Rattle.readback_laws.specs.Decoded.{recordsOf, rowOf, treesFrom, treeIn}
+use Rattle.claims.specs.Depth.{forestWith, readDeep, depthFirst, readBefore}
+use Rattle.claims.specs.Claims.{DepthFirst}
 
 -- ---- two files and what is seen of an answer
 
@@ -420,3 +423,62 @@ filledTable = map (λ (n : ℕ). if eqb n 0 then 2 else n) lengths
 pub no-filled-table : RightLengths filledTable → ⊥
 unfolding filledTable lengths numbersOf
 no-filled-table right = omega (arith, right 21)
+
+-- ---- depth at another time than right after a head (excluded by `depth-first`)
+
+-- a refusal's number, 0 for none
+abbrev numberOf : Outcome File → ℕ
+numberOf (accepted f) = 0
+numberOf (refused c p) = c
+
+-- a record at level 65 with a tag that may not stand there, with a head of two bytes, and with nothing wrong
+abbrev wrongTag : List ℕ
+wrongTag = deep 62 ++ bytes "2:1,0"
+
+abbrev cutHead : List ℕ
+cutHead = deep 62 ++ 24 ∷ 4 ∷ []
+
+abbrev tooDeepOnly : List ℕ
+tooDeepOnly = deep 62 ++ bytes "24:1,0"
+
+-- behind the record's own checks, as before
+late-number : numberOf (readBefore wrongTag) ≡ 3
+unfolding readBefore forestWith nested computing
+late-number = refl
+
+first-number : numberOf (readDeep depthFirst wrongTag) ≡ 6
+unfolding forestWith nested computing
+first-number = refl
+
+pub no-late-depth : DepthFirst readBefore → ⊥
+no-late-depth d = omega (arith, late-number, first-number, ap numberOf (d .deep wrongTag))
+
+-- before the head is whole
+unfoldable pub hasty : List ℕ → Outcome File
+hasty = readDeep (λ f syms p cur at m. refused 6 at)
+
+hasty-number : numberOf (hasty cutHead) ≡ 6
+unfolding hasty forestWith nested computing
+hasty-number = refl
+
+cut-number : numberOf (readDeep depthFirst cutHead) ≡ 2
+unfolding forestWith nested computing
+cut-number = refl
+
+pub no-hasty-depth : DepthFirst hasty → ⊥
+no-hasty-depth d = omega (arith, hasty-number, cut-number, ap numberOf (d .deep cutHead))
+
+-- one level later
+unfoldable pub oneLevelMore : List ℕ → Outcome File
+oneLevelMore = readWith (readForest (suc mostLevels))
+
+more-number : numberOf (oneLevelMore tooDeepOnly) ≡ 0
+unfolding oneLevelMore nested computing
+more-number = refl
+
+deep-number : numberOf (readDeep depthFirst tooDeepOnly) ≡ 6
+unfolding forestWith nested computing
+deep-number = refl
+
+pub no-level-more : DepthFirst oneLevelMore → ⊥
+no-level-more d = omega (arith, more-number, deep-number, ap numberOf (d .deep tooDeepOnly))

@@ -133,6 +133,7 @@ fn replay_all(room: &mut [u8]) {
     replay(b"check.txt", Form::Checks, room);
     replay(b"visits.txt", Form::Walks, room);
     replay(b"lower.txt", Form::Lowerings, room);
+    replay(b"depth.txt", Form::Lowerings, room);
     replay(b"corners.txt", Form::Corners, room);
 }
 
