@@ -454,19 +454,19 @@ pub no-late-depth : DepthFirst readBefore → ⊥
 no-late-depth d = omega (arith, late-number, first-number, ap numberOf (d .deep wrongTag))
 
 -- before the head is whole
-unfoldable pub hasty : List ℕ → Outcome File
-hasty = readDeep (λ f syms p cur at m. refused 6 at)
+unfoldable pub readEarly : List ℕ → Outcome File
+readEarly = readDeep (λ f syms p cur at m. refused 6 at)
 
-hasty-number : numberOf (hasty cutHead) ≡ 6
-unfolding hasty forestWith nested computing
-hasty-number = refl
+early-number : numberOf (readEarly cutHead) ≡ 6
+unfolding readEarly forestWith nested computing
+early-number = refl
 
 cut-number : numberOf (readDeep depthFirst cutHead) ≡ 2
 unfolding forestWith nested computing
 cut-number = refl
 
-pub no-hasty-depth : DepthFirst hasty → ⊥
-no-hasty-depth d = omega (arith, hasty-number, cut-number, ap numberOf (d .deep cutHead))
+pub no-early-depth : DepthFirst readEarly → ⊥
+no-early-depth d = omega (arith, early-number, cut-number, ap numberOf (d .deep cutHead))
 
 -- one level later
 unfoldable pub oneLevelMore : List ℕ → Outcome File
