@@ -436,7 +436,7 @@ abbrev wrongTag : List ℕ
 wrongTag = deep 62 ++ bytes "2:1,0"
 
 abbrev cutHead : List ℕ
-cutHead = deep 62 ++ 24 ∷ 4 ∷ []
+cutHead = deep 62 ++ 24 ∷ 0 ∷ []
 
 abbrev tooDeepOnly : List ℕ
 tooDeepOnly = deep 62 ++ bytes "24:1,0"

@@ -72,7 +72,7 @@ pub deep-tag : readFile (deep 62 ++ bytes "2:1,0") ≡ refused 6 464
 unfolding nested computing
 deep-tag = refl
 
-pub deep-cut-head : readFile (deep 62 ++ 24 ∷ 4 ∷ []) ≡ refused 2 464
+pub deep-cut-head : readFile (deep 62 ++ 24 ∷ 0 ∷ []) ≡ refused 2 464
 unfolding nested computing
 deep-cut-head = refl
 
