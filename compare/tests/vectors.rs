@@ -1,18 +1,11 @@
-//! Compares with the files of right answers in the folder that the variable VECTORS names.
+//! Compares with the files of right answers that `crates/test_vectors` replays.
 
-use std::path::PathBuf;
+use std::path::Path;
 
 use compare::reference::{check, figures, lower, Lent, Walk};
 
-fn folder() -> Option<PathBuf> {
-    let folder = std::env::var_os("VECTORS").map(PathBuf::from);
-    if folder.is_none() {
-        println!("skipped: the variable VECTORS does not name a folder with vectors");
-    }
-    folder
-}
-
-fn read(folder: &std::path::Path, name: &str) -> String {
+fn read(name: &str) -> String {
+    let folder = Path::new(env!("CARGO_MANIFEST_DIR")).join("../crates/test_vectors/data");
     std::fs::read_to_string(folder.join(name)).expect("the file of vectors can be read")
 }
 
@@ -80,11 +73,9 @@ fn answer(file: &[u8], lent: Lent) -> String {
     }
 }
 
-#[test]
-fn lowering() {
-    let Some(folder) = folder() else { return };
+fn lowerings(name: &str) {
     let mut count = 0;
-    for line in read(&folder, "lower.txt").lines() {
+    for line in read(name).lines() {
         let parts: Vec<&str> = line.split('|').collect();
         let lent: Vec<usize> = parts[0]
             .split(' ')
@@ -98,26 +89,31 @@ fn lowering() {
         };
         let file = from_hex(parts[1]);
         count += 1;
-        assert_eq!(answer(&file, lent), parts[2], "line {count} of lower.txt");
+        assert_eq!(answer(&file, lent), parts[2], "line {count} of {name}");
         if let Err(refusal) = lower(&file, lent) {
             assert_eq!(
                 check(&file).is_ok(),
                 refusal.number > 7,
-                "line {count}: checking"
+                "line {count} of {name}: checking"
             );
             assert_eq!(
                 figures(&file).is_ok(),
                 refusal.number > 8,
-                "line {count}: figures"
+                "line {count} of {name}: figures"
             );
         }
     }
-    println!("{count} lowerings agree");
+    println!("{name}: {count} lowerings agree");
+}
+
+#[test]
+fn lowering() {
+    lowerings("lower.txt");
+    lowerings("depth.txt");
 }
 
 #[test]
 fn visits() {
-    let Some(folder) = folder() else { return };
     let lent = Lent {
         records: 65_535,
         scopes: 65_535,
@@ -127,7 +123,7 @@ fn visits() {
     let (mut walks, mut visits) = (0, 0);
     let mut walk: Option<Walk> = None;
     let mut last = String::new();
-    for (at, line) in read(&folder, "visits.txt").lines().enumerate() {
+    for (at, line) in read("visits.txt").lines().enumerate() {
         let at = at + 1;
         if let Some(source) = line.strip_prefix("file ") {
             assert!(
