@@ -10,10 +10,10 @@ use lib.ListN.{length, drop, getD, take, replicate, length-replicate, replicate-
 use lib.Seq.{take-append-seam}
 use lib.Dec.{eqb, ltb}
 use types.Run.{OneOf}
-use borrow.Author.Tests.{ne-eqb, le-leb, lt-leb}
+use borrow.Author.Tests.{ne-eqb, le-leb, lt-leb, lt-ltb, le-ltb}
 use Rattle.meaning.specs.Tree.{if_then_else_, hd}
 use Rattle.meaning.specs.File.{numbersOf, fieldBytes}
-use Rattle.meaning.specs.Grammar.{allowed, two, fieldOf, fieldAt, right, scopeOf, headOf, below, childrenOf, mayName, naming, unnamed}
+use Rattle.meaning.specs.Grammar.{allowed, two, fieldOf, fieldAt, right, scopeOf, headOf, below, childrenOf, placeOf, mayName, naming, unnamed}
 use Rattle.meaning.specs.Reading.{Outcome, accepted, refused, _>>=_, _>>_, ensure, field, tooDeep, judged, symbolsIn, readRows, andRows, mostRows}
 use Rattle.meaning.specs.declared.Place.{Place}
 use Rattle.meaning.specs.declared.Place.the-variants.{Program}
@@ -38,6 +38,8 @@ use Rattle.checking.specs.Flat.{
   addF,
   listF,
   recordF,
+  upsF,
+  belowLast,
   childrenF,
   addedF,
   afterF,
@@ -111,25 +113,7 @@ enter-tagged f syms p cur at m ks t is-tag none key =
     enter-unscoped f syms p cur at m
     (at-keys (λ k. scopeOf (hd k _ _ _)) (λ _. 0) ks (getD f at 0) (none _ _ _) (rw is-tag at key))
 
--- ---- one record: too deep, refused on entering, refused inside, or fine
-
--- below the last level
-pub record-deep : (l : ℕ) (f : List ℕ) (scopes syms : ℕ) (p : Place) (u : Role) (cur : ℕ) (t : Tally) (at : ℕ) (m : List ℕ)
-    (a : Answer) → l ≡ 0 → a ≡ answerOf (tooDeep f at) → past a m ≡ recordF l f scopes syms p u cur t at m
-unfolding recordF
-record-deep l f scopes syms p u cur t at m a none answered = rw (none, answered) (both (ltb (length f) (at + 3)))
-  where
-    both : (cut : Bool) → past (answerOf (if cut then refused 2 at else refused 6 at)) m ≡ (if cut then refused 2 at else refused 6 at)
-    both true = refl
-    both false = refl
-
--- with levels left
-pub record-level : (l : ℕ) (f : List ℕ) (scopes syms : ℕ) (p : Place) (u : Role) (cur : ℕ) (t : Tally) (at : ℕ) (m : List ℕ)
-    (o : Outcome Past) → (l ≡ 0 → ⊥) → o ≡ recordF (suc (l - 1)) f scopes syms p u cur t at m
-    → o ≡ recordF l f scopes syms p u cur t at m
-record-level l f scopes syms p u cur t at m o some e =
-    let s : suc (l - 1) ≡ l = omega arith in
-    rw s at e
+-- ---- one record: refused on entering, refused inside, or fine
 
 -- a record is entered, and then what is left of it
 record-is : (l : ℕ) (f : List ℕ) (scopes syms : ℕ) (p : Place) (u : Role) (cur : ℕ) (t : Tally) (at : ℕ) (m : List ℕ)
@@ -175,6 +159,49 @@ module _ (l : ℕ) (f : List ℕ) (scopes syms : ℕ) (p : Place) (u : Role) (cu
       r ∙ ap (λ (b : Bool). cap (t ⊞ cap (own u b (headOf x) (childrenOf x) kids))) i in
       ap (λ (s : Tally). past (Next q s) m₂) w
       ∙ sym (after-inside ∙ ap (λ (b : Answer). past b m₂ >>= addedF f scopes syms u t x) e)
+
+-- ---- children and levels
+
+-- below the last level: no children, or the first is cut or too deep
+module _ (f : List ℕ) (n at : ℕ) where
+  pub below-none : (t : Tally) → n ≡ 0 → t ≡ noTally → Next at t ≡ belowLast f n at
+  below-none t none empty = rw (none, empty)
+
+  some-below : (n ≡ 0 → ⊥) → answerOf (tooDeep f at) ≡ belowLast f n at
+  some-below some =
+      let s : n ≡ suc (n - 1) = omega arith in
+      rw s
+
+  pub below-cut : (n ≡ 0 → ⊥) → length f < at + 3 → RefusedAnswer 2 at ≡ belowLast f n at
+  below-cut some cut = rw (lt-ltb (length f) (at + 3) cut) at (some-below some)
+
+  pub below-deep : (n ≡ 0 → ⊥) → at + 3 ≤ length f → RefusedAnswer 6 at ≡ belowLast f n at
+  below-deep some whole = rw (le-ltb (length f) (at + 3) whole) at (some-below some)
+
+below-past : (f : List ℕ) (scopes syms : ℕ) (place : ℕ → Place) (up : ℕ → Role) (cur n at : ℕ) (m : List ℕ)
+    → past (belowLast f n at) m ≡ listF (λ k t a m₁. recordF zero f scopes syms (place k) (up k) cur t a m₁) n 0 noTally at m
+unfolding listF recordF
+below-past f scopes syms place up cur zero at m = refl
+below-past f scopes syms place up cur (suc n) at m = both (ltb (length f) (at + 3)) _
+  where
+    both : (cut : Bool) (rest : Past → Outcome Past)
+        → past (answerOf (if cut then refused 2 at else refused 6 at)) m ≡ (if cut then refused 2 at else refused 6 at) >>= rest
+    both true rest = refl
+    both false rest = refl
+
+pub children-deep : (l : ℕ) (f : List ℕ) (scopes syms : ℕ) (p : Place) (u : Role) (x : Field) (cur n : ℕ) (m : List ℕ) (a : Answer)
+    → l ≡ 0 → n ≡ childrenOf x → a ≡ belowLast f n (x .next) → past a m ≡ childrenF l f scopes syms p u x cur m
+unfolding childrenF
+children-deep l f scopes syms p u x cur n m a none counted answered =
+    rw (none, answered, counted) (below-past f scopes syms (placeOf p x) (upsF f u x) cur (childrenOf x) (x .next) m)
+
+-- with levels left, a child has one less for its own children
+pub child-level : (l : ℕ) (f : List ℕ) (scopes syms : ℕ) (p : Place) (u : Role) (cur : ℕ) (t : Tally) (at : ℕ) (m : List ℕ)
+    (o : Outcome Past) → 1 ≤ l → o ≡ recordF (suc (l - 1)) f scopes syms p u cur t at m
+    → o ≡ recordF l f scopes syms p u cur t at m
+child-level l f scopes syms p u cur t at m o some e =
+    let s : suc (l - 1) ≡ l = omega arith in
+    rw s at e
 
 -- ---- records in a row
 

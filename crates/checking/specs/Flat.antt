@@ -63,6 +63,10 @@ abbrev pub past : Answer → List ℕ → Outcome Past
 past (Next at t) m = accepted (record { next = at; marks = m; tally = t })
 past (RefusedAnswer c p) m = refused c p
 
+abbrev pub answerOf : Outcome Past → Answer
+answerOf (accepted q) = Next (q .next) (q .tally)
+answerOf (refused c p) = RefusedAnswer c p
+
 -- ---- leaves: plain records without scope and children
 
 -- a field with this tag may stand here, and is whole with `len` bytes of numbers
@@ -152,6 +156,11 @@ recordF (suc l) f scopes syms p u cur t at m = do
       (e .marks)
   accepted (record { next = q .next; marks = q .marks; tally = addF f scopes syms u (e .field) t (q .tally) })
 
+-- n records below the last level: none, or the first is too deep
+abbrev pub belowLast : List ℕ → ℕ → ℕ → Answer
+belowLast f zero at = Next at noTally
+belowLast f (suc n) at = answerOf (tooDeep f at)
+
 -- the children of a record at p
 unfoldable pub childrenF : ℕ → List ℕ → ℕ → ℕ → Place → Role → Field → ℕ → List ℕ → Outcome Past
 childrenF l f scopes syms p u x cur m =
@@ -199,10 +208,6 @@ endF f n o = do
   ensure (leb (length f) (q .next)) 7 (q .next)
   ensure (leb n (unnamed (q .marks))) 5 (7 + 7 * unnamed (q .marks))
   accepted q
-
-abbrev pub answerOf : Outcome Past → Answer
-answerOf (accepted q) = Next (q .next) (q .tally)
-answerOf (refused c p) = RefusedAnswer c p
 
 unfoldable pub treeF : List ℕ → ℕ → ℕ → ℕ → List ℕ → Answer
 treeF f scopes syms at m = answerOf (endF f (length m) (recordF 64 f scopes syms Program Plain 0 noTally at m))

@@ -29,14 +29,14 @@ ghost use lib.Dec.{eqb};
 ghost use Rattle.meaning.specs.Tree.{if_then_else_};
 ghost use Rattle.meaning.specs.Grammar.{two, mayName, naming, unnamed};
 ghost use Rattle.meaning.specs.Numbers.Tag;
-ghost use Rattle.meaning.specs.Reading.{tooDeep, scopeAt, symbolAt, mostRows, readScopes, readSymbols, readFile};
+ghost use Rattle.meaning.specs.Reading.{scopeAt, symbolAt, mostRows, readScopes, readSymbols, readFile};
 ghost use Rattle.meaning.specs.Lowering.{checkFile, figuresOf};
 ghost use Rattle.figures.specs.Figures.{figuredOf};
 ghost use Rattle.meaning.specs.declared.Reading.the-variants.{Whole as WholeField};
 ghost use Rattle.meaning.specs.declared.Place.the-variants.{Program as ProgramPlace};
 ghost use Rattle.figures.specs.declared.tally.Role.the-variants.{Plain as PlainRole};
 ghost use Rattle.figures.specs.Tally.{noTally};
-ghost use Rattle.checking.specs.Flat.{expressionAt, expressionHere, rightAt, isWhole, expressionSize, mentionSize, leafSize, entered, enterF, past, recordF, childrenF, afterF, answerOf, treeF, withRecords, runAnswer, symbolsF, rowsF, settingsF, fileF, checkedOf};
+ghost use Rattle.checking.specs.Flat.{expressionAt, expressionHere, rightAt, isWhole, expressionSize, mentionSize, leafSize, entered, enterF, past, recordF, childrenF, afterF, belowLast, treeF, withRecords, runAnswer, symbolsF, rowsF, settingsF, fileF, checkedOf};
 ghost use Rattle.checking.specs.Survey.{withFigures, surveyedOf};
 
 // A file holds so many bytes at most, and its records so many levels; more rows than such a file has.
@@ -321,10 +321,13 @@ fn takes_expression(file: &[u8], place: Place, at: usize) -> bool
 
 // ---- the cycle: a record's children are statements, expressions and parts of them
 
-// A record below the last level: refused whatever its head says, once that is there.
-fn too_deep(file: &[u8], at: usize) -> Answer
-    ensures { λ r. ⌜ r ≡ answerOf (tooDeep (now (file .entry)) at) ⌝ }
+// So many children below the last level: none, or the first is refused whatever its head says, once that is there.
+fn below_last(file: &[u8], n: u16, at: usize) -> Answer
+    ensures { λ r. ⌜ r ≡ belowLast (now (file .entry)) n at ⌝ }
 {
+    if n == 0 {
+        return Answer::Next(at, tally::no_tally());
+    }
     if file.len() <= at {
         return Answer::Refused(refusal::CUT, at);
     }
@@ -417,7 +420,7 @@ fn check_expression(
     }
 }
 
-// A child at its place: too deep, an expression, or a statement or a part of one.
+// A child at its place: an expression, or a statement or a part of one. So many levels are left for its own children.
 fn check_child(
     file: &[u8],
     marks: &mut [u8],
@@ -428,20 +431,17 @@ fn check_child(
 ) -> Answer
     ensures { λ r. ⌜
         past r (now (marks .exit))
-        ≡ recordF levels (now (file .entry)) (rows .scopes) (rows .symbols) (site .place) (site .role) (site .scope .0) (done .tally) (done .at) (now (marks .entry))
+        ≡ recordF (suc levels) (now (file .entry)) (rows .scopes) (rows .symbols) (site .place) (site .role) (site .scope .0) (done .tally) (done .at) (now (marks .entry))
         ⌝ }
 {
-    if levels == 0 {
-        return too_deep(file, done.at);
-    }
     let place = site.place;
     if takes_expression(file, place, done.at) {
-        return check_expression(file, marks, rows, site, done, levels - 1);
+        return check_expression(file, marks, rows, site, done, levels);
     }
-    check_statement(file, marks, rows, site, done, levels - 1)
+    check_statement(file, marks, rows, site, done, levels)
 }
 
-// The children of a record at `site`, one after another; the site's scope is that around the children.
+// The children of a record at `site`, one after another, with so many levels left for them; the site's scope is that around the children.
 fn check_children(
     file: &[u8],
     marks: &mut [u8],
@@ -456,6 +456,9 @@ fn check_children(
         ⌝ }
 {
     let n = rules::children_of(x);
+    if levels == 0 {
+        return below_last(file, n, x.next);
+    }
     let around = site.place;
     let role_around = site.role;
     let scope = site.scope;
@@ -465,14 +468,9 @@ fn check_children(
     while k < n {
         let place = rules::place_of(around, x, k);
         let role = tally::role_in(file, role_around, x, k);
-        let a = check_child(
-            file,
-            marks,
-            rows,
-            Site { place, role, scope },
-            Progress { at, tally: t },
-            levels,
-        );
+        let here = Site { place, role, scope };
+        let done = Progress { at, tally: t };
+        let a = check_child(file, marks, rows, here, done, levels - 1);
         let Answer::Next(next, sum) = a else {
             return a;
         };

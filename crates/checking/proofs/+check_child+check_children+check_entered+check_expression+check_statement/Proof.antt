@@ -8,7 +8,7 @@ use borrow.Author.Needs.{needs}
 use Rattle.meaning.specs.Grammar.{placeOf}
 use Rattle.checking.specs.Flat.{upsF, listF, recordF, childrenF}
 use Rattle.checking.proofs.Leaf.{leaf-inside, leaf-fine}
-use Rattle.checking.proofs.Laws.{record-deep, record-level, record-entered, record-refused, after-stop, after-fine, list-step, list-stop, list-end}
+use Rattle.checking.proofs.Laws.{children-deep, child-level, record-entered, record-refused, after-stop, after-fine, list-step, list-stop, list-end}
 use borrow.Fn.Kinds.{In}
 use borrow.Fn.PlainCycle.{Measures, is, falls, and}
 use Rattle.checking.proofs.check_child.Reads as check-child
@@ -26,11 +26,11 @@ use Rattle.checking.proofs.+check_child+check_children+check_entered+ch
 use Rattle.checking.proofs.check_statement.Reads as check-statement
 use Rattle.checking.proofs.check_statement.Kinds as check-statement-kinds
 use Rattle.checking.proofs.+check_child+check_children+check_entered+check_expression+check_statement.Lts-check_statement as check-statement-lts
+use Rattle.checking.proofs.below_last.Reads as below-last-reads
 use Rattle.checking.proofs.enter_expression.Reads as enter-expression-reads
 use Rattle.checking.proofs.enter_record.Reads as enter-record-reads
 use Rattle.checking.proofs.leaf_size.Reads as leaf-size-reads
 use Rattle.checking.proofs.takes_expression.Reads as takes-expression-reads
-use Rattle.checking.proofs.too_deep.Reads as too-deep-reads
 use Rattle.rules.proofs.children_of.Reads as children-of-reads
 use Rattle.rules.proofs.place_of.Reads as place-of-reads
 use Rattle.rules.proofs.scope_in.Reads as scope-in-reads
@@ -43,22 +43,22 @@ use Rattle.figures.proofs.tally.role_in.Reads as role-in-reads
 use Rattle.checking.proofs.+check_child+check_children+check_entered+check_expression+check_statement.{statement}
 use Rattle.checking.proofs.+check_child+check_children+check_entered+check_expression+check_statement.Tie.{close}
 
--- a child is a record with a level less for its children; a record asks for what is left of it, that for its list of children, and a list for
--- its children, with the same levels
+-- a list asks for its children with a level less; a child asks for its record, a record for what is left of it, and that for its list of
+-- children, with the same levels
 abbrev μ-check-child : Measures 2 check-child-kinds.ps ℕ
-μ-check-child κs a = 4 * a .1 .1 .1 .1 .1 .0
+μ-check-child κs a = 4 * a .1 .1 .1 .1 .1 .0 + 3
 
 abbrev μ-check-children : Measures 2 check-children-kinds.ps ℕ
-μ-check-children κs a = 4 * a .1 .1 .1 .1 .1 .0 + 1
+μ-check-children κs a = 4 * a .1 .1 .1 .1 .1 .0
 
 abbrev μ-check-entered : Measures 2 check-entered-kinds.ps ℕ
-μ-check-entered κs a = 4 * a .1 .1 .1 .1 .1 .0 + 2
+μ-check-entered κs a = 4 * a .1 .1 .1 .1 .1 .0 + 1
 
 abbrev μ-check-expression : Measures 2 check-expression-kinds.ps ℕ
-μ-check-expression κs a = 4 * a .1 .1 .1 .1 .1 .0 + 3
+μ-check-expression κs a = 4 * a .1 .1 .1 .1 .1 .0 + 2
 
 abbrev μ-check-statement : Measures 2 check-statement-kinds.ps ℕ
-μ-check-statement κs a = 4 * a .1 .1 .1 .1 .1 .0 + 3
+μ-check-statement κs a = 4 * a .1 .1 .1 .1 .1 .0 + 2
 
 -- what each is given at the measure t, and what a call of it asks below t
 abbrev check-child-at : ℕ → In 2 check-child-kinds.ps
@@ -94,8 +94,6 @@ check-statement-below t = and 2 check-statement-kinds.ps (falls 2 check-statemen
 -- the contracts of what each calls
 abbrev check-child-calls : ℕ → check-child-lts.Claims
 check-child-calls t = (
-  too-deep-reads.Asked,
-  too-deep-reads.Learnt,
   takes-expression-reads.Asked,
   takes-expression-reads.Learnt,
   check-expression-below t,
@@ -108,6 +106,8 @@ abbrev check-children-calls : ℕ → check-children-lts.Claims
 check-children-calls t = (
   children-of-reads.Asked,
   children-of-reads.Learnt,
+  below-last-reads.Asked,
+  below-last-reads.Learnt,
   no-tally-reads.Asked,
   no-tally-reads.Learnt,
   place-of-reads.Asked,
@@ -154,23 +154,15 @@ check-statement-calls t = (
 
 check-child-returns : (t : ℕ)
     → check-child-lts.Need-returns (check-child-calls t) (check-child-at t) check-child.Post
-check-child-returns t c = record-deep _ _ _ _ _ _ _ _ _ _ _ (c .before .if1 .taken) (c .too-deep .ensures)
+check-child-returns t c = c .before .before .check-expression .ensures
 
 check-child-returns-2 : (t : ℕ)
     → check-child-lts.Need-returns-2 (check-child-calls t) (check-child-at t) check-child.Post
-check-child-returns-2 t c =
-    let at-check-expression = c .before .before in
-    record-level _ _ _ _ _ _ _ _ _ _ _ (at-check-expression .before .before .before .before .if1 .left) (at-check-expression .check-expression .ensures)
-
-check-child-returns-3 : (t : ℕ)
-    → check-child-lts.Need-returns-3 (check-child-calls t) (check-child-at t) check-child.Post
-check-child-returns-3 t c =
-    let at-check-statement = c .before .before in
-    record-level _ _ _ _ _ _ _ _ _ _ _ (at-check-statement .before .before .before .before .if1 .left) (at-check-statement .check-statement .ensures)
+check-child-returns-2 t c = c .before .before .check-statement .ensures
 
 abbrev check-children-Inv-loop : check-children-lts.InvT-loop
 check-children-Inv-loop file marks₀ rows x levels n around role scope at₀ t₀ k₀ marks at t k =
-    (k ≤ n) × (length marks ≡ length marks₀)
+    (1 ≤ levels) × (k ≤ n) × (length marks ≡ length marks₀)
     × (childrenF levels file (rows .scopes) (rows .symbols) around role x (scope .0) marks₀
     ≡ listF
     (λ j s a m. recordF levels file (rows .scopes) (rows .symbols) (placeOf around x j) (upsF file role x j) (scope .0) s a m)
@@ -179,13 +171,20 @@ check-children-Inv-loop file marks₀ rows x levels n around role scope at₀ t�
 abbrev check-children-μ-loop : check-children-lts.MeasureT-loop
 check-children-μ-loop file marks₀ rows x levels n around role scope at₀ t₀ k₀ marks at t k = n - k
 
+check-children-returns : (t : ℕ)
+    → check-children-lts.Need-returns (check-children-calls t) (check-children-at t) check-children.Post
+    check-children-Inv-loop check-children-μ-loop
+check-children-returns t c =
+    let at-if1 = c .before in
+    children-deep _ _ _ _ _ _ _ _ _ _ _ (at-if1 .if1 .taken) (at-if1 .before .children-of .ensures) (c .below-last .ensures)
+
 check-children-loop-holds : (t : ℕ)
     → check-children-lts.Need-loop-holds (check-children-calls t) (check-children-at t) check-children.Post
     check-children-Inv-loop check-children-μ-loop
 unfolding childrenF
 check-children-loop-holds t c =
-    let at-children-of = c .before .before in
-    (search needs, refl, rw (at-children-of .children-of .ensures, c .no-tally .ensures, sub-zero))
+    let at-children-of = c .before .before .before in
+    (search needs, search needs, refl, rw (at-children-of .children-of .ensures, c .no-tally .ensures, sub-zero))
 
 check-children-same-length : (t : ℕ)
     → check-children-lts.Need-same-length (check-children-calls t) (check-children-at t) check-children.Post
@@ -193,19 +192,20 @@ check-children-same-length : (t : ℕ)
 check-children-same-length t c =
     let at-check-child = c .before .before .before .before in
     let at-loop = at-check-child .before .before .before .before .before in
-    at-check-child .check-child .kept .1 .0 ∙ at-loop .loop .inv .1
+    at-check-child .check-child .kept .1 .0 ∙ at-loop .loop .inv .2
 
-check-children-returns : (t : ℕ)
-    → check-children-lts.Need-returns (check-children-calls t) (check-children-at t) check-children.Post
+check-children-returns-2 : (t : ℕ)
+    → check-children-lts.Need-returns-2 (check-children-calls t) (check-children-at t) check-children.Post
     check-children-Inv-loop check-children-μ-loop
-check-children-returns t c =
+check-children-returns-2 t c =
     let at-check-child = c .before .before .before .before in
     let at-role-in = at-check-child .before .before in
     let at-place-of = at-role-in .before in
     let at-loop-test = at-place-of .before in
     let at-loop = at-loop-test .before in
-    list-stop _ _ _ _ _ _ _ (at-loop .loop .inv .2) _ _ _ _ (at-loop-test .loop-test .taken)
-    (rw (← at-place-of .place-of .ensures, ← at-role-in .role-in .ensures) (at-check-child .check-child .ensures))
+    list-stop _ _ _ _ _ _ _ (at-loop .loop .inv .3) _ _ _ _ (at-loop-test .loop-test .taken)
+    (child-level _ _ _ _ _ _ _ _ _ _ _ (at-loop .loop .inv .0)
+    (rw (← at-place-of .place-of .ensures, ← at-role-in .role-in .ensures) (at-check-child .check-child .ensures)))
     (c .enum-told .given .1)
 
 check-children-loop-again : (t : ℕ)
@@ -218,19 +218,21 @@ check-children-loop-again t c =
     let at-place-of = at-role-in .before in
     let at-loop-test = at-place-of .before in
     let at-loop = at-loop-test .before in (
+      at-loop .loop .inv .0,
       search needs,
-      at-check-child .check-child .kept .1 .0 ∙ at-loop .loop .inv .1,
-      list-step _ _ _ _ _ _ _ (at-loop .loop .inv .2) _ _ _ _ (at-loop-test .loop-test .taken)
-          (rw (← at-place-of .place-of .ensures, ← at-role-in .role-in .ensures) (at-check-child .check-child .ensures))
+      at-check-child .check-child .kept .1 .0 ∙ at-loop .loop .inv .2,
+      list-step _ _ _ _ _ _ _ (at-loop .loop .inv .3) _ _ _ _ (at-loop-test .loop-test .taken)
+          (child-level _ _ _ _ _ _ _ _ _ _ _ (at-loop .loop .inv .0)
+          (rw (← at-place-of .place-of .ensures, ← at-role-in .role-in .ensures) (at-check-child .check-child .ensures)))
           (at-a .a .given .1),
     )
 
-check-children-returns-2 : (t : ℕ)
-    → check-children-lts.Need-returns-2 (check-children-calls t) (check-children-at t) check-children.Post
+check-children-returns-3 : (t : ℕ)
+    → check-children-lts.Need-returns-3 (check-children-calls t) (check-children-at t) check-children.Post
     check-children-Inv-loop check-children-μ-loop
-check-children-returns-2 t c =
+check-children-returns-3 t c =
     let at-loop = c .before in
-    list-end _ _ _ _ _ _ _ (at-loop .loop .inv .2) (c .loop-test .left)
+    list-end _ _ _ _ _ _ _ (at-loop .loop .inv .3) (c .loop-test .left)
 
 check-entered-returns : (t : ℕ)
     → check-entered-lts.Need-returns (check-entered-calls t) (check-entered-at t) check-entered.Post
@@ -321,9 +323,9 @@ pub +check-child+check-children+check-entered+check-expression+check-statement-s
     close
     μ-check-child μ-check-children μ-check-entered μ-check-expression μ-check-statement
     (λ t. check-child-lts.spec (check-child-calls t) (check-child-at t) check-child.Post
-    (λ c κs. search needs) (check-child-returns t) (λ c κs. search needs) (λ c. search needs) (λ c κs. search needs) (λ c. search needs) (check-child-returns-2 t) (λ c. search needs) (λ c κs. search needs) (λ c. search needs) (check-child-returns-3 t))
+    (λ c κs. search needs) (λ c κs. search needs) (λ c. search needs) (check-child-returns t) (λ c κs. search needs) (λ c. search needs) (check-child-returns-2 t))
     (λ t. check-children-lts.spec (check-children-calls t) (check-children-at t) check-children.Post
-    check-children-Inv-loop check-children-μ-loop (λ c κs. search needs) (λ c κs. search needs) (check-children-loop-holds t) (λ c κs. search needs) (λ c κs. search needs) (λ c κs. search needs) (λ c. search needs) (λ c. search needs) (check-children-same-length t) (check-children-returns t) (λ c. search needs) (λ c. search needs) (check-children-loop-again t) (λ c. search needs) (check-children-returns-2 t))
+    check-children-Inv-loop check-children-μ-loop (λ c κs. search needs) (λ c κs. search needs) (check-children-returns t) (λ c κs. search needs) (check-children-loop-holds t) (λ c κs. search needs) (λ c κs. search needs) (λ c. search needs) (λ c κs. search needs) (λ c. search needs) (λ c. search needs) (check-children-same-length t) (check-children-returns-2 t) (λ c. search needs) (λ c. search needs) (check-children-loop-again t) (λ c. search needs) (check-children-returns-3 t))
     (λ t. check-entered-lts.spec (check-entered-calls t) (check-entered-at t) check-entered.Post
     (λ c κs. search needs) (λ c κs. search needs) (λ c κs. search needs) (λ c. search needs) (λ c. search needs) (λ c. search needs) (check-entered-returns t) (λ c κs. search needs) (λ c κs. search needs) (λ c. search needs) (check-entered-returns-2 t))
     (λ t. check-expression-lts.spec (check-expression-calls t) (check-expression-at t) check-expression.Post
