@@ -69,7 +69,7 @@ readBefore f = readDeep depthLast f
 
 -- ---- what became of an answer
 
--- it is now 6 at the same place, where a head is whole; it was 2, 3, 4 or 5
+-- it is now 6 at the same place, and was 2, 3, 4 or 5; a head is whole there, so that the 2 was for a cut payload
 abbrev pub Deeper : {A : Type 0} → List ℕ → Outcome A → Outcome A → Type 0
 Deeper f before now =
     (c : ℕ) × (p : ℕ) × (before ≡ refused c p) × (now ≡ refused Refusal.TooDeep p) × (Refusal.Cut ≤ c) × (c ≤ Refusal.WrongNumber)
