@@ -1,7 +1,7 @@
 -- The cases that 01 marks as proved, and more: one table, one theorem.
 -- Assumes nothing.
 use mathlib.Core.Path.{_≡_, refl}
-use mathlib.Core.List.{List, [], _∷_, map}
+use mathlib.Core.List.{List, [], _∷_, _++_, map}
 use Prim.Native.Nat.{ℕ}
 use Prim.Native.String.{String}
 use lib.ListN.{length, take}
@@ -10,6 +10,7 @@ use Rattle.meaning.specs.Reading.{Outcome, accepted, refused}
 use Rattle.meaning.specs.Charges.{figures}
 use Rattle.meaning.specs.Lowering.{Lent, Written, lower}
 use Rattle.meaning.specs.Computing.{computing}
+use Rattle.meaning.specs.Examples.{nested, deep}
 
 -- the rows and output bytes lent, a file, and the answer
 pub record Case : Type 0 where
@@ -32,7 +33,7 @@ desk = lend 4096 1024 1024
 abbrev gives : ℕ → ℕ → ℕ → ℕ → ℕ → String → Outcome Written
 gives r s y c b output = accepted (record { file = bytes output; figures = figures r s y c b })
 
-abbrev pub unchanged : List ℕ → ℕ → ℕ → ℕ → Outcome Written
+abbrev unchanged : List ℕ → ℕ → ℕ → ℕ → Outcome Written
 unchanged input r s y = accepted (record { file = input; figures = figures r s y 0 (length input) })
 
 abbrev wholeCase : List ℕ
@@ -291,6 +292,14 @@ table =
     case desk 65536
     (bytes "40:1,0 41:0,16 41:1,0 41:1,0 41:1,0 1:1,1 2:3,0")
     (refused 5 14) ∷
+    -- 64 levels are fine
+    case desk 65536
+    (deep 61 ++ bytes "24:1,0")
+    (unchanged (deep 61 ++ bytes "24:1,0") 64 1 0) ∷
+    -- 6: deeper than 64
+    case desk 65536
+    (deep 62 ++ bytes "24:1,0")
+    (refused 6 464) ∷
     -- 7: bytes after the tree, which goes before an unnamed row
     case desk 65536
     (bytes "40:1,0 41:0,16 41:1,0 1:1,0 3:0,0,0")
@@ -299,5 +308,5 @@ table =
 
 -- each answer is the table's
 pub table-holds : map (λ c. lower (c .input) (c .rows) (c .output)) table ≡ map (λ c. c .answer) table
-unfolding table computing
+unfolding table nested computing
 table-holds = refl

@@ -1,4 +1,4 @@
--- The cases on depth: level 64 is the last, and above it request 6 of document 02 decides. One table, one theorem.
+-- The cases of request 6 of document 02: a record at level 65 with something else wrong. One table, one theorem.
 -- Assumes nothing.
 use mathlib.Core.Path.{_≡_, refl}
 use mathlib.Core.List.{List, [], _∷_, _++_, map}
@@ -8,37 +8,32 @@ use Rattle.meaning.specs.Reading.{refused}
 use Rattle.meaning.specs.Lowering.{lower}
 use Rattle.meaning.specs.Computing.{computing}
 use Rattle.meaning.specs.Examples.{nested, deep}
-use Rattle.cases.specs.Table.{Case, case, desk, unchanged}
+use Rattle.cases.specs.Table.{Case, case, desk}
 
--- in each file 62 Expressions stand in each other below a Label of Program, so that the next record, at offset 464, is at level 65; in the
--- first they are 61 and one without children
+-- in each file 62 Expressions stand in each other in a Plain of Program, so that the next record, at offset 464, is at level 65
 unfoldable pub depthTable : List Case
 depthTable =
-    -- 64 levels are fine
-    case desk 65536
-    (deep 61 ++ bytes "24:1,0")
-    (unchanged (deep 61 ++ bytes "24:1,0") 64 1 0) ∷
-    -- 6: level 65
-    case desk 65536
-    (deep 62 ++ bytes "24:1,0")
-    (refused 6 464) ∷
-    -- 6 goes before 3, 4, 5 and a cut payload, whatever the three head bytes say
+    -- 6 goes before 3
     case desk 65536
     (deep 62 ++ bytes "2:1,0")
     (refused 6 464) ∷
+    -- and before 4
     case desk 65536
     (deep 62 ++ bytes "24:1")
     (refused 6 464) ∷
+    -- and before 5
     case desk 65536
     (deep 62 ++ bytes "25:1")
     (refused 6 464) ∷
+    -- and before 2 for a cut payload
     case desk 65536
     (deep 62 ++ take 5 (bytes "24:1,0"))
     (refused 6 464) ∷
+    -- whatever the three bytes are
     case desk 65536
     (deep 62 ++ 255 ∷ 255 ∷ 255 ∷ [])
     (refused 6 464) ∷
-    -- but a cut head, or none, is 2
+    -- but a cut head is 2, and so is none
     case desk 65536
     (deep 62 ++ take 2 (bytes "24:1,0"))
     (refused 2 464) ∷

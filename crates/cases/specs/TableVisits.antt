@@ -11,6 +11,7 @@ use Rattle.meaning.specs.Charges.{Line, Figures, _⊕_, total, figuresIn, figur
 use Rattle.meaning.specs.Due.{dues}
 use Rattle.meaning.specs.Lowering.{lastSpot}
 use Rattle.meaning.specs.Computing.{computing}
+use Rattle.meaning.specs.Examples.{nested}
 use Rattle.cases.specs.Table.{table}
 
 -- the figures after each of n visits, counted
@@ -39,5 +40,5 @@ walkCharged (accepted f) = finalFigures f ∷ charged (figuresIn f) (allDues f)
 -- each visit adds its charge, and the last leaves the final figures
 pub visits-hold
     : map (λ c. walkCounted (readFile (c .input))) table ≡ map (λ c. walkCharged (readFile (c .input))) table
-unfolding table counted charged computing
+unfolding table nested counted charged computing
 visits-hold = refl

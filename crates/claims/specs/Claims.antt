@@ -323,6 +323,6 @@ pub depth-accepts : (bytes : List ℕ) (f : File)
     → (readBefore bytes ≡ accepted f → readFile bytes ≡ accepted f) × (readFile bytes ≡ accepted f → readBefore bytes ≡ accepted f)
 depth-accepts bytes f = (still-accepted bytes (answer-changed bytes), once-accepted bytes (answer-changed bytes))
 
--- The cases on depth, as a table: 64 levels, and at level 65 a right record, 3, 4, 5, a cut payload, bytes that are no field, a cut head, none.
+-- The cases as a table: at level 65 a wrong tag, length and number, a cut payload, three bytes that are no head, a cut head, no bytes.
 pub depth-cases-hold : map (λ c. lower (c .input) (c .rows) (c .output)) depthTable ≡ map (λ c. c .answer) depthTable
 depth-cases-hold = depth-holds

@@ -1,4 +1,4 @@
--- Small files, computed: each holds the definitions to a rule of 01. All of 01's cases are in crates/cases.
+-- Small files, computed: each holds the definitions to a rule of 01 or of a request. All of 01's cases are in crates/cases.
 -- Assumes nothing.
 use mathlib.Core.Path.{_≡_, refl}
 use mathlib.Core.List.{List, [], _∷_, _++_}
@@ -36,7 +36,7 @@ unfoldable pub nested : ℕ → List ℕ
 nested zero = []
 nested (suc n) = bytes "24:1,1" ++ nested n
 
--- Program, a Label and so many Expressions in each other
+-- Program, a Plain and so many Expressions in each other: 2 levels and so many
 abbrev pub deep : ℕ → List ℕ
 deep n = bytes "40:1,0 41:0,16 1:1,1 3:0,1,1" ++ nested n
 

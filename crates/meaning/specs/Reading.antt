@@ -84,7 +84,7 @@ readList inside f syms place cur k (suc n) at m = do
   beside ← readList inside f syms place cur (suc k) n (kids .next) (kids .marks)
   accepted (records (more (headOf x) (kids .forest) (beside .forest)) (beside .next) (beside .marks))
 
--- a record below the last level: whatever its head says, once it is there (02, request 6)
+-- a record below the last level: too deep whatever its head says, once that is there (02, request 6)
 abbrev pub tooDeep : {A : Type 0} → List ℕ → ℕ → Outcome A
 tooDeep f at = if ltb (length f) (at + headBytes) then refused Refusal.Cut at else refused Refusal.TooDeep at
 
