@@ -8,13 +8,14 @@ use lib.ListN.{take}
 use Rattle.meaning.specs.Numbers.SymbolFlag
 use Rattle.meaning.specs.Tree.{none}
 use Rattle.meaning.specs.File.{scopeRow, Symbol, symbolRow}
-use Rattle.meaning.specs.Reading.{Outcome, accepted, refused, readFile}
+use Rattle.meaning.specs.Reading.{Outcome, accepted, refused, readForest, readFile}
 use Rattle.meaning.specs.Scoping.{getBinding, findBinding, blockScopedIn}
 use Rattle.meaning.specs.Walk.{storeOf}
 use Rattle.meaning.specs.Charges.{figures}
 use Rattle.meaning.specs.Lowering.{Lent, Written, figuresOf, admit, admitOutput, lower}
 use Rattle.meaning.specs.Notation.{bytes}
 use Rattle.meaning.specs.Computing.{computing}
+use Rattle.meaning.specs.declared.Place.the-variants.{Expression}
 
 abbrev lend : ℕ → ℕ → ℕ → Lent
 lend r s y = record { records = r; scopes = s; symbols = y }
@@ -72,8 +73,9 @@ pub deep-tag : readFile (deep 62 ++ bytes "2:1,0") ≡ refused 6 464
 unfolding nested computing
 deep-tag = refl
 
-pub deep-cut-head : readFile (deep 62 ++ 24 ∷ 0 ∷ []) ≡ refused 2 464
-unfolding nested computing
+-- with no level left: two bytes of a head
+pub deep-cut-head : readForest 0 (24 ∷ 0 ∷ []) 0 (λ _. Expression) 1 0 1 0 [] ≡ refused 2 0
+unfolding computing
 deep-cut-head = refl
 
 -- ---- figures and rows
