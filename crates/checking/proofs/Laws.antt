@@ -182,12 +182,7 @@ below-past : (f : List ℕ) (scopes syms : ℕ) (place : ℕ → Place) (up : �
     → past (belowLast f n at) m ≡ listF (λ k t a m₁. recordF zero f scopes syms (place k) (up k) cur t a m₁) n 0 noTally at m
 unfolding listF recordF
 below-past f scopes syms place up cur zero at m = refl
-below-past f scopes syms place up cur (suc n) at m = both (ltb (length f) (at + 3)) _
-  where
-    both : (cut : Bool) (rest : Past → Outcome Past)
-        → past (answerOf (if cut then refused 2 at else refused 6 at)) m ≡ (if cut then refused 2 at else refused 6 at) >>= rest
-    both true rest = refl
-    both false rest = refl
+below-past f scopes syms place up cur (suc n) at m = refl
 
 pub children-deep : (l : ℕ) (f : List ℕ) (scopes syms : ℕ) (p : Place) (u : Role) (x : Field) (cur n : ℕ) (m : List ℕ) (a : Answer)
     → l ≡ 0 → n ≡ childrenOf x → a ≡ belowLast f n (x .next) → past a m ≡ childrenF l f scopes syms p u x cur m

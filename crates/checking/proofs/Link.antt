@@ -5,10 +5,9 @@ use mathlib.Core.Bool.{Bool, true, false, _&&_}
 use mathlib.Core.List.{List}
 use Prim.Native.Nat.{ℕ, zero, suc, _+_, _*_}
 use native.Mathlib.Omega.{arith}
-use lib.Dec.{eqb, leb, ltb}
-use lib.ListN.{length}
+use lib.Dec.{eqb, leb}
 use Rattle.meaning.specs.Numbers.Tag
-use Rattle.meaning.specs.Tree.{if_then_else_, Head, Forest, more, count}
+use Rattle.meaning.specs.Tree.{Head, Forest, more, count}
 use Rattle.meaning.specs.File.{Symbol, numbersOf, hasChildren, ownNumbers}
 use Rattle.meaning.specs.Grammar.{
   fieldAt,
@@ -202,18 +201,12 @@ module _ (f : List ℕ) (scopes syms : ℕ) where
       ∙ sym (add-cap t u (insertsIn asRead u (headOf x)) (headOf x) (childrenOf x) (tallyOf asRead (upsF f u x) 0 (kids .forest)))
       ∙ ap (λ (s : Tally). addF f scopes syms u x (cap t) (cap s)) (sym (none-⊞ (tallyOf asRead (upsF f u x) 0 (kids .forest))))
 
-  -- below the last level
-  link-deep : (ups : ℕ → Role) (k : ℕ) (t : Tally) (at : ℕ) (cut : Bool) (rest : Past → Outcome Past)
-      → forget asRead ups k t (if cut then refused 2 at else refused 6 at) ≡ (if cut then refused 2 at else refused 6 at) >>= rest
-  link-deep ups k t at true rest = refl
-  link-deep ups k t at false rest = refl
-
   pub link-forest : (l : ℕ) (place : ℕ → Place) (ups : ℕ → Role) (cur n k : ℕ) (t : Tally) (at : ℕ) (m : List ℕ)
       → forget asRead ups k t (readForest l f syms place cur k n at m)
       ≡ listF (λ j s a m₁. recordF l f scopes syms (place j) (ups j) cur s a m₁) n k (cap t) at m
   unfolding readForest recordF listF tallyOf
   link-forest zero place ups cur zero k t at m = ap (λ (s : Tally). accepted (record { next = at; marks = m; tally = cap s })) (⊞-none t)
-  link-forest zero place ups cur (suc n) k t at m = link-deep ups k t at (ltb (length f) (at + 3)) _
+  link-forest zero place ups cur (suc n) k t at m = refl
   link-forest (suc l) place ups cur n k t at m =
       link-list
       (λ p x cur m. readForest l f syms (placeOf p x) cur 0 (childrenOf x) (x .next) m)

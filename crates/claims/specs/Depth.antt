@@ -104,7 +104,7 @@ field-changed : (f : List ℕ) (at : ℕ) (cut is-allowed sized short : Bool) (x
     → Changed {A = Records} f
     (field (if cut then Refused 2 at else if not is-allowed then Refused 3 at else if not sized then Refused 4 at else if short then Refused 2 at else Whole x)
     >>= (λ y. ensure (t₁ y) 5 at >> (ensure (t₂ y) 5 at >> refused 6 at)))
-    (if cut then refused 2 at else refused 6 at)
+    (refused (if cut then 2 else 6) at)
 field-changed f at true is-allowed sized short x t₁ t₂ whole = inl refl
 field-changed f at false false sized short x t₁ t₂ whole = inr (3, at, refl, refl, omega arith, omega arith, whole refl)
 field-changed f at false true false short x t₁ t₂ whole = inr (4, at, refl, refl, omega arith, omega arith, whole refl)
@@ -122,7 +122,7 @@ record-changed f syms p cur at m =
 
 -- the order of now, in the words of this file
 cut-first : (f : List ℕ) (at : ℕ) (cut : Bool) → ltb (length f) (at + 3) ≡ cut
-    → _≡_ {A = Outcome Records} (if cut then refused 2 at else refused 6 at) (ensure (leb (at + 3) (length f)) 2 at >> refused 6 at)
+    → _≡_ {A = Outcome Records} (refused (if cut then 2 else 6) at) (ensure (leb (at + 3) (length f)) 2 at >> refused 6 at)
 cut-first f at true e = rw (lt-leb (at + 3) (length f) (ltb-true (length f) (at + 3) e))
 cut-first f at false e = rw (le-leb (at + 3) (length f) (ltb-false (length f) (at + 3) e))
 

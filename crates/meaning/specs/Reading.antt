@@ -86,7 +86,7 @@ readList inside f syms place cur k (suc n) at m = do
 
 -- a record below the last level: too deep whatever its head says, once that is there (02, request 6)
 abbrev pub tooDeep : {A : Type 0} → List ℕ → ℕ → Outcome A
-tooDeep f at = if ltb (length f) (at + headBytes) then refused Refusal.Cut at else refused Refusal.TooDeep at
+tooDeep f at = refused (if ltb (length f) (at + headBytes) then Refusal.Cut else Refusal.TooDeep) at
 
 -- with so many levels left
 unfoldable pub readForest : ℕ → List ℕ → ℕ → (ℕ → Place) → ℕ → ℕ → ℕ → ℕ → List ℕ → Outcome Records
