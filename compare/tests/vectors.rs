@@ -110,10 +110,10 @@ fn lowerings(name: &str) {
 fn lowering() {
     lowerings("lower.txt");
     lowerings("depth.txt");
+    lowerings("letters.txt");
 }
 
-#[test]
-fn visits() {
+fn walks(name: &str) {
     let lent = Lent {
         records: 65_535,
         scopes: 65_535,
@@ -123,7 +123,7 @@ fn visits() {
     let (mut walks, mut visits) = (0, 0);
     let mut walk: Option<Walk> = None;
     let mut last = String::new();
-    for (at, line) in read("visits.txt").lines().enumerate() {
+    for (at, line) in read(name).lines().enumerate() {
         let at = at + 1;
         if let Some(source) = line.strip_prefix("file ") {
             assert!(
@@ -142,15 +142,21 @@ fn visits() {
             visits += 1;
         }
         let (counts, tree) = state(walk);
-        assert_eq!(counts, parts[1], "line {at} of visits.txt");
+        assert_eq!(counts, parts[1], "line {at} of {name}");
         if parts[2] != "same" {
             last = parts[2].to_string();
         }
-        assert_eq!(tree, last, "line {at} of visits.txt");
+        assert_eq!(tree, last, "line {at} of {name}");
     }
     assert!(
         walk.as_ref().is_none_or(Walk::is_over),
         "a visit too many at the end"
     );
-    println!("{walks} walks agree, {visits} visits");
+    println!("{name}: {walks} walks agree, {visits} visits");
+}
+
+#[test]
+fn visits() {
+    walks("visits.txt");
+    walks("letter_visits.txt");
 }

@@ -316,10 +316,10 @@ impl ExplicitResourceManagement {
                 if self.nodes[item].is_using() {
                     let is_await = self.nodes[item].numbers[0] == kind::AWAIT_USING;
                     let ctx = self.need_using_ctx(&mut using_ctx, at.current_scope, is_await);
-                    // The letter follows all the usings of the switch so far.
-                    let (symbol, letter) = (ctx.symbol, ctx.needs_await);
+                    let symbol = ctx.symbol;
                     self.nodes[item].numbers[0] = kind::CONST;
-                    self.wrap_inits(item, symbol, letter);
+                    // The declaration's own letter; oxc's follows all the usings of the switch so far.
+                    self.wrap_inits(item, symbol, is_await);
                 }
                 item = self.nodes[item].next;
             }

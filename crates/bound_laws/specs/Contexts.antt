@@ -140,9 +140,9 @@ statements-weigh K cur hoist list st e =
     let c = makeContext hoist st in
     omega (
       arith,
-      var-weighs K (c .0) ((helperLoad cur (c .1)) .0) (takeUp false (c .0) false list),
+      var-weighs K (c .0) ((helperLoad cur (c .1)) .0) (takeUp (c .0) list),
       load-weighs K cur (c .1),
-      rw e at (list-taken K list false (c .0) false),
+      rw e at (list-taken K list (c .0)),
     )
 
 -- ---- block, function body, static block
@@ -304,14 +304,14 @@ switch-within K r cur h k st e any =
     let s = createChildScope cur 0 (c .1) in
     let m = changeScopeParent (h .a) (s .0) (s .1) in
     let l = helperLoad cur (m .1) in
-    let list = one h (takeUpCases (c .0) false k) in
+    let list = one h (takeUpCases (c .0) k) in
     let awaits = anyCaseAwaitUsing k in
     rw (switch-role (h .tag) r (isUsing h) e)
     (omega (
       arith,
       rw (switch-role (h .tag) plain (isUsing h) e) at (var-weighs K (c .0) (l .0) list),
       load-weighs K cur (m .1),
-      rw any at (cases-taken K k (c .0) false),
+      rw any at (cases-taken K k (c .0)),
       try-weighs K r (s .0) (declaration Kind.Var (c .0) (l .0) & list) (c .0) cur awaits (l .1),
       rows-most K
           (both (both (context-grows cur st) (child-scope cur 0 (c .1)))

@@ -1,6 +1,6 @@
 -- The numbers of a context's records and rows keep to the bound.
 -- Assumes nothing.
-use mathlib.Core.Bool.{Bool, true, false, not, _||_, _&&_}
+use mathlib.Core.Bool.{Bool, not, _&&_}
 use Prim.Native.Nat.{ℕ, zero, suc, _+_, _≤_}
 use mathlib.Core.List.{List, [], _∷_}
 use native.Mathlib.Omega.{arith}
@@ -16,7 +16,6 @@ use Rattle.meaning.specs.Statements.{
   isUsing,
   isAwaitUsing,
   anyUsing,
-  anyAwaitUsing,
   letterIf,
   wrapInitializer,
   wrapInitializers,
@@ -109,16 +108,14 @@ module _ {B : ℕ} (big : 32 ≤ B) where
   unfolding asTakenUp
   const-within h = (omega arith, either (UpTo B) (eqb (h .b) 0) (omega arith) (omega arith), omega arith, omega arith)
 
-  list-within : (running : Bool) (ctx : ℕ) (needsAwait : Bool) (f : Forest) → ctx ≤ B → TreeWithin B f
-      → TreeWithin B (takeUp running ctx needsAwait f)
+  list-within : (ctx : ℕ) (f : Forest) → ctx ≤ B → TreeWithin B f → TreeWithin B (takeUp ctx f)
   unfolding takeUp
-  list-within running ctx needsAwait none c w = tt
-  list-within running ctx needsAwait (more h k r) c w =
-      let awaits = needsAwait || isAwaitUsing h in
-      let letter : letterIf awaits ≤ B = either (UpTo B) awaits (omega arith) (omega arith) in
-      let rest = list-within running ctx (running && awaits) r c (w .2) in
+  list-within ctx none c w = tt
+  list-within ctx (more h k r) c w =
+      let letter : letterIf (isAwaitUsing h) ≤ B = either (UpTo B) (isAwaitUsing h) (omega arith) (omega arith) in
+      let rest = list-within ctx r c (w .2) in
       either (TreeWithin B) (isUsing h)
-      (const-within h, initializers-within (letterIf awaits) ctx k letter c (w .1), rest)
+      (const-within h, initializers-within (letterIf (isAwaitUsing h)) ctx k letter c (w .1), rest)
       (w .0, w .1, rest)
 
   for-within : (ctx : ℕ) (f : Forest) → ctx ≤ B → TreeWithin B f → TreeWithin B (takeUpFor ctx f)
@@ -126,17 +123,18 @@ module _ {B : ℕ} (big : 32 ≤ B) where
   for-within ctx none c w = tt
   for-within ctx (more h k r) c w = (
     w .0,
-    either (TreeWithin B) (eqb (h .tag) Tag.Label) (for-within ctx k c (w .1)) (list-within false ctx false k c (w .1)),
+    either (TreeWithin B) (eqb (h .tag) Tag.Label) (for-within ctx k c (w .1)) (list-within ctx k c (w .1)),
     w .2,
   )
 
-  cases-within : (ctx : ℕ) (needsAwait : Bool) (f : Forest) → ctx ≤ B → TreeWithin B f → TreeWithin B (takeUpCases ctx needsAwait f)
+  cases-within : (ctx : ℕ) (f : Forest) → ctx ≤ B → TreeWithin B f → TreeWithin B (takeUpCases ctx f)
   unfolding takeUpCases
-  cases-within ctx needsAwait none c w = tt
-  cases-within ctx needsAwait (more h k r) c w =
-      either (TreeWithin B) (eqb (h .tag) Tag.Case)
-      (w .0, list-within true ctx needsAwait k c (w .1), cases-within ctx (needsAwait || anyAwaitUsing k) r c (w .2))
-      (w .0, w .1, cases-within ctx needsAwait r c (w .2))
+  cases-within ctx none c w = tt
+  cases-within ctx (more h k r) c w = (
+    w .0,
+    either (TreeWithin B) (eqb (h .tag) Tag.Case) (list-within ctx k c (w .1)) (w .1),
+    cases-within ctx r c (w .2),
+  )
 
   -- ---- the helper
 
@@ -195,7 +193,7 @@ module _ {B : ℕ} (big : 32 ≤ B) where
       step (context-kept hoist st) (λ (d, _). d)
       (step (load-kept cur _) (λ _. tt)
       (gives (λ (((_, w), ctx), helper). (
-        declared-within 0 _ _ _ (omega arith) ctx helper (list-within false _ false list ctx w),
+        declared-within 0 _ _ _ (omega arith) ctx helper (list-within _ list ctx w),
         ctx,
       ))))
 
@@ -329,7 +327,7 @@ module _ {B : ℕ} (big : 32 ≤ B) where
       (last (try-kept _ _ _ cur _ _)
       (λ ((((_, ctx), scope), _), helper). (
         scope,
-        declared-within 0 _ _ _ (omega arith) ctx helper (p, cases-within _ false k ctx w, tt),
+        declared-within 0 _ _ _ (omega arith) ctx helper (p, cases-within _ k ctx w, tt),
         ctx,
         c,
       ))))))

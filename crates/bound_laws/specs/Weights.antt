@@ -13,7 +13,6 @@ use Rattle.meaning.specs.Statements.{
   isUsing,
   isAwaitUsing,
   anyUsing,
-  anyAwaitUsing,
   letterIf,
   wrapInitializer,
   wrapInitializers,
@@ -242,24 +241,23 @@ using-taken K true any h h′ k r r′ letter ctx e n t i =
     rw (n, t, e, using-tag h e) (omega (arith, initializers-wrapped K k letter ctx))
 using-taken K false any h h′ k r r′ letter ctx e n t i = omega arith
 
-pub list-taken : (K : RowKind) (f : Forest) (running : Bool) (ctx : ℕ) (needsAwait : Bool)
-    → weigh K plain (takeUp running ctx needsAwait f) + given (anyUsing f) (context K) ≤ weigh K plain f
+pub list-taken : (K : RowKind) (f : Forest) (ctx : ℕ)
+    → weigh K plain (takeUp ctx f) + given (anyUsing f) (context K) ≤ weigh K plain f
 unfolding takeUp anyUsing weigh
-list-taken K none running ctx needsAwait = omega arith
-list-taken K (more h k r) running ctx needsAwait =
-    let awaits = needsAwait || isAwaitUsing h in
-    using-taken K (isUsing h) (anyUsing r) h (asTakenUp h) k r (takeUp running ctx (running && awaits) r) (letterIf awaits) ctx refl
-    (as-const h) (const-tag h) (list-taken K r running ctx (running && awaits))
+list-taken K none ctx = omega arith
+list-taken K (more h k r) ctx =
+    using-taken K (isUsing h) (anyUsing r) h (asTakenUp h) k r (takeUp ctx r) (letterIf (isAwaitUsing h)) ctx refl
+    (as-const h) (const-tag h) (list-taken K r ctx)
 
 -- a For below its Labels
 loop-taken : (K : RowKind) {t : ℕ} (u : Bool) (k : Forest) (ctx : ℕ) → Seen (Tag.Label ∷ Tag.For ∷ []) t
     → (anyUsing (forList k) ≡ true → weigh K plain (takeUpFor ctx k) + context K ≤ weigh K plain k)
     → anyUsing (if eqb t Tag.Label then forList k else if eqb t Tag.For then k else none) ≡ true
-    → weigh K (below plain t u) (if eqb t Tag.Label then takeUpFor ctx k else takeUp false ctx false k) + context K
+    → weigh K (below plain t u) (if eqb t Tag.Label then takeUpFor ctx k else takeUp ctx k) + context K
     ≤ weigh K (below plain t u) k
 unfolding below anyUsing
 loop-taken K u k ctx here i e = i e
-loop-taken K u k ctx (there e₄ here) i e = omega (arith, rw e at (list-taken K k false ctx false))
+loop-taken K u k ctx (there e₄ here) i e = omega (arith, rw e at (list-taken K k ctx))
 loop-taken K u k ctx (there e₄ (there e₇ other)) i e = absurd (clash refl (rw (e₄, e₇) at e))
 
 pub for-taken : (K : RowKind) (f : Forest) (ctx : ℕ) → anyUsing (forList f) ≡ true
@@ -270,22 +268,17 @@ for-taken K (more h k r) ctx e =
     omega (arith, loop-taken K (isUsing h) k ctx (seen (Tag.Label ∷ Tag.For ∷ []) (h .tag)) (for-taken K k ctx) e)
 
 -- the Cases of a Switch
-case-taken : (K : RowKind) (b any : Bool) (h : Head) (k r r₁ r₂ : Forest) (ctx : ℕ) (needsAwait : Bool) → eqb (h .tag) Tag.Case ≡ b
-    → weigh K plain r₁ + given any (context K) ≤ weigh K plain r
-    → weigh K plain r₂ + given any (context K) ≤ weigh K plain r
-    → weigh K plain (if b then more h (takeUp true ctx needsAwait k) r₁ else more h k r₂) + given ((b && anyUsing k) || any) (context K)
-    ≤ weigh K plain (more h k r)
+case-taken : (K : RowKind) (b any : Bool) (h : Head) (k r r′ : Forest) (ctx : ℕ) → eqb (h .tag) Tag.Case ≡ b
+    → weigh K plain r′ + given any (context K) ≤ weigh K plain r
+    → weigh K plain (more h (if b then takeUp ctx k else k) r′) + given ((b && anyUsing k) || any) (context K) ≤ weigh K plain (more h k r)
 unfolding weigh next below
-case-taken K true any h k r r₁ r₂ ctx needsAwait e i j =
-    rw (eqb-true (h .tag) Tag.Case e) (omega (arith, list-taken K k true ctx needsAwait, given-or (anyUsing k) any (context K)))
-case-taken K false any h k r r₁ r₂ ctx needsAwait e i j = omega arith
+case-taken K true any h k r r′ ctx e i =
+    rw (eqb-true (h .tag) Tag.Case e) (omega (arith, list-taken K k ctx, given-or (anyUsing k) any (context K)))
+case-taken K false any h k r r′ ctx e i = omega arith
 
-pub cases-taken : (K : RowKind) (f : Forest) (ctx : ℕ) (needsAwait : Bool)
-    → weigh K plain (takeUpCases ctx needsAwait f) + given (anyCaseUsing f) (context K) ≤ weigh K plain f
+pub cases-taken : (K : RowKind) (f : Forest) (ctx : ℕ)
+    → weigh K plain (takeUpCases ctx f) + given (anyCaseUsing f) (context K) ≤ weigh K plain f
 unfolding takeUpCases anyCaseUsing weigh
-cases-taken K none ctx needsAwait = omega arith
-cases-taken K (more h k r) ctx needsAwait =
-    case-taken K (eqb (h .tag) Tag.Case) (anyCaseUsing r) h k r (takeUpCases ctx (needsAwait || anyAwaitUsing k) r) (takeUpCases ctx needsAwait r)
-    ctx needsAwait refl
-    (cases-taken K r ctx (needsAwait || anyAwaitUsing k))
-    (cases-taken K r ctx needsAwait)
+cases-taken K none ctx = omega arith
+cases-taken K (more h k r) ctx =
+    case-taken K (eqb (h .tag) Tag.Case) (anyCaseUsing r) h k r (takeUpCases ctx r) ctx refl (cases-taken K r ctx)

@@ -24,6 +24,7 @@ use Rattle.meaning.specs.Numbers.Tag
 use Rattle.meaning.specs.Tree.{size, flatten}
 use Rattle.meaning.specs.File.{File, numbersOf, written}
 use Rattle.meaning.specs.Reading.{Outcome, accepted, refused, readFile}
+use Rattle.meaning.specs.Contexts.{transformSwitchStatement}
 use Rattle.meaning.specs.Walk.{isOver, visits, start, treeAt, storeAt, fileAt}
 use Rattle.meaning.specs.Charges.{_⊕_, total, figuresIn, finalFigures}
 use Rattle.meaning.specs.Due.{dues}
@@ -56,6 +57,7 @@ use Rattle.readback_laws.specs.Childless.{accepted-childless}
 use Rattle.readback_laws.specs.Written.{file-written}
 use Rattle.readback_laws.specs.Loads.Written.{isLoad, loads-written}
 use Rattle.representation.specs.Shown.Shown.{recordsIn, scopesIn, symbolsIn}
+use Rattle.claims.specs.Letters.{ButLetters, letters-alone}
 use Rattle.claims.specs.Depth.{readDeep, depthFirst, readBefore, Changed, depth-is-first, answer-changed, still-accepted, once-accepted}
 use Rattle.claims.specs.Refusals.Numbers.{read-numbers, figures-numbers, admit-numbers, lower-numbers}
 use Rattle.claims.specs.Refusals.Small.{Short, firstShort, small-refused, refused-small, lower-total, short-output, enough-output}
@@ -175,8 +177,8 @@ unfolding lowerF
 lowering-is-01 bytes r s y o f e h =
     ap (λ (a : Outcome Written). lowerOf a r s y o) (enough-output bytes (lentIn r s y) (length o) f e h)
 
--- THE HINTS. In the tree that the written bytes say, the Declarators outside a switch whose initializer lowering has wrapped are those of
--- the source's usings that are taken up (in lists and Fors, Program's recorded ones, and ForOf's), and each Call has the letter of the
+-- THE HINTS. In the tree that the written bytes say, the Declarators whose initializer lowering has wrapped are those of the source's
+-- usings that are taken up (in lists, a switch's too, and Fors, Program's recorded ones, and ForOf's), and each Call has the letter of the
 -- hint that TC39 gives the source's declaration. Said with weights: whatever a Declarator's names, its initializer and a letter are
 -- weighted by, the sum over the one side is the sum over the other, so each Declarator is there as often with each letter. An
 -- initializer is known by the expressions in it, as they are written; a function or class among them has a scope row of its own, so only
@@ -304,6 +306,14 @@ only-small-tables = refused-small
 pub lengths-are-01 : (length lengths ≡ 43) × ((t : ℕ) → getD lengths t 0 ≡ 2 * numbersOf t)
     × (map (λ t. getD lengths t 0) noTags ≡ map (λ t. 0) noTags)
 lengths-are-01 = (lengths-count, lengths-right, lengths-none)
+
+-- ---- REQUEST 4 of document 02: each declaration by its own hint, in a switch too
+
+-- That the letters in a switch, too, are those of their declarations is said by `hints`. Nothing else has changed: the rewrite of a Switch leaves
+-- the rows that it left before, and makes the tree that it made before, but for the letters of Calls. So its Step is awaited as before, if
+-- one of its usings is an `await using`, with an initializer or without.
+pub letters-only : ButLetters transformSwitchStatement
+letters-only = letters-alone
 
 -- ---- REQUEST 6 of document 02: depth before the rest
 

@@ -66,11 +66,11 @@ unfolding AllQuiet Settled Quiet
 quiet-settled none q = tt
 quiet-settled (more h k r) q = (q .0 .0, quiet-settled k (q .1), quiet-settled r (q .2))
 
-quiet-end : (f : File) (k : ℕ) (s : Spot) → visits k (start f) ≡ s → isOver s ≡ true → AllQuiet (treeAt s)
+quiet-end : (b : List ℕ) (f : File) → readFile b ≡ accepted f → (k : ℕ) (s : Spot) → visits k (start f) ≡ s → isOver s ≡ true → AllQuiet (treeAt s)
 unfolding isOver treeAt
-quiet-end f k (over tree st) e o = over-quiet k f tree st e
-quiet-end f k (at d h k₁ r p st) e o = absurd (clash refl o)
-quiet-end f k (leaving k₁ h d r p st) e o = absurd (clash refl o)
+quiet-end b f q k (over tree st) e o = over-quiet k b f tree st q e
+quiet-end b f q k (at d h k₁ r p st) e o = absurd (clash refl o)
+quiet-end b f q k (leaving k₁ h d r p st) e o = absurd (clash refl o)
 
 -- ---- the two agree
 
@@ -101,5 +101,5 @@ module _ (w : List ℕ → List ℕ → ℕ → ℕ) (b : List ℕ) (f : File) (
   pub last-hints : given w read (treeAt (lastSpot f)) ≡ asked w (f .tree)
   last-hints =
       let n = 2 * finalFigures f .records in
-      let q : AllQuiet (treeAt (lastSpot f)) = quiet-end f n (lastSpot f) (sym (last-spot f)) (last-over b f e) in
+      let q : AllQuiet (treeAt (lastSpot f)) = quiet-end b f e n (lastSpot f) (sym (last-spot f)) (last-over b f e) in
       sym (at-end (treeAt (lastSpot f)) q) ∙ (rw (last-spot f) (visits-balance w b f n e)) ∙ at-source

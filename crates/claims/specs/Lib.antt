@@ -3,6 +3,7 @@ pub mod Hinting
 pub mod Calls
 pub mod Desk
 pub mod Depth
+pub mod Letters
 pub mod ShutOut
 pub mod Claims
 pub mod Refusals

@@ -2,7 +2,7 @@
 -- shut out.
 -- Assumes nothing.
 use mathlib.Core.Path.{_≡_, refl, ap, _∙_}
-use mathlib.Core.Bool.{Bool, true, false, _&&_}
+use mathlib.Core.Bool.{Bool, true, false, _||_, _&&_}
 use mathlib.Core.List.{List, [], _∷_, _++_, map}
 use Prim.Native.Nat.{ℕ, zero, suc, _*_, _-_, _/_}
 use native.Mathlib.Omega.{arith}
@@ -10,11 +10,14 @@ use lib.ListN.{length, getD}
 use lib.Dec.{eqb}
 use Rattle.meaning.specs.Numbers.Tag
 use Rattle.meaning.specs.Numbers.KnownName
-use Rattle.meaning.specs.Tree.{if_then_else_, hd, Forest, none, more}
+use Rattle.meaning.specs.Numbers.Letter
+use Rattle.meaning.specs.Tree.{if_then_else_, Head, hd, Forest, none, more, one, Node, single}
 use Rattle.meaning.specs.File.{File, Symbol, numbersOf, written}
+use Rattle.meaning.specs.Scoping.{Change}
 use Rattle.meaning.specs.Statements.{wrapInitializer}
+use Rattle.meaning.specs.Contexts.{takeUpCases, transformSwitchStatement}
 use Rattle.meaning.specs.Reading.{Outcome, accepted, refused, _>>=_, _>>_, readForest, mostLevels, readWith, readFile}
-use Rattle.meaning.specs.Walk.{Spot, isOver, visits, start, fileAt}
+use Rattle.meaning.specs.Walk.{Spot, isOver, visits, storeOf, start, fileAt}
 use Rattle.meaning.specs.Charges.{Figures, figures, figuresAt, finalFigures}
 use Rattle.meaning.specs.Lowering.{Lent, Written, checkOutput, checkFile, admit, lastSpot, lower}
 use Rattle.meaning.specs.Notation.{bytes}
@@ -31,6 +34,7 @@ use Rattle.hint_laws.specs.Hints.{sumOver, namesOf, ofInitializer, overDeclarat
 use Rattle.readback_laws.specs.ReadBack.{numbersIn, fieldsIn, fieldsOf}
 use Rattle.readback_laws.specs.Decoded.{recordsOf, rowOf, treesFrom, treeIn}
 use Rattle.claims.specs.Depth.{forestWith, readDeep, depthFirst, readBefore}
+use Rattle.claims.specs.Letters.{takeUpBefore, takeUpCasesBefore, switchBy, switchBefore, unlettered, ButLetters}
 use Rattle.claims.specs.Claims.{DepthFirst}
 
 -- ---- two files and what is seen of an answer
@@ -401,6 +405,104 @@ no-wrapped-default e = omega (arith, default-lowered, default-wrapped, ap (λ (l
 
 pub wrapped-not-hinted : Hinted wrappingDefault exporting → ⊥
 wrapped-not-hinted e = omega (arith, default-asked, default-wrapped, e anyCalled)
+
+-- ---- the running letter of before in a switch (excluded by `hints`)
+
+-- an `await using` in a Case, and a `using` in the next
+abbrev cases : List ℕ
+cases =
+    bytes "40:1,0 41:0,16 41:1,0 42:10,6,2,0 42:11,6,2,0 1:1,1 9:2,3 24:0,0 10:0,1 5:4,1 6:0,1,2 26:1 24:7,0 10:0,1 5:3,1 6:0,1,2 26:2 24:8,0"
+
+abbrev firstHead : Forest → Head
+firstHead none = hd 0 0 0 0
+firstHead (more h k r) = h
+
+abbrev firstChildren : Forest → Forest
+firstChildren none = none
+firstChildren (more h k r) = k
+
+abbrev SwitchRewrite : Type 0
+SwitchRewrite = ℕ → Head → Forest → Change Node
+
+-- a Program with a Switch alone, that being rewritten
+abbrev switched : SwitchRewrite → File → File
+switched switch f =
+    let s = firstChildren (f .tree) in
+    let e = switch 1 (firstHead s) (firstChildren s) (storeOf f) in
+    record {
+      mode = f .mode;
+      isModule = f .isModule;
+      scopes = e .1 .scopes;
+      symbols = e .1 .symbols;
+      tree = one (firstHead (f .tree)) (single (e .0));
+    }
+
+-- lowering does no more to such a file
+cases-switched : written (switched transformSwitchStatement (fileOf (readFile cases))) ≡ bytesOf (on lower cases)
+unfolding computing
+cases-switched = refl
+
+-- and before it did this
+unfoldable pub running : Lowering
+running file lent out = do
+  f ← admit file lent
+  checkOutput out (finalFigures f)
+  accepted (record { file = written (switched switchBefore f); figures = finalFigures f })
+
+cases-asked : askedIn cases byLetter ≡ 1
+unfolding asked sumOver asksFor usingsIn overDeclarators ofInitializer namesOf shown hintOf letterOf computing
+cases-asked = refl
+
+cases-running : givenBy running cases byLetter ≡ 2
+unfolding running switchBy takeUpCasesBefore takeUpBefore given sumOver calls callsIn overDeclarators ofInitializer namesOf called shown asInSource treeIn treesFrom recordsOf rowOf fieldsOf fieldsIn numbersIn computing
+cases-running = refl
+
+cases-lowered : givenBy lower cases byLetter ≡ 1
+unfolding given sumOver calls callsIn overDeclarators ofInitializer namesOf called shown asInSource treeIn treesFrom recordsOf rowOf fieldsOf fieldsIn numbersIn computing
+cases-lowered = refl
+
+pub no-running-letter : running ≡ lower → ⊥
+no-running-letter e = omega (arith, cases-lowered, cases-running, ap (λ (l : Lowering). givenBy l cases byLetter) e)
+
+pub running-not-hinted : Hinted running cases → ⊥
+running-not-hinted e = omega (arith, cases-asked, cases-running, e byLetter)
+
+-- ---- a switch's step by its letters alone (excluded by `letters-only`)
+
+-- a Call with the letter `a`
+unfoldable pub callsA : Forest → Bool
+callsA none = false
+callsA (more h k r) = (eqb (h .tag) Tag.Call && eqb (h .a) Letter.A) || callsA k || callsA r
+
+-- the release is awaited if a Call in a Case has the letter `a`
+abbrev switchByLetters : SwitchRewrite
+switchByLetters = switchBy takeUpCases (λ k. callsA (takeUpCases 1 k))
+
+-- a Switch with an `await using` without an initializer
+abbrev bare : File
+bare = fileOf (readFile (bytes "40:1,0 41:0,16 41:1,0 42:10,6,2,0 1:1,1 9:2,2 24:0,0 10:0,1 5:4,1 6:0,1,1 26:1"))
+
+-- the forms of all Steps
+unfoldable pub steps : Forest → ℕ
+steps f = sumOver (λ h k. if eqb (h .tag) Tag.Step then h .a else 0) f
+
+abbrev bareSteps : SwitchRewrite → ℕ
+bareSteps switch = steps (unlettered (switched switch bare .tree))
+
+steps-before : bareSteps switchBefore ≡ 2
+unfolding steps unlettered sumOver switchBy takeUpCasesBefore takeUpBefore computing
+steps-before = refl
+
+steps-by-letters : bareSteps switchByLetters ≡ 1
+unfolding steps unlettered sumOver callsA switchBy computing
+steps-by-letters = refl
+
+pub no-letter-step : ButLetters switchByLetters → ⊥
+unfolding steps unlettered sumOver
+no-letter-step e =
+    let s = firstChildren (bare .tree) in
+    let same = e 1 (firstHead s) (firstChildren s) (storeOf bare) .1 in
+    omega (arith, steps-before, steps-by-letters, ap steps same)
 
 -- ---- lengths that are none of 01's (excluded by `lengths-are-01`)
 

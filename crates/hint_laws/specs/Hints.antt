@@ -66,10 +66,10 @@ ofSource read w = λ names e letter. w names (asInSource read e) letter
 abbrev pub letterFor : Head → ℕ
 letterFor h = letterOf (hintOf (h .a))
 
--- the records that stand around usings which are taken up: lists, and a For around its first child. A Case's are a switch's, and have
--- another letter; an exported using is not taken up.
+-- the records that stand around usings which are taken up: lists, a Case's among them, and a For around its first child. An exported using is
+-- not taken up.
 abbrev pub takesUp : ℕ → Bool
-takesUp t = oneOf (Tag.Program ∷ Tag.Block ∷ Tag.For ∷ Tag.Body ∷ Tag.StaticBlock ∷ []) t
+takesUp t = oneOf (Tag.Program ∷ Tag.Block ∷ Tag.For ∷ Tag.Case ∷ Tag.Body ∷ Tag.StaticBlock ∷ []) t
 
 module _ (w : List ℕ → List ℕ → ℕ → ℕ) where
   -- an initializer that asks for a letter
@@ -98,8 +98,7 @@ module _ (w : List ℕ → List ℕ → ℕ → ℕ) where
       else if eqb (h .tag) Tag.ForOf then forOfUsing k
       else 0
 
-  -- WHAT THE SOURCE ASKS FOR: the names and the initializer of each using that is taken up outside a switch, with the letter of its TC39
-  -- hint.
+  -- WHAT THE SOURCE ASKS FOR: the names and the initializer of each using that is taken up, with the letter of its TC39 hint.
   unfoldable pub asked : Forest → ℕ
   asked tree = sumOver (asksFor letterFor) tree
 
@@ -114,11 +113,10 @@ module _ (w : List ℕ → List ℕ → ℕ → ℕ) where
   callsIn read none = 0
   callsIn read (more h k r) = (if eqb (h .tag) Tag.Declaration then overDeclarators (called read) k else 0) + callsIn read r
 
-  -- by a record; a Declaration in a Case is a switch's, and that of a ForOf has no initializer
+  -- by a record; the Declaration of a ForOf has no initializer
   unfoldable pub calls : ℕ → Head → Forest → ℕ
-  calls read h k = if oneOf (Tag.ForOf ∷ Tag.Case ∷ []) (h .tag) then 0 else callsIn read k
+  calls read h k = if eqb (h .tag) Tag.ForOf then 0 else callsIn read k
 
--- WHAT A TREE CALLS: the names of each Declarator outside a switch whose initializer lowering has wrapped, with what is wrapped, and the
--- letter of the Call.
+-- WHAT A TREE CALLS: the names of each Declarator whose initializer lowering has wrapped, with what is wrapped, and the letter of the Call.
 unfoldable pub given : (List ℕ → List ℕ → ℕ → ℕ) → ℕ → Forest → ℕ
 given w read tree = sumOver (calls (ofSource read w) read) tree

@@ -1,6 +1,6 @@
 -- The statements and bodies that get a context: block, function body, static block, try parts, for, switch.
 -- Assumes nothing.
-use mathlib.Core.Bool.{Bool, true, false, _||_, _&&_}
+use mathlib.Core.Bool.{Bool, false, _||_, _&&_}
 use mathlib.Core.List.{List, [], _∷_}
 use Prim.Native.Nat.{ℕ}
 use lib.Dec.{eqb}
@@ -120,7 +120,7 @@ forList (more h k r) = if eqb (h .tag) Tag.Label then forList k else if eqb (h .
 
 unfoldable pub takeUpFor : ℕ → Forest → Forest
 takeUpFor ctx none = none
-takeUpFor ctx (more h k r) = more h (if eqb (h .tag) Tag.Label then takeUpFor ctx k else takeUp false ctx false k) r
+takeUpFor ctx (more h k r) = more h (if eqb (h .tag) Tag.Label then takeUpFor ctx k else takeUp ctx k) r
 
 -- `transform_for_statement`: the For with its Labels goes into the Try
 unfoldable pub transformForStatement : ℕ → ℕ → Head → Forest → Change Node
@@ -141,12 +141,10 @@ unfoldable pub anyCaseAwaitUsing : Forest → Bool
 anyCaseAwaitUsing none = false
 anyCaseAwaitUsing (more h k r) = (eqb (h .tag) Tag.Case && anyAwaitUsing k) || anyCaseAwaitUsing r
 
--- the usings of the Cases: the letter comes from the running needs_await
-unfoldable pub takeUpCases : ℕ → Bool → Forest → Forest
-takeUpCases ctx needsAwait none = none
-takeUpCases ctx needsAwait (more h k r) =
-    if eqb (h .tag) Tag.Case then more h (takeUp true ctx needsAwait k) (takeUpCases ctx (needsAwait || anyAwaitUsing k) r)
-    else more h k (takeUpCases ctx needsAwait r)
+-- the usings of the Cases
+unfoldable pub takeUpCases : ℕ → Forest → Forest
+takeUpCases ctx none = none
+takeUpCases ctx (more h k r) = more h (if eqb (h .tag) Tag.Case then takeUp ctx k else k) (takeUpCases ctx r)
 
 -- `transform_switch_statement`: the context is bound in the current scope
 unfoldable pub transformSwitchStatement : ℕ → Head → Forest → Change Node
@@ -155,4 +153,4 @@ transformSwitchStatement cur h k = do
   scope ← createChildScope cur 0
   changeScopeParent (h .a) scope
   helper ← helperLoad cur
-  createTryStmt scope (declaration Kind.Var ctx helper & one h (takeUpCases ctx false k)) ctx cur (anyCaseAwaitUsing k)
+  createTryStmt scope (declaration Kind.Var ctx helper & one h (takeUpCases ctx k)) ctx cur (anyCaseAwaitUsing k)

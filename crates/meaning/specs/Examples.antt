@@ -1,15 +1,22 @@
 -- Small files, computed: each holds the definitions to a rule of 01 or of a request. All of 01's cases are in crates/cases.
 -- Assumes nothing.
 use mathlib.Core.Path.{_≡_, refl}
+use mathlib.Core.Bool.{true}
 use mathlib.Core.List.{List, [], _∷_, _++_}
 use Prim.Native.Nat.{ℕ, zero, suc}
 use Prim.Native.String.{String}
 use lib.ListN.{take}
+use Rattle.meaning.specs.Numbers.Tag
+use Rattle.meaning.specs.Numbers.Kind
+use Rattle.meaning.specs.Numbers.Letter
 use Rattle.meaning.specs.Numbers.SymbolFlag
-use Rattle.meaning.specs.Tree.{none}
+use Rattle.meaning.specs.Tree.{hd, Forest, none, one, _&_}
 use Rattle.meaning.specs.File.{scopeRow, Symbol, symbolRow}
 use Rattle.meaning.specs.Reading.{Outcome, accepted, refused, readForest, readFile}
 use Rattle.meaning.specs.Scoping.{getBinding, findBinding, blockScopedIn}
+use Rattle.meaning.specs.Shapes.{call, load}
+use Rattle.meaning.specs.Statements.{takeUp}
+use Rattle.meaning.specs.Contexts.{anyCaseAwaitUsing}
 use Rattle.meaning.specs.Walk.{storeOf}
 use Rattle.meaning.specs.Charges.{figures}
 use Rattle.meaning.specs.Lowering.{Lent, Written, figuresOf, admit, admitOutput, lower}
@@ -125,6 +132,22 @@ moving-rows = refl
 
 -- ---- rewrites
 
+-- a declaration of one Declarator without names
+abbrev declared : ℕ → Forest → Forest
+declared kind initializer = one (hd Tag.Declaration kind 0 0) (one (hd Tag.Declarator 1 0 0) initializer)
+
+-- a `using` before an `await using` has its own letter
+pub two-letters
+    : takeUp 9 (declared Kind.Using (load 1 2) & declared Kind.AwaitUsing (load 1 3))
+    ≡ declared Kind.Const (call Letter.U 9 (load 1 2)) & declared Kind.Const (call Letter.A 9 (load 1 3))
+unfolding computing
+two-letters = refl
+
+-- an `await using` without an initializer counts for its switch
+pub bare-counts : anyCaseAwaitUsing (one (hd Tag.Case 0 0 0) (declared Kind.AwaitUsing none)) ≡ true
+unfolding computing
+bare-counts = refl
+
 -- each declaration has its own letter
 pub own-letters
     : lowered "40:1,0 41:0,16 41:1,0 42:10,6,2,0 42:11,6,2,0 42:12,6,2,0 1:1,1 2:2,3 5:3,1 6:0,1,2 26:1 24:7,0 5:4,1 6:0,1,2 26:2 24:8,0 5:3,1 6:0,1,2 26:3 24:9,0"
@@ -132,12 +155,19 @@ pub own-letters
 unfolding computing
 own-letters = refl
 
--- in a switch a `using` after an `await using` gets its letter
-pub running-letter
+-- in a switch too: a `using` in the Case behind an `await using`'s keeps its own, and the context's release is awaited
+pub case-letters
     : lowered "40:1,0 41:0,16 41:1,0 41:2,0 42:10,6,3,0 42:11,6,3,0 1:1,1 2:2,1 9:3,3 24:1,0 10:1,2 24:2,0 5:4,1 6:0,1,2 26:1 24:7,0 10:0,1 5:3,1 6:0,1,2 26:2 24:8,0"
-    ≡ gives 29 7 4 1 313 "40:1,0 41:0,16 41:1,0 41:4,0 41:2,0 41:2,2 41:5,0 41:2,0 42:10,6,3,0 42:11,6,3,0 42:5,1,2,1 42:2,17,6,0 1:1,1 2:2,1 11:3,3 2:4,2 5:0,1 6:0,1,2 26:3 28:1,0 9:3,3 24:1,0 10:1,2 24:2,0 5:2,1 6:0,1,2 26:1 27:1,3,1 24:7,0 10:0,1 5:2,1 6:0,1,2 26:2 27:1,3,1 24:8,0 12:5,1,0,2 26:4 2:6,1 29:0,3,4 2:7,1 29:2,3,0"
+    ≡ gives 29 7 4 1 313 "40:1,0 41:0,16 41:1,0 41:4,0 41:2,0 41:2,2 41:5,0 41:2,0 42:10,6,3,0 42:11,6,3,0 42:5,1,2,1 42:2,17,6,0 1:1,1 2:2,1 11:3,3 2:4,2 5:0,1 6:0,1,2 26:3 28:1,0 9:3,3 24:1,0 10:1,2 24:2,0 5:2,1 6:0,1,2 26:1 27:1,3,1 24:7,0 10:0,1 5:2,1 6:0,1,2 26:2 27:0,3,1 24:8,0 12:5,1,0,2 26:4 2:6,1 29:0,3,4 2:7,1 29:2,3,0"
 unfolding computing
-running-letter = refl
+case-letters = refl
+
+-- an `await using` without an initializer gets no letter, and the release is awaited
+pub bare-awaits
+    : lowered "40:1,0 41:0,16 41:1,0 42:10,6,2,0 42:11,6,2,0 1:1,1 9:2,2 24:0,0 10:0,2 5:4,1 6:0,1,1 26:1 5:3,1 6:0,1,2 26:2 24:8,0"
+    ≡ gives 24 6 4 1 269 "40:1,0 41:0,16 41:3,0 41:1,0 41:1,2 41:4,0 41:1,0 42:10,6,2,0 42:11,6,2,0 42:5,1,1,1 42:2,17,5,0 1:1,1 11:3,3 2:3,2 5:0,1 6:0,1,2 26:3 28:1,0 9:2,2 24:0,0 10:0,2 5:2,1 6:0,1,1 26:1 5:2,1 6:0,1,2 26:2 27:0,3,1 24:8,0 12:4,1,0,2 26:4 2:5,1 29:0,3,4 2:6,1 29:2,3,0"
+unfolding computing
+bare-awaits = refl
 
 -- a catch parameter moves with the lowered handler, which costs 12 records as a try part
 pub handler-moves

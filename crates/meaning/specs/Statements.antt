@@ -73,13 +73,12 @@ wrapInitializers letter ctx (more h k r) =
 unfoldable pub asTakenUp : Head → Head
 asTakenUp h = hd Tag.Declaration (if eqb (h .b) 0 then Kind.Const else Kind.Var) 0 0
 
--- The usings of a list, taken up by a context: each has the letter of its own kind, or in a Switch (`running`) that of needs_await so far.
-unfoldable pub takeUp : Bool → ℕ → Bool → Forest → Forest
-takeUp running ctx needsAwait none = none
-takeUp running ctx needsAwait (more h k r) =
-    let awaits = needsAwait || isAwaitUsing h in
-    let rest = takeUp running ctx (running && awaits) r in
-    if isUsing h then more (asTakenUp h) (wrapInitializers (letterIf awaits) ctx k) rest else more h k rest
+-- The usings of a list, taken up by a context, each with the letter of its own kind.
+unfoldable pub takeUp : ℕ → Forest → Forest
+takeUp ctx none = none
+takeUp ctx (more h k r) =
+    let rest = takeUp ctx r in
+    if isUsing h then more (asTakenUp h) (wrapInitializers (letterIf (isAwaitUsing h)) ctx k) rest else more h k rest
 
 -- the context's symbol, on `usingCtx`
 unfoldable pub makeContext : ℕ → Change ℕ
@@ -101,7 +100,7 @@ transformStatements cur hoist list = do
   helper ← helperLoad cur
   return
       (record {
-        statements = declaration Kind.Var ctx helper & takeUp false ctx false list;
+        statements = declaration Kind.Var ctx helper & takeUp ctx list;
         needsAwait = anyAwaitUsing list;
         usingCtx = ctx;
       })

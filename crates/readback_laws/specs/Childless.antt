@@ -5,7 +5,7 @@ use mathlib.Core.Bool.{false}
 use mathlib.Core.List.{List, [], _∷_}
 use Prim.Native.Nat.{ℕ, zero, suc}
 use native.Mathlib.Omega.{arith}
-use Rattle.meaning.specs.Tree.{if_then_else_, Head, Forest, none, more, one, count, single, _&_}
+use Rattle.meaning.specs.Tree.{Head, Forest, none, more, one, count, single, _&_}
 use Rattle.meaning.specs.File.{File, hasChildren}
 use Rattle.meaning.specs.Grammar.{childrenOf, placeOf}
 use Rattle.meaning.specs.Reading.{accepted, readFile}

@@ -50,8 +50,8 @@ unfolding transformBlockStatement transformStatements
 block-childless cur hoist h k st p =
     let c = makeContext hoist st in
     let l = helperLoad cur (c .1) in
-    try-childless (h .a) (takeUp false (c .0) false k) (c .0) cur (c .0) cur (anyAwaitUsing k) (c .1) (l .1)
-    (list-childless k false (c .0) false p)
+    try-childless (h .a) (takeUp (c .0) k) (c .0) cur (c .0) cur (anyAwaitUsing k) (c .1) (l .1)
+    (list-childless k (c .0) p)
 
 pub body-childless : (cur hoist : ℕ) (k : Forest) (st : Store) → Childless k → Childless (single ((enterFunctionBody cur hoist k st) .0))
 unfolding enterFunctionBody transformStatements hasChildren
@@ -61,8 +61,8 @@ body-childless cur hoist k st p =
     let s = insertScopeBelow cur k (l .1) in
     let m = moveBindings (blockScopedIn (s .1 .symbols) cur (s .1 .symbols) 1) (s .0) (s .1) in (
       never,
-      try-childless (s .0) (takeUp false (c .0) false k) (c .0) cur (c .0) cur (anyAwaitUsing k) (c .1) (m .1)
-          (list-childless k false (c .0) false p),
+      try-childless (s .0) (takeUp (c .0) k) (c .0) cur (c .0) cur (anyAwaitUsing k) (c .1) (m .1)
+          (list-childless k (c .0) p),
       tt,
     )
 
@@ -76,8 +76,8 @@ static-if true h k st p =
     let m = moveBinding (c .0) (s .0) (s .1) in
     let f = setScopeFlags (h .a) 1 (m .1) in (
       never,
-      try-childless (h .a) (takeUp false (c .0) false k) (c .0) (h .a) (c .0) (s .0) (anyAwaitUsing k) (c .1) (f .1)
-          (list-childless k false (c .0) false (p .1)),
+      try-childless (h .a) (takeUp (c .0) k) (c .0) (h .a) (c .0) (s .0) (anyAwaitUsing k) (c .1) (f .1)
+          (list-childless k (c .0) (p .1)),
       tt,
     )
 static-if false h k st p = p
@@ -106,8 +106,8 @@ switch-childless cur h k st p =
     let s = createChildScope cur 0 (c .1) in
     let m = changeScopeParent (h .a) (s .0) (s .1) in
     let l = helperLoad cur (m .1) in
-    try-childless (s .0) (one h (takeUpCases (c .0) false k)) (c .0) cur (c .0) cur (anyCaseAwaitUsing k) (m .1) (l .1)
-    ((λ e. ap (takeUpCases (c .0) false) (p .0 e)), cases-childless k (c .0) false (p .1), tt)
+    try-childless (s .0) (one h (takeUpCases (c .0) k)) (c .0) cur (c .0) cur (anyCaseAwaitUsing k) (m .1) (l .1)
+    ((λ e. ap (takeUpCases (c .0)) (p .0 e)), cases-childless k (c .0) (p .1), tt)
 
 -- ---- Try
 
@@ -119,8 +119,8 @@ try-block cur hoist h k r st p q =
     let l = helperLoad cur (c .1) in
     let s = insertScopeBetween (h .a) 0 (l .1) in (
       never,
-      try-childless (h .a) (takeUp false (c .0) false k) (c .0) cur (c .0) (s .0) (anyAwaitUsing k) (c .1) (s .1)
-          (list-childless k false (c .0) false p),
+      try-childless (h .a) (takeUp (c .0) k) (c .0) cur (c .0) (s .0) (anyAwaitUsing k) (c .1) (s .1)
+          (list-childless k (c .0) p),
       q,
     )
 

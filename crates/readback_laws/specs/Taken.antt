@@ -1,7 +1,7 @@
 -- Lists that a context takes up, and the Try around them: records without n get no children.
 -- Assumes nothing.
 use mathlib.Core.Path.{_≡_, refl, ap}
-use mathlib.Core.Bool.{Bool, true, false, _||_, _&&_}
+use mathlib.Core.Bool.{Bool, true, false}
 use Prim.Native.Nat.{ℕ, zero, suc}
 use lib.Dec.{eqb}
 use Rattle.meaning.specs.Numbers.Tag
@@ -14,7 +14,6 @@ use Rattle.meaning.specs.HelperLoader.{loadRuntime, loadExternal, helperLoad}
 use Rattle.meaning.specs.Statements.{
   isUsing,
   isAwaitUsing,
-  anyAwaitUsing,
   letterIf,
   wrapInitializer,
   wrapInitializers,
@@ -69,34 +68,29 @@ unfolding asTakenUp hasChildren
 using-childless true h k r letter ctx o p q = (never, initializers-childless k letter ctx p, q)
 using-childless false h k r letter ctx o p q = (o, p, q)
 
-pub list-childless : (f : Forest) (running : Bool) (ctx : ℕ) (needsAwait : Bool) → Childless f → Childless (takeUp running ctx needsAwait f)
+pub list-childless : (f : Forest) (ctx : ℕ) → Childless f → Childless (takeUp ctx f)
 unfolding takeUp
-list-childless none running ctx needsAwait p = tt
-list-childless (more h k r) running ctx needsAwait p =
-    let awaits = needsAwait || isAwaitUsing h in
-    using-childless (isUsing h) h k (takeUp running ctx (running && awaits) r) (letterIf awaits) ctx (p .0) (p .1)
-    (list-childless r running ctx (running && awaits) (p .2))
+list-childless none ctx p = tt
+list-childless (more h k r) ctx p =
+    using-childless (isUsing h) h k (takeUp ctx r) (letterIf (isAwaitUsing h)) ctx (p .0) (p .1) (list-childless r ctx (p .2))
 
-case-childless : (b : Bool) (h : Head) (k r r′ : Forest) (ctx : ℕ) (needsAwait : Bool) → Bare h k → Childless k → Childless r → Childless r′
-    → Childless (if b then more h (takeUp true ctx needsAwait k) r else more h k r′)
+case-childless : (b : Bool) (h : Head) (k r : Forest) (ctx : ℕ) → Bare h k → Childless k → Childless r
+    → Childless (more h (if b then takeUp ctx k else k) r)
 unfolding takeUp
-case-childless true h k r r′ ctx needsAwait o p q q′ =
-    ((λ e. ap (takeUp true ctx needsAwait) (o e)), list-childless k true ctx needsAwait p, q)
-case-childless false h k r r′ ctx needsAwait o p q q′ = (o, p, q′)
+case-childless true h k r ctx o p q = ((λ e. ap (takeUp ctx) (o e)), list-childless k ctx p, q)
+case-childless false h k r ctx o p q = (o, p, q)
 
-pub cases-childless : (f : Forest) (ctx : ℕ) (needsAwait : Bool) → Childless f → Childless (takeUpCases ctx needsAwait f)
+pub cases-childless : (f : Forest) (ctx : ℕ) → Childless f → Childless (takeUpCases ctx f)
 unfolding takeUpCases
-cases-childless none ctx needsAwait p = tt
-cases-childless (more h k r) ctx needsAwait p =
-    case-childless (eqb (h .tag) Tag.Case) h k _ _ ctx needsAwait (p .0) (p .1)
-    (cases-childless r ctx (needsAwait || anyAwaitUsing k) (p .2))
-    (cases-childless r ctx needsAwait (p .2))
+cases-childless none ctx p = tt
+cases-childless (more h k r) ctx p =
+    case-childless (eqb (h .tag) Tag.Case) h k (takeUpCases ctx r) ctx (p .0) (p .1) (cases-childless r ctx (p .2))
 
 loop-childless : (b : Bool) (h : Head) (k r : Forest) (ctx : ℕ) → Bare h k → Childless k → Childless r → Childless (takeUpFor ctx k)
-    → Childless (more h (if b then takeUpFor ctx k else takeUp false ctx false k) r)
+    → Childless (more h (if b then takeUpFor ctx k else takeUp ctx k) r)
 unfolding takeUpFor takeUp
 loop-childless true h k r ctx o p q i = ((λ e. ap (takeUpFor ctx) (o e)), i, q)
-loop-childless false h k r ctx o p q i = ((λ e. ap (takeUp false ctx false) (o e)), list-childless k false ctx false p, q)
+loop-childless false h k r ctx o p q i = ((λ e. ap (takeUp ctx) (o e)), list-childless k ctx p, q)
 
 pub for-childless : (f : Forest) (ctx : ℕ) → Childless f → Childless (takeUpFor ctx f)
 unfolding takeUpFor

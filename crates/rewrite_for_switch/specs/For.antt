@@ -1,7 +1,7 @@
 -- The For, with its Labels.
 -- Assumes nothing.
 use mathlib.Core.List.{List}
-use mathlib.Core.Bool.{Bool, false, not}
+use mathlib.Core.Bool.{Bool, not}
 use Prim.Native.Nat.{ℕ, _+_, _-_}
 use lib.Dec.{eqb}
 use Rattle.meaning.specs.Numbers.Tag
@@ -49,7 +49,7 @@ forRowsF p b =
     let b₃ = passRowsF labels b₂ in
     let n = columnF (b₃ .t) (b₃ .read) RecordTable.N in
     let b₄ = copyRowF b₃ in
-    let b₅ = takeUpF n false (p .context .0) false b₄ in
+    let b₅ = takeUpF n (p .context .0) b₄ in
     handlersF p b₅
 
 unfoldable pub transformForStatementF : Plan → Tables → Tables

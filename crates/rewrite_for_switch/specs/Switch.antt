@@ -1,7 +1,6 @@
 -- The Switch.
 -- Assumes nothing.
 use mathlib.Core.List.{List}
-use mathlib.Core.Bool.{Bool, true, false, not, _||_}
 use Prim.Native.Nat.{ℕ}
 use lib.Dec.{eqb}
 use Rattle.meaning.specs.Numbers.Tag
@@ -9,7 +8,7 @@ use Rattle.meaning.specs.Tree.{if_then_else_}
 use Rattle.tables.specs.Columns.RecordTable
 use Rattle.tables.specs.Loops.{turns}
 use Rattle.tables.specs.Table.{capped, columnF, rowF, endF}
-use Rattle.tables.specs.Stream.{Buf, buf, copyRowF, copyF}
+use Rattle.tables.specs.Stream.{Buf, copyRowF, copyF}
 use Rattle.statements.specs.TakeUp.{takeUpF}
 use Rattle.statements.specs.Plan.{plan, noPlan, planF}
 use Rattle.statements.specs.Try.{wrappedContextRows, declareContextF, handlersF, openTryF}
@@ -19,31 +18,15 @@ use Rattle.creation.specs.Creation.{inRows}
 use Rattle.creation.specs.Kinds.{forSwitchF}
 use Rattle.path.specs.Path.{Tables, tables, chargedF, withCtxF}
 use Rattle.rewrite_contexts.specs.Lists.{listScope, currentIn}
-use Rattle.rewrite_for_switch.specs.declared.Casing.{Casing}
 
--- a Switch's children on their way, and needs_await so far
-pub record CasingF : Type 0 where
-  pub buf : Buf
-  pub needs : Bool
-
-abbrev pub casingF : Buf → Bool → CasingF
-casingF b needs = record { buf = b; needs = needs }
-
-abbrev pub casing : List ℕ → Casing → CasingF
-casing t s = casingF (buf t (s .at)) (s .needs)
-
-unfoldable pub orAwaitsF : Bool → ℕ → Bool
-orAwaitsF needs awaits = needs || not (eqb awaits 0)
-
-unfoldable pub takeUpCaseF : ℕ → CasingF → CasingF
-takeUpCaseF context s =
-    let r = rowF (s .buf .t) (s .buf .read) in
-    let p = planF (s .buf .t) (noPlan (capped (s .buf .read) 1)) (r .n) in
-    let b = takeUpF (r .n) true context (s .needs) (copyRowF (s .buf)) in
-    if eqb (r .tag) Tag.Case then casingF b (orAwaitsF (s .needs) (p .awaits)) else casingF (copyF (s .buf) 1) (s .needs)
+-- a child of a Switch: the usings of a Case are taken up
+unfoldable pub takeUpCaseF : ℕ → Buf → Buf
+takeUpCaseF context b =
+    let r = rowF (b .t) (b .read) in
+    if eqb (r .tag) Tag.Case then takeUpF (r .n) context (copyRowF b) else copyF b 1
 
 unfoldable pub takeUpCasesF : ℕ → ℕ → Buf → Buf
-takeUpCasesF n context b = turns n (takeUpCaseF context) (casingF b false) .buf
+takeUpCasesF n context b = turns n (takeUpCaseF context) b
 
 unfoldable pub planCaseF : List ℕ → Plan → Plan
 planCaseF t p =

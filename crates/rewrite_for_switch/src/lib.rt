@@ -1,6 +1,7 @@
 // The For, with its Labels, and the Switch.
 use meaning::RecordId;
 use meaning::ScopeId;
+use meaning::SymbolId;
 use meaning::tag;
 use path::Walk;
 use statements::Parts;
@@ -8,13 +9,11 @@ use statements::Plan;
 use tables::Cursor;
 use tables::record;
 ghost use mathlib.Core.Path.{_≡_};
-ghost use mathlib.Core.Bool.{not};
-ghost use lib.Dec.{eqb};
 ghost use Rattle.path.specs.Path.{tables};
 ghost use Rattle.tables.specs.Loops.{until};
 ghost use Rattle.tables.specs.Stream.{buf};
 ghost use Rattle.rewrite_for_switch.specs.For.{isLoopF, nextRow, labelsEndF, planForF, passRowsF, forRowsF, transformForStatementF};
-ghost use Rattle.rewrite_for_switch.specs.Switch.{casing, orAwaitsF, takeUpCaseF, takeUpCasesF, planCaseF, planCasesF, switchRowsF, transformSwitchStatementF};
+ghost use Rattle.rewrite_for_switch.specs.Switch.{takeUpCaseF, takeUpCasesF, planCaseF, planCasesF, switchRowsF, transformSwitchStatementF};
 
 // ---- for
 
@@ -80,7 +79,7 @@ fn write_for(records: &mut [u16], q: Cursor, p: Parts) -> Cursor
     let q3 = pass_rows(records, q2, labels);
     let n = tables::column(records, q3.read, record::N);
     let q4 = tables::copy_row(records, q3);
-    let q5 = statements::take_up(records, q4, n, p.context, false, false);
+    let q5 = statements::take_up(records, q4, n, p.context);
     statements::write_handlers(records, q5, p)
 }
 
@@ -107,60 +106,30 @@ pub fn transform_for_statement(
 
 // ---- switch
 
-// A Switch's children while they are taken up, and needs_await so far.
-pub struct Casing {
-    pub at: Cursor,
-    pub needs: bool,
-}
-
-// `needs` was so before, or something awaits.
-fn or_awaits(needs: bool, awaits: u16) -> bool
-    ensures { λ o. ⌜ o ≡ orAwaitsF needs awaits ⌝ }
+// A child of a Switch: the usings of a Case are taken up.
+fn take_up_case(records: &mut [u16], q: Cursor, context: SymbolId) -> Cursor
+    ensures { λ o. ⌜ buf (now (records .exit)) o ≡ takeUpCaseF (context .0) (buf (now (records .entry)) q) ⌝ }
 {
-    if needs {
-        return true;
-    }
-    awaits != 0
-}
-
-// A child of a Switch: the usings of a Case are taken up with the running letter.
-fn take_up_case(records: &mut [u16], s: Casing, p: Parts) -> Casing
-    ensures { λ o. ⌜ casing (now (records .exit)) o ≡ takeUpCaseF (p .context .0) (casing (now (records .entry)) s) ⌝ }
-{
-    let q = s.at;
     let r = tables::row_after(records, q.read);
     if r.tag == tag::CASE {
-        let plan = statements::plan_list(
-            records,
-            statements::no_plan(RecordId(tables::plus(q.read.0, 1))),
-            r.n,
-        );
         let q1 = tables::copy_row(records, q);
-        let at = statements::take_up(records, q1, r.n, p.context, true, s.needs);
-        Casing {
-            at,
-            needs: or_awaits(s.needs, plan.awaits),
-        }
+        statements::take_up(records, q1, r.n, context)
     } else {
-        let at = tables::copy(records, q, 1);
-        Casing { at, needs: s.needs }
+        tables::copy(records, q, 1)
     }
 }
 
-// The n children of a Switch: the usings of its Cases are taken up.
-fn take_up_cases(records: &mut [u16], start: Cursor, n: u16, p: Parts) -> Cursor
-    ensures { λ o. ⌜ buf (now (records .exit)) o ≡ takeUpCasesF n (p .context .0) (buf (now (records .entry)) start) ⌝ }
+// The n children of a Switch.
+fn take_up_cases(records: &mut [u16], start: Cursor, n: u16, context: SymbolId) -> Cursor
+    ensures { λ o. ⌜ buf (now (records .exit)) o ≡ takeUpCasesF n (context .0) (buf (now (records .entry)) start) ⌝ }
 {
-    let mut s = Casing {
-        at: start,
-        needs: false,
-    };
+    let mut q = start;
     let mut k: u16 = 0;
     while k < n {
-        s = take_up_case(records, s, p);
+        q = take_up_case(records, q, context);
         k += 1;
     }
-    s.at
+    q
 }
 
 // One child of a Switch more: the list of a Case is counted.
@@ -207,7 +176,7 @@ fn write_switch(records: &mut [u16], q: Cursor, p: Parts) -> Cursor
     let q1 = statements::open_try(records, q, rewrite_contexts::list_scope(p), 2);
     let q2 = statements::declare_context(records, q1, p);
     let q3 = tables::copy_row(records, q2);
-    let q4 = take_up_cases(records, q3, n, p);
+    let q4 = take_up_cases(records, q3, n, p.context);
     statements::write_handlers(records, q4, p)
 }
 

@@ -1,7 +1,7 @@
 -- Entering a record rewrites the tables as 01 rewrites the tree and the store.
 -- Assumes nothing.
 use mathlib.Core.Path.{_≡_, refl, sym, ap, subst, _∙_}
-use mathlib.Core.Bool.{true, false}
+use mathlib.Core.Bool.{Bool, true, false}
 use mathlib.Core.List.{List, [], _∷_}
 use Prim.Native.Nat.{ℕ}
 use borrow.Author.Tests.{eq-eqb}
@@ -33,7 +33,7 @@ use Rattle.meaning.specs.Walk.{
 use Rattle.spec_laws.specs.Tags.{Seen, other, here, there, seen}
 use Rattle.charge_laws.specs.Growth.Chosen.{Chosen, kept, as-program, as-block, as-body, as-try, as-for, as-switch, as-insert, as-wrap, chosen}
 use Rattle.charge_laws.specs.Counts.Enter.{Fit}
-use Rattle.charge_laws.specs.Counts.Fits.{Fits}
+use Rattle.charge_laws.specs.Counts.Fits.{FitsIn}
 use Rattle.tables.specs.Table.{columnF, rowF}
 use Rattle.tables.specs.declared.Row.{Row}
 use Rattle.representation.specs.Store.Agreed.{Agreed}
@@ -59,9 +59,9 @@ use Rattle.simulation.specs.Lists.{block-by, body-by, for-by, switch-by}
 use Rattle.simulation.specs.Others.{try-by, program-by, for-of-by}
 
 -- no Catch stands in a Catch of a fit list
-pub catches : (f : Forest) → Fits f → Catches f
-catches none p = tt
-catches (more h k r) p = (p .0 .handler, catches r (p .2))
+pub catches : (inSwitch : Bool) (f : Forest) → FitsIn inSwitch f → Catches f
+catches inSwitch none p = tt
+catches inSwitch (more h k r) p = (p .0 .handler, catches inSwitch r (p .2))
 
 -- ---- by the tag
 

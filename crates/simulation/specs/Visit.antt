@@ -7,7 +7,7 @@ use Prim.Native.Nat.{ℕ, suc, _+_, _≤_}
 use native.Mathlib.Nat.{zero-add}
 use native.Mathlib.Omega.{arith}
 use borrow.Author.Tests.{eqb-true, ne-eqb, lt-ltb, ltb-true, le-ltb, le-leb, lt-leb}
-use lib.Dec.{ltb}
+use lib.Dec.{eqb, ltb}
 use lib.ListN.{length}
 use Rattle.meaning.specs.Numbers.Tag
 use Rattle.meaning.specs.Tree.{Head, Forest, Node, none, one, single, count, size, _&_}
@@ -248,7 +248,7 @@ pub visit-kept : (s : Spot) → Pending s → Agreed (storeAt s) → Agreed (sto
 unfolding visit storeAt
 visit-kept (over tree st) p a = a
 visit-kept (at done h k r path st) p a =
-    rw (at-store done h k r path st (p .0 .0)) (enter-kept path h k st (p .0 .0) (catches k (p .0 .1)) a)
+    rw (at-store done h k r path st (p .0 .0)) (enter-kept path h k st (p .0 .0) (catches (eqb (h .tag) Tag.Switch) k (p .0 .1)) a)
 visit-kept (leaving kids h before after path st) p a =
     rw (leave-store kids h before after path st) (leave-kept kids h before after path st a)
 
@@ -290,7 +290,7 @@ visit-law (at done h k r path st) g z p a room fits =
     (rw t (omega (arith, l)))
     (rw t (omega (arith, l)))
     fits
-    (λ i. at-law done h k r path st (p .0 .0) g z (catches k (p .0 .1)) i a (subst Room t room))
+    (λ i. at-law done h k r path st (p .0 .0) g z (catches (eqb (h .tag) Tag.Switch) k (p .0 .1)) i a (subst Room t room))
 visit-law (leaving kids h before after path st) g z p a room fits =
     let s = leaving kids h before after path st in
     let b = anyUsing kids in

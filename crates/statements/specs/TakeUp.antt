@@ -1,7 +1,7 @@
 -- Usings taken up by a context, as their rows pass.
 -- Assumes nothing.
-use mathlib.Core.List.{List, [], _∷_}
-use mathlib.Core.Bool.{Bool, _||_, _&&_}
+use mathlib.Core.List.{[], _∷_}
+use mathlib.Core.Bool.{Bool, _&&_}
 use Prim.Native.Nat.{ℕ, _-_}
 use lib.Dec.{eqb, ltb}
 use Rattle.meaning.specs.Numbers.Tag
@@ -10,9 +10,8 @@ use Rattle.meaning.specs.Tree.{if_then_else_, oneOf}
 use Rattle.meaning.specs.Statements.{isUsing, isAwaitUsing, letterIf}
 use Rattle.tables.specs.Loops.{turns}
 use Rattle.tables.specs.Table.{rowF, closedRowF, headF}
-use Rattle.tables.specs.Stream.{Buf, buf, emitF, replaceRowF, copyRowF, copyF}
+use Rattle.tables.specs.Stream.{Buf, emitF, replaceRowF, copyRowF, copyF}
 use Rattle.tables.specs.declared.Row.{Row}
-use Rattle.statements.specs.declared.Taking.{Taking}
 
 abbrev pub isUsingKindF : ℕ → Bool
 isUsingKindF kind = oneOf (Kind.Using ∷ Kind.AwaitUsing ∷ []) kind
@@ -34,26 +33,12 @@ takeUpDeclaratorsF n letter context b = turns n (takeUpDeclaratorF letter contex
 unfoldable pub asConstF : Row → Row
 asConstF r = if eqb (r .b) 0 then closedRowF Tag.Declaration Kind.Const 0 0 (r .n) else closedRowF Tag.Declaration Kind.Var 0 0 (r .n)
 
-unfoldable pub takeUpItemF : ℕ → ℕ → Buf → Buf
-takeUpItemF letter context b =
+-- an item of a list: a using is taken up with the letter of its own kind
+unfoldable pub takeUpItemF : ℕ → Buf → Buf
+takeUpItemF context b =
     let r = rowF (b .t) (b .read) in
+    let letter = letterIf (isAwaitUsing (headF r)) in
     if isUsing (headF r) then takeUpDeclaratorsF (r .n) letter context (replaceRowF b (asConstF r)) else copyF b 1
 
--- a list on its way, with needs_await so far
-pub record TakingF : Type 0 where
-  pub buf : Buf
-  pub needs : Bool
-
-abbrev pub takingF : Buf → Bool → TakingF
-takingF b needs = record { buf = b; needs = needs }
-
-abbrev pub taking : List ℕ → Taking → TakingF
-taking t s = takingF (buf t (s .at)) (s .needs)
-
-unfoldable pub takeUpOneF : Bool → ℕ → TakingF → TakingF
-takeUpOneF running context s =
-    let awaits = s .needs || isAwaitUsing (headF (rowF (s .buf .t) (s .buf .read))) in
-    takingF (takeUpItemF (letterIf awaits) context (s .buf)) (running && awaits)
-
-unfoldable pub takeUpF : ℕ → Bool → ℕ → Bool → Buf → Buf
-takeUpF n running context needs b = turns n (takeUpOneF running context) (takingF b needs) .buf
+unfoldable pub takeUpF : ℕ → ℕ → Buf → Buf
+takeUpF n context b = turns n (takeUpItemF context) b

@@ -1,6 +1,5 @@
 -- The rows of a Try.
 -- Assumes nothing.
-use mathlib.Core.Bool.{false}
 use Prim.Native.Nat.{ℕ}
 use lib.Dec.{eqb}
 use Rattle.meaning.specs.Numbers.Tag
@@ -56,4 +55,4 @@ openTryF scope n b = emitF (emitF b (closedRowF Tag.Try TryParts.Both 0 0 3)) (c
 
 -- what follows for a list of n items
 unfoldable pub transformListF : ℕ → Parts → Buf → Buf
-transformListF n p b = handlersF p (takeUpF n false (p .context .0) false (declareContextF p b))
+transformListF n p b = handlersF p (takeUpF n (p .context .0) (declareContextF p b))

@@ -10,12 +10,12 @@ use meaning::tag;
 use tables::Cursor;
 use tables::Row;
 ghost use mathlib.Core.Path.{_≡_};
-ghost use mathlib.Core.Bool.{false, _||_, _&&_};
+ghost use mathlib.Core.Bool.{false};
 ghost use Rattle.meaning.specs.Tree.{if_then_else_};
 ghost use Rattle.meaning.specs.Statements.{isUsing, isAwaitUsing, letterIf};
 ghost use Rattle.tables.specs.Table.{headF};
 ghost use Rattle.tables.specs.Stream.{buf};
-ghost use Rattle.statements.specs.TakeUp.{taking, isUsingKindF, hasInitializerF, asConstF, takeUpDeclaratorF, takeUpDeclaratorsF, takeUpItemF, takeUpOneF, takeUpF};
+ghost use Rattle.statements.specs.TakeUp.{isUsingKindF, hasInitializerF, asConstF, takeUpDeclaratorF, takeUpDeclaratorsF, takeUpItemF, takeUpF};
 ghost use Rattle.statements.specs.Plan.{countOneF, initializersF, wrapsF, planOneF, planF, noPlan};
 ghost use Rattle.statements.specs.Try.{stepForm, declareF, declareContextF, catchClauseF, finallyBlockF, handlersF, openTryF, transformListF};
 
@@ -49,12 +49,6 @@ pub struct Plan {
     pub usings: u16,
     pub awaits: u16,
     pub wraps: u16,
-}
-
-// A list while it is taken up, and needs_await so far.
-pub struct Taking {
-    pub at: Cursor,
-    pub needs: bool,
 }
 
 // ---- tests
@@ -164,12 +158,13 @@ fn as_const(r: Row) -> Row
     }
 }
 
-// An item of a list.
-fn take_up_item(records: &mut [u16], q: Cursor, letter: u16, context: SymbolId) -> Cursor
-    ensures { λ o. ⌜ buf (now (records .exit)) o ≡ takeUpItemF letter (context .0) (buf (now (records .entry)) q) ⌝ }
+// An item of a list: a using is taken up with the letter of its own kind.
+fn take_up_item(records: &mut [u16], q: Cursor, context: SymbolId) -> Cursor
+    ensures { λ o. ⌜ buf (now (records .exit)) o ≡ takeUpItemF (context .0) (buf (now (records .entry)) q) ⌝ }
 {
     let r = tables::row_after(records, q.read);
     if is_using(r) {
+        let letter = letter_if(is_await_using(r));
         let q1 = tables::replace_row(records, q, as_const(r));
         take_up_declarators(records, q1, r.n, letter, context)
     } else {
@@ -177,54 +172,17 @@ fn take_up_item(records: &mut [u16], q: Cursor, letter: u16, context: SymbolId) 
     }
 }
 
-// `needs` was so before, or this is an `await using`.
-fn awaits_now(needs: bool, r: Row) -> bool
-    ensures { λ o. ⌜ o ≡ (needs || isAwaitUsing (headF r)) ⌝ }
+// The usings of a list of n items.
+pub fn take_up(records: &mut [u16], start: Cursor, n: u16, context: SymbolId) -> Cursor
+    ensures { λ o. ⌜ buf (now (records .exit)) o ≡ takeUpF n (context .0) (buf (now (records .entry)) start) ⌝ }
 {
-    if needs {
-        return true;
-    }
-    is_await_using(r)
-}
-
-// Both are so.
-fn both(x: bool, y: bool) -> bool
-    ensures { λ o. ⌜ o ≡ (x && y) ⌝ }
-{
-    if x { y } else { false }
-}
-
-// An item with the letter of its own kind, or in a Switch (`running`) with that of needs_await so far.
-fn take_up_one(records: &mut [u16], s: Taking, running: bool, context: SymbolId) -> Taking
-    ensures { λ o. ⌜ taking (now (records .exit)) o ≡ takeUpOneF running (context .0) (taking (now (records .entry)) s) ⌝ }
-{
-    let q = s.at;
-    let r = tables::row_after(records, q.read);
-    let awaits = awaits_now(s.needs, r);
-    Taking {
-        at: take_up_item(records, q, letter_if(awaits), context),
-        needs: both(running, awaits),
-    }
-}
-
-// The usings of a list of n items, by whether the letter runs on and what needs_await is before it.
-pub fn take_up(
-    records: &mut [u16],
-    start: Cursor,
-    n: u16,
-    context: SymbolId,
-    running: bool,
-    needs: bool,
-) -> Cursor
-    ensures { λ o. ⌜ buf (now (records .exit)) o ≡ takeUpF n running (context .0) needs (buf (now (records .entry)) start) ⌝ }
-{
-    let mut s = Taking { at: start, needs };
+    let mut q = start;
     let mut k: u16 = 0;
     while k < n {
-        s = take_up_one(records, s, running, context);
+        q = take_up_item(records, q, context);
         k += 1;
     }
-    s.at
+    q
 }
 
 // ---- counting first
@@ -419,6 +377,6 @@ pub fn transform_list(records: &mut [u16], q: Cursor, n: u16, p: Parts) -> Curso
     ensures { λ o. ⌜ buf (now (records .exit)) o ≡ transformListF n p (buf (now (records .entry)) q) ⌝ }
 {
     let q1 = declare_context(records, q, p);
-    let q2 = take_up(records, q1, n, p.context, false, false);
+    let q2 = take_up(records, q1, n, p.context);
     write_handlers(records, q2, p)
 }

@@ -134,6 +134,8 @@ fn replay_all(room: &mut [u8]) {
     replay(b"visits.txt", Form::Walks, room);
     replay(b"lower.txt", Form::Lowerings, room);
     replay(b"depth.txt", Form::Lowerings, room);
+    replay(b"letters.txt", Form::Lowerings, room);
+    replay(b"letter_visits.txt", Form::Walks, room);
     replay(b"corners.txt", Form::Corners, room);
 }
 

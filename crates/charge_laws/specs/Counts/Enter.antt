@@ -57,12 +57,16 @@ Left none = Unit {0}
 Left (more h k r) = (isUsing h && bindsIdentifier k) ≡ true → Named k × Begins k × (oneOf (Kind.Using ∷ Kind.AwaitUsing ∷ []) (h .a) ≡ true) × Body r
 
 -- The exports of a Program with a using have one child each, and its usings are not recorded; a ForOf's left side is as said; a Label
--- has one child; a Catch has no Catch among its children.
-pub record Fit (h : Head) (k : Forest) : Type 0 where
+-- has one child; a Catch has no Catch among its children; a Case has usings only in a Switch that is still to be entered.
+pub record FitIn (inSwitch : Bool) (h : Head) (k : Forest) : Type 0 where
   pub items : eqb (h .tag) Tag.Program ≡ true → anyUsing k ≡ true → Exports k × Kinds k
   pub side : eqb (h .tag) Tag.ForOf ≡ true → Left k
   pub label : eqb (h .tag) Tag.Label ≡ true → Labelled k
   pub handler : eqb (h .tag) Tag.Catch ≡ true → Lacks Tag.Catch k
+  pub taken : inSwitch ≡ false → eqb (h .tag) Tag.Case ≡ true → anyUsing k ≡ false
+
+abbrev pub Fit : Head → Forest → Type 0
+Fit h k = FitIn false h k
 
 named-left : (k : Forest) → Left k → NamedLeft k
 named-left none p = tt

@@ -1,7 +1,7 @@
 -- Visits keep a tree fit.
 -- Assumes nothing.
-use mathlib.Core.Path.{_≡_, refl}
-use mathlib.Core.Bool.{Bool, true, false, _||_, _&&_}
+use mathlib.Core.Path.{_≡_, refl, ap, subst, _∙_}
+use mathlib.Core.Bool.{Bool, true, false, _&&_}
 use mathlib.Core.List.{[], _∷_}
 use Prim.Native.Nat.{ℕ, zero, suc}
 use lib.Dec.{eqb}
@@ -16,7 +16,6 @@ use Rattle.meaning.specs.Statements.{
   isUsing,
   isAwaitUsing,
   anyUsing,
-  anyAwaitUsing,
   letterIf,
   wrapInitializer,
   wrapInitializers,
@@ -26,26 +25,38 @@ use Rattle.meaning.specs.Statements.{
   createFinallyBlock,
   createTryStmt,
 }
-use Rattle.meaning.specs.Contexts.{forList, takeUpFor, takeUpCases}
-use Rattle.spec_laws.specs.Tags.{Seen, other, here, there, seen, clash}
-use Rattle.charge_laws.specs.Counts.TakenUp.{Labelled}
+use Rattle.meaning.specs.Contexts.{forList, takeUpFor, anyCaseUsing, takeUpCases}
+use Rattle.spec_laws.specs.Tags.{Seen, other, here, there, seen, clash, or-none}
+use Rattle.charge_laws.specs.Growth.Trees.{using-tag}
+use Rattle.charge_laws.specs.Counts.TakenUp.{none-left, Labelled}
 use Rattle.charge_laws.specs.Totals.Roles.{Lacks}
-use Rattle.charge_laws.specs.Counts.Enter.{Fit}
+use Rattle.charge_laws.specs.Counts.Enter.{FitIn, Fit}
 
--- each record of a tree is fit
+-- each record of a tree is fit, in a Switch or elsewhere
+abbrev pub FitsIn : Bool → Forest → Type 0
+FitsIn inSwitch none = Unit {0}
+FitsIn inSwitch (more h k r) = FitIn inSwitch h k × FitsIn (eqb (h .tag) Tag.Switch) k × FitsIn inSwitch r
+
 abbrev pub Fits : Forest → Type 0
-Fits none = Unit {0}
-Fits (more h k r) = Fit h k × Fits k × Fits r
+Fits f = FitsIn false f
 
--- a record that is no Program, no ForOf, no Label and no Catch
-pub easy : {h : Head} {k : Forest} → oneOf (Tag.Program ∷ Tag.ForOf ∷ Tag.Label ∷ Tag.Catch ∷ []) (h .tag) ≡ false → Fit h k
-easy {h} p =
+-- the children of a record
+abbrev pub FitsBelow : Head → Forest → Type 0
+FitsBelow h k = FitsIn (eqb (h .tag) Tag.Switch) k
+
+pub below : {t : ℕ} (h : Head) (k : Forest) → h .tag ≡ t → eqb t Tag.Switch ≡ false → FitsBelow h k → Fits k
+below h k e n p = subst (λ (b : Bool). FitsIn b k) (ap (λ (t : ℕ). eqb t Tag.Switch) e ∙ n) p
+
+-- a record that is no Program, no ForOf, no Label, no Catch and no Case
+pub easy : {b : Bool} {h : Head} {k : Forest} → oneOf (Tag.Program ∷ Tag.ForOf ∷ Tag.Label ∷ Tag.Catch ∷ Tag.Case ∷ []) (h .tag) ≡ false → FitIn b h k
+easy {h = h} p =
     let t = h .tag in
     record {
       items = λ e. absurd (clash p (rw (eqb-true t 1 e)));
       side = λ e. absurd (clash p (rw (eqb-true t 8 e)));
       label = λ e. absurd (clash p (rw (eqb-true t 4 e)));
       handler = λ e. absurd (clash p (rw (eqb-true t 12 e)));
+      taken = λ _ e. absurd (clash p (rw (eqb-true t 10 e)));
     }
 
 label-fit : {a b c : ℕ} {k : Forest} → Labelled k → Fit (hd Tag.Label a b c) k
@@ -55,6 +66,7 @@ label-fit p =
       side = λ e. absurd (clash refl e);
       label = λ e. p;
       handler = λ e. absurd (clash refl e);
+      taken = λ _ e. absurd (clash refl e);
     }
 
 pub catch-fit : {a b c : ℕ} {k : Forest} → Lacks Tag.Catch k → Fit (hd Tag.Catch a b c) k
@@ -64,6 +76,17 @@ catch-fit p =
       side = λ e. absurd (clash refl e);
       label = λ e. absurd (clash refl e);
       handler = λ e. p;
+      taken = λ _ e. absurd (clash refl e);
+    }
+
+case-fit : {s : Bool} {a b c : ℕ} {k : Forest} → anyUsing k ≡ false → FitIn s (hd Tag.Case a b c) k
+case-fit u =
+    record {
+      items = λ e. absurd (clash refl e);
+      side = λ e. absurd (clash refl e);
+      label = λ e. absurd (clash refl e);
+      handler = λ e. absurd (clash refl e);
+      taken = λ _ _. u;
     }
 
 pub fits-& : (f g : Forest) → Fits f → Fits g → Fits (f & g)
@@ -79,7 +102,8 @@ initializer-fits none letter ctx m p = tt
 initializer-fits (more h k r) letter ctx zero p = (easy refl, (p .0, p .1, tt), p .2)
 initializer-fits (more h k r) letter ctx (suc m) p = (p .0, p .1, initializer-fits r letter ctx m (p .2))
 
-declarator-fits : {t : ℕ} (a b c : ℕ) (k r : Forest) (letter ctx : ℕ) → Seen (Tag.Declarator ∷ []) t → Fit (hd t a b c) k → Fits k → Fits r
+declarator-fits : {t : ℕ} (a b c : ℕ) (k r : Forest) (letter ctx : ℕ) → Seen (Tag.Declarator ∷ []) t → Fit (hd t a b c) k
+    → FitsBelow (hd t a b c) k → Fits r
     → Fits (more (hd t a b c) (if eqb t Tag.Declarator then wrapInitializer letter ctx b k else k) r)
 declarator-fits a b c k r letter ctx here o p q = (easy refl, initializer-fits k letter ctx b p, q)
 declarator-fits a b c k r letter ctx (there e other) o p q = rw e (o, p, q)
@@ -91,33 +115,45 @@ initializers-fit (more h k r) letter ctx p =
     declarator-fits (h .a) (h .b) (h .c) k (wrapInitializers letter ctx r) letter ctx (seen (Tag.Declarator ∷ []) (h .tag)) (p .0) (p .1)
     (initializers-fit r letter ctx (p .2))
 
-using-fits : (u : Bool) (h : Head) (k r : Forest) (letter ctx : ℕ) → Fit h k → Fits k → Fits r
+using-fits : (u : Bool) (h : Head) (k r : Forest) (letter ctx : ℕ) → isUsing h ≡ u → Fit h k → FitsBelow h k → Fits r
     → Fits (if u then more (asTakenUp h) (wrapInitializers letter ctx k) r else more h k r)
 unfolding asTakenUp
-using-fits true h k r letter ctx o p q = (easy refl, initializers-fit k letter ctx p, q)
-using-fits false h k r letter ctx o p q = (o, p, q)
+using-fits true h k r letter ctx u o p q = (easy refl, initializers-fit k letter ctx (below h k (using-tag h u) refl p), q)
+using-fits false h k r letter ctx u o p q = (o, p, q)
 
-pub list-fits : (f : Forest) (running : Bool) (ctx : ℕ) (needsAwait : Bool) → Fits f → Fits (takeUp running ctx needsAwait f)
+pub list-fits : (f : Forest) (ctx : ℕ) → Fits f → Fits (takeUp ctx f)
 unfolding takeUp
-list-fits none running ctx needsAwait p = tt
-list-fits (more h k r) running ctx needsAwait p =
-    let awaits = needsAwait || isAwaitUsing h in
-    using-fits (isUsing h) h k (takeUp running ctx (running && awaits) r) (letterIf awaits) ctx (p .0) (p .1)
-    (list-fits r running ctx (running && awaits) (p .2))
+list-fits none ctx p = tt
+list-fits (more h k r) ctx p =
+    using-fits (isUsing h) h k (takeUp ctx r) (letterIf (isAwaitUsing h)) ctx refl (p .0) (p .1) (list-fits r ctx (p .2))
 
-case-fits : {t : ℕ} (a b c : ℕ) (k k′ r r′ : Forest) → Seen (Tag.Case ∷ []) t → Fit (hd t a b c) k → Fits k → Fits k′ → Fits r → Fits r′
-    → Fits (if eqb t Tag.Case then more (hd t a b c) k′ r else more (hd t a b c) k r′)
-case-fits a b c k k′ r r′ here o p p′ q q′ = (easy refl, p′, q)
-case-fits a b c k k′ r r′ (there e other) o p p′ q q′ = rw e (o, p, q′)
+case-fits : {t : ℕ} (a b c : ℕ) (k r : Forest) (ctx : ℕ) → Seen (Tag.Case ∷ []) t → FitIn true (hd t a b c) k → FitsBelow (hd t a b c) k
+    → FitsIn true r → FitsIn true (more (hd t a b c) (if eqb t Tag.Case then takeUp ctx k else k) r)
+case-fits a b c k r ctx here o p q = (case-fit (none-left k ctx), list-fits k ctx p, q)
+case-fits a b c k r ctx (there e other) o p q = rw e (o, p, q)
 
-pub cases-fit : (f : Forest) (ctx : ℕ) (needsAwait : Bool) → Fits f → Fits (takeUpCases ctx needsAwait f)
+pub cases-fit : (f : Forest) (ctx : ℕ) → FitsIn true f → FitsIn true (takeUpCases ctx f)
 unfolding takeUpCases
-cases-fit none ctx needsAwait p = tt
-cases-fit (more h k r) ctx needsAwait p =
-    case-fits (h .a) (h .b) (h .c) k (takeUp true ctx needsAwait k) _ _ (seen (Tag.Case ∷ []) (h .tag)) (p .0) (p .1)
-    (list-fits k true ctx needsAwait (p .1))
-    (cases-fit r ctx (needsAwait || anyAwaitUsing k) (p .2))
-    (cases-fit r ctx needsAwait (p .2))
+cases-fit none ctx p = tt
+cases-fit (more h k r) ctx p =
+    case-fits (h .a) (h .b) (h .c) k (takeUpCases ctx r) ctx (seen (Tag.Case ∷ []) (h .tag)) (p .0) (p .1) (cases-fit r ctx (p .2))
+
+-- the children of a Switch whose Cases have no usings
+pub entered-cases : (f : Forest) → anyCaseUsing f ≡ false → FitsIn true f → Fits f
+unfolding anyCaseUsing
+entered-cases none u p = tt
+entered-cases (more h k r) u p =
+    let q = or-none (eqb (h .tag) Tag.Case && anyUsing k) (anyCaseUsing r) u in (
+      record {
+        items = p .0 .items;
+        side = p .0 .side;
+        label = p .0 .label;
+        handler = p .0 .handler;
+        taken = λ _ e. rw e at (q .0);
+      },
+      p .1,
+      entered-cases r (q .1) (p .2),
+    )
 
 labelled-if : (b : Bool) (f g : Forest) → Labelled f → b ≡ true → Labelled (if b then f else g)
 labelled-if true f g a e = a
@@ -127,22 +163,23 @@ labelled-taken : (f : Forest) (ctx : ℕ) → Labelled f → Labelled (takeUpFor
 unfolding takeUpFor
 labelled-taken none ctx a = absurd a
 labelled-taken (more h k none) ctx a =
-    λ e. labelled-if (eqb (h .tag) Tag.Label) (takeUpFor ctx k) (takeUp false ctx false k) (labelled-taken k ctx (a e)) e
+    λ e. labelled-if (eqb (h .tag) Tag.Label) (takeUpFor ctx k) (takeUp ctx k) (labelled-taken k ctx (a e)) e
 labelled-taken (more h k (more h₁ k₁ r₁)) ctx a = absurd a
 
 loop-one : {t : ℕ} (a b c : ℕ) (k : Forest) (ctx : ℕ) → Seen (Tag.Label ∷ Tag.For ∷ []) t → anyUsing (forList (one (hd t a b c) k)) ≡ true
-    → (eqb t Tag.Label ≡ true → Labelled k) → Fits k → (eqb t Tag.Label ≡ true → anyUsing (forList k) ≡ true → Fits (takeUpFor ctx k))
+    → (eqb t Tag.Label ≡ true → Labelled k) → FitsBelow (hd t a b c) k → (eqb t Tag.Label ≡ true → anyUsing (forList k) ≡ true → Fits (takeUpFor ctx k))
     → Fits (takeUpFor ctx (one (hd t a b c) k))
 unfolding takeUpFor forList anyUsing
 loop-one a b c k ctx here u l p i = (label-fit (labelled-taken k ctx (l refl)), i refl u, tt)
-loop-one a b c k ctx (there e₄ here) u l p i = (easy refl, list-fits k false ctx false p, tt)
+loop-one a b c k ctx (there e₄ here) u l p i = (easy refl, list-fits k ctx p, tt)
 loop-one a b c k ctx (there e₄ (there e₇ other)) u l p i = absurd (clash (rw (e₄, e₇)) u)
 
 pub loop-fits : (f : Forest) (ctx : ℕ) → Labelled f → anyUsing (forList f) ≡ true → Fits f → Fits (takeUpFor ctx f)
 unfolding takeUpFor
 loop-fits none ctx a u p = absurd a
 loop-fits (more h k none) ctx a u p =
-    loop-one (h .a) (h .b) (h .c) k ctx (seen (Tag.Label ∷ Tag.For ∷ []) (h .tag)) u a (p .1) (λ e v. loop-fits k ctx (a e) v (p .1))
+    loop-one (h .a) (h .b) (h .c) k ctx (seen (Tag.Label ∷ Tag.For ∷ []) (h .tag)) u a (p .1)
+    (λ e v. loop-fits k ctx (a e) v (below h k (eqb-true (h .tag) Tag.Label e) refl (p .1)))
 loop-fits (more h k (more h₁ k₁ r₁)) ctx a u p = absurd a
 
 -- ---- the Try that a context makes

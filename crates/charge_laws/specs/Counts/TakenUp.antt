@@ -14,7 +14,6 @@ use Rattle.meaning.specs.Statements.{
   isUsing,
   isAwaitUsing,
   anyUsing,
-  anyAwaitUsing,
   letterIf,
   wrapInitializer,
   wrapInitializers,
@@ -43,35 +42,29 @@ using-gone true h k k′ r u e = const-plain (eqb (h .b) 0) r e
     const-plain false r e = e
 using-gone false h k k′ r u e = rw u e
 
-pub none-left : (f : Forest) (running : Bool) (ctx : ℕ) (needsAwait : Bool) → anyUsing (takeUp running ctx needsAwait f) ≡ false
+pub none-left : (f : Forest) (ctx : ℕ) → anyUsing (takeUp ctx f) ≡ false
 unfolding takeUp anyUsing
-none-left none running ctx needsAwait = refl
-none-left (more h k r) running ctx needsAwait =
-    let awaits = needsAwait || isAwaitUsing h in
-    using-gone (isUsing h) h k (wrapInitializers (letterIf awaits) ctx k) (takeUp running ctx (running && awaits) r) refl
-    (none-left r running ctx (running && awaits))
+none-left none ctx = refl
+none-left (more h k r) ctx =
+    using-gone (isUsing h) h k (wrapInitializers (letterIf (isAwaitUsing h)) ctx k) (takeUp ctx r) refl (none-left r ctx)
 
-case-gone : (b : Bool) (h : Head) (k k′ r r′ : Forest) → eqb (h .tag) Tag.Case ≡ b → anyUsing k′ ≡ false → anyCaseUsing r ≡ false → anyCaseUsing r′ ≡ false
-    → anyCaseUsing (if b then more h k′ r else more h k r′) ≡ false
+case-gone : (b : Bool) (h : Head) (k r : Forest) (ctx : ℕ) → eqb (h .tag) Tag.Case ≡ b → anyCaseUsing r ≡ false
+    → anyCaseUsing (more h (if b then takeUp ctx k else k) r) ≡ false
 unfolding anyCaseUsing
-case-gone true h k k′ r r′ t e i j = rw (t, e) i
-case-gone false h k k′ r r′ t e i j = rw t j
+case-gone true h k r ctx t i = rw (t, none-left k ctx) i
+case-gone false h k r ctx t i = rw t i
 
-pub no-case-left : (f : Forest) (ctx : ℕ) (needsAwait : Bool) → anyCaseUsing (takeUpCases ctx needsAwait f) ≡ false
+pub no-case-left : (f : Forest) (ctx : ℕ) → anyCaseUsing (takeUpCases ctx f) ≡ false
 unfolding takeUpCases anyCaseUsing
-no-case-left none ctx needsAwait = refl
-no-case-left (more h k r) ctx needsAwait =
-    case-gone (eqb (h .tag) Tag.Case) h k (takeUp true ctx needsAwait k) (takeUpCases ctx (needsAwait || anyAwaitUsing k) r) (takeUpCases ctx needsAwait r) refl
-    (none-left k true ctx needsAwait)
-    (no-case-left r ctx (needsAwait || anyAwaitUsing k))
-    (no-case-left r ctx needsAwait)
+no-case-left none ctx = refl
+no-case-left (more h k r) ctx = case-gone (eqb (h .tag) Tag.Case) h k (takeUpCases ctx r) ctx refl (no-case-left r ctx)
 
 loop-gone : (a b : Bool) (ctx : ℕ) (k : Forest) → anyUsing (forList (takeUpFor ctx k)) ≡ false
-    → let k′ = (if a then takeUpFor ctx k else takeUp false ctx false k) in
+    → let k′ = (if a then takeUpFor ctx k else takeUp ctx k) in
     anyUsing (if a then forList k′ else if b then k′ else none) ≡ false
 unfolding anyUsing
 loop-gone true b ctx k i = i
-loop-gone false true ctx k i = none-left k false ctx false
+loop-gone false true ctx k i = none-left k ctx
 loop-gone false false ctx k i = refl
 
 no-loop-left : (f : Forest) (ctx : ℕ) → anyUsing (forList (takeUpFor ctx f)) ≡ false
@@ -131,33 +124,25 @@ module _ (ys : List Symbol) where
   using-visits false h k r r′ letter ctx i =
       ap (λ (v : List (List Line)). spread ys (visitsStanding ys h k) k v) i
 
-  pub list-visits : (f : Forest) (running : Bool) (ctx : ℕ) (needsAwait : Bool)
-      → visitsIn ys (takeUp running ctx needsAwait f) standing ≡ visitsIn ys f takenUp
+  pub list-visits : (f : Forest) (ctx : ℕ) → visitsIn ys (takeUp ctx f) standing ≡ visitsIn ys f takenUp
   unfolding takeUp visitsIn visitsOf visitsTakenUp next
-  list-visits none running ctx needsAwait = refl
-  list-visits (more h k r) running ctx needsAwait =
-      let awaits = needsAwait || isAwaitUsing h in
-      using-visits (isUsing h) h k r (takeUp running ctx (running && awaits) r) (letterIf awaits) ctx
-      (list-visits r running ctx (running && awaits))
+  list-visits none ctx = refl
+  list-visits (more h k r) ctx =
+      using-visits (isUsing h) h k r (takeUp ctx r) (letterIf (isAwaitUsing h)) ctx (list-visits r ctx)
 
-  case-visits : {t : ℕ} (a b c : ℕ) (k r r₁ r₂ : Forest) (ctx : ℕ) (needsAwait : Bool) → Seen (Tag.Case ∷ []) t
-      → visitsIn ys r₁ standing ≡ visitsIn ys r cases → visitsIn ys r₂ standing ≡ visitsIn ys r cases
-      → visitsIn ys (if eqb t Tag.Case then more (hd t a b c) (takeUp true ctx needsAwait k) r₁ else more (hd t a b c) k r₂) standing
-      ≡ visitsIn ys (more (hd t a b c) k r) cases
+  case-visits : {t : ℕ} (a b c : ℕ) (k r r′ : Forest) (ctx : ℕ) → Seen (Tag.Case ∷ []) t
+      → visitsIn ys r′ standing ≡ visitsIn ys r cases
+      → visitsIn ys (more (hd t a b c) (if eqb t Tag.Case then takeUp ctx k else k) r′) standing ≡ visitsIn ys (more (hd t a b c) k r) cases
   unfolding visitsIn visitsOf visitsStanding visitsAs actOf next
-  case-visits a b c k r r₁ r₂ ctx needsAwait here i j =
-      ap₂ (λ (v w : List (List Line)). [] ∷ (v ++ w)) (list-visits k true ctx needsAwait) i
-  case-visits {t} a b c k r r₁ r₂ ctx needsAwait (there e other) i j =
-      rw e (ap (λ (v : List (List Line)). spread ys (visitsStanding ys (hd t a b c) k) k v) j)
+  case-visits a b c k r r′ ctx here i = ap₂ (λ (v w : List (List Line)). [] ∷ (v ++ w)) (list-visits k ctx) i
+  case-visits {t} a b c k r r′ ctx (there e other) i =
+      rw e (ap (λ (v : List (List Line)). spread ys (visitsStanding ys (hd t a b c) k) k v) i)
 
-  pub cases-visits : (f : Forest) (ctx : ℕ) (needsAwait : Bool) → visitsIn ys (takeUpCases ctx needsAwait f) standing ≡ visitsIn ys f cases
+  pub cases-visits : (f : Forest) (ctx : ℕ) → visitsIn ys (takeUpCases ctx f) standing ≡ visitsIn ys f cases
   unfolding takeUpCases visitsIn
-  cases-visits none ctx needsAwait = refl
-  cases-visits (more h k r) ctx needsAwait =
-      case-visits (h .a) (h .b) (h .c) k r (takeUpCases ctx (needsAwait || anyAwaitUsing k) r) (takeUpCases ctx needsAwait r) ctx needsAwait
-      (seen (Tag.Case ∷ []) (h .tag))
-      (cases-visits r ctx (needsAwait || anyAwaitUsing k))
-      (cases-visits r ctx needsAwait)
+  cases-visits none ctx = refl
+  cases-visits (more h k r) ctx =
+      case-visits (h .a) (h .b) (h .c) k r (takeUpCases ctx r) ctx (seen (Tag.Case ∷ []) (h .tag)) (cases-visits r ctx)
 
   loop-one : {t : ℕ} (a b c : ℕ) (k : Forest) (ctx : ℕ) → Seen (Tag.Label ∷ Tag.For ∷ []) t → anyUsing (forList (one (hd t a b c) k)) ≡ true
       → (eqb t Tag.Label ≡ true → anyUsing (forList k) ≡ true → visitsIn ys (takeUpFor ctx k) standing ≡ visitsIn ys k loop)
@@ -167,8 +152,8 @@ module _ (ys : List Symbol) where
       kept-if ys (anyUsing (forList (takeUpFor ctx k))) forLoop (hd Tag.Label a b c) (takeUpFor ctx k) [] (no-loop-left k ctx)
       ∙ ap (λ (v : List (List Line)). [] ∷ (v ++ [])) (i refl u)
   loop-one a b c k ctx (there e₄ here) u i =
-      kept-if ys (anyUsing (takeUp false ctx false k)) forLoop (hd Tag.For a b c) (takeUp false ctx false k) [] (none-left k false ctx false)
-      ∙ ap (λ (v : List (List Line)). [] ∷ (v ++ [])) (list-visits k false ctx false)
+      kept-if ys (anyUsing (takeUp ctx k)) forLoop (hd Tag.For a b c) (takeUp ctx k) [] (none-left k ctx)
+      ∙ ap (λ (v : List (List Line)). [] ∷ (v ++ [])) (list-visits k ctx)
   loop-one a b c k ctx (there e₄ (there e₇ other)) u i = absurd (clash (rw (e₄, e₇)) u)
 
   pub loop-visits : (f : Forest) (ctx : ℕ) → Labelled f → anyUsing (forList f) ≡ true

@@ -1,7 +1,7 @@
 -- The Try that a context makes, and the records that become one or get one.
 -- Assumes nothing.
 use mathlib.Core.Path.{_≡_, refl, sym, ap, ap₂, _∙_}
-use mathlib.Core.Bool.{Bool, true, false, _||_, _&&_}
+use mathlib.Core.Bool.{Bool, true, false, _&&_}
 use mathlib.Core.List.{List, [], _∷_, _++_, append-assoc}
 use Prim.Native.Nat.{ℕ}
 use lib.Dec.{eqb}
@@ -110,8 +110,8 @@ module _ (ys : List Symbol) where
       let l = helperLoad cur (c .1) in
       ap (_∷_ (enterLines block h k))
       (regroup (free 5) (visitsIn ys k takenUp) (free 6) xs
-      (try-visits (h .a) (takeUp false (c .0) false k) (c .0) cur cur (anyAwaitUsing k) (c .1) (l .1) (none-left k false (c .0) false)
-      ∙ ap (λ (v : List (List Line)). free 5 ++ (v ++ free 6)) (list-visits ys k false (c .0) false)))
+      (try-visits (h .a) (takeUp (c .0) k) (c .0) cur cur (anyAwaitUsing k) (c .1) (l .1) (none-left k (c .0))
+      ∙ ap (λ (v : List (List Line)). free 5 ++ (v ++ free 6)) (list-visits ys k (c .0))))
 
   pub body-opens : (cur hoist : ℕ) (h : Head) (k : Forest) (st : Store) → Opens functionBody h k (enterFunctionBody cur hoist k st)
   unfolding enterFunctionBody transformStatements visitsAs
@@ -122,8 +122,8 @@ module _ (ys : List Symbol) where
       let m = moveBindings (blockScopedIn (s .1 .symbols) cur (s .1 .symbols) 1) (s .0) (s .1) in
       ap (_∷_ (enterLines functionBody h k))
       (regroup (free 6) (visitsIn ys k takenUp) (free 6) xs
-      (made-visits (s .0) (takeUp false (c .0) false k) (c .0) cur cur (anyAwaitUsing k) (c .1) (m .1) (none-left k false (c .0) false)
-      ∙ ap (λ (v : List (List Line)). free 6 ++ (v ++ free 6)) (list-visits ys k false (c .0) false)))
+      (made-visits (s .0) (takeUp (c .0) k) (c .0) cur cur (anyAwaitUsing k) (c .1) (m .1) (none-left k (c .0))
+      ∙ ap (λ (v : List (List Line)). free 6 ++ (v ++ free 6)) (list-visits ys k (c .0))))
 
   -- one record before others
   in-one : (v : List (List Line)) → free 5 ++ (([] ∷ (v ++ [])) ++ free 6) ≡ free 6 ++ (v ++ free 6)
@@ -152,13 +152,13 @@ module _ (ys : List Symbol) where
       let s = createChildScope cur 0 (c .1) in
       let p = changeScopeParent (h .a) (s .0) (s .1) in
       let l = helperLoad cur (p .1) in
-      let k′ = takeUpCases (c .0) false k in
+      let k′ = takeUpCases (c .0) k in
       ap (_∷_ (enterLines switch h k))
       (regroup (free 6) (visitsIn ys k cases) (free 6) xs
       (try-visits (s .0) (one h k′) (c .0) cur cur (anyCaseAwaitUsing k) (p .1) (l .1) refl
-      ∙ ap (λ (v : List (List Line)). free 5 ++ (v ++ free 6)) (kept-if ys (anyCaseUsing k′) switch h k′ [] (no-case-left k (c .0) false))
+      ∙ ap (λ (v : List (List Line)). free 5 ++ (v ++ free 6)) (kept-if ys (anyCaseUsing k′) switch h k′ [] (no-case-left k (c .0)))
       ∙ in-one (visitsIn ys k′ standing)
-      ∙ ap (λ (v : List (List Line)). free 6 ++ (v ++ free 6)) (cases-visits ys k (c .0) false)))
+      ∙ ap (λ (v : List (List Line)). free 6 ++ (v ++ free 6)) (cases-visits ys k (c .0))))
 
   -- ---- the parts of a Try
 
@@ -173,8 +173,8 @@ module _ (ys : List Symbol) where
       let s = insertScopeBetween a 0 (l .1) in
       ap (_∷_ [])
       (sym (regroup (free 6) (visitsIn ys k takenUp) (free 6) (visitsIn ys r′ standing)
-      (made-visits a (takeUp false (c .0) false k) (c .0) cur (s .0) (anyAwaitUsing k) (c .1) (s .1) (none-left k false (c .0) false)
-      ∙ ap (λ (v : List (List Line)). free 6 ++ (v ++ free 6)) (list-visits ys k false (c .0) false)))
+      (made-visits a (takeUp (c .0) k) (c .0) cur (s .0) (anyAwaitUsing k) (c .1) (s .1) (none-left k (c .0))
+      ∙ ap (λ (v : List (List Line)). free 6 ++ (v ++ free 6)) (list-visits ys k (c .0))))
       ∙ ap (λ (v : List (List Line)). free 6 ++ (visitsIn ys k takenUp ++ (free 6 ++ v))) i)
   block-part false cur hoist a b c k r r′ st i =
       ap (λ (v : List (List Line)). spread ys (visitsStanding ys (hd Tag.Block a b c) k) k v) i

@@ -124,7 +124,7 @@ act-inside {h = h} {k = k} path r cur hoist st t (kept i) = kept-inside path h k
 act-inside {h = h} {k = k} path r cur hoist st t (as-program e u) =
     at-tag (λ g. Inside path (enterProgram g k st)) h Tag.Program e (λ p. absurd (clash refl p))
 act-inside {h = h} {k = k} path r cur hoist st t (as-block e u) =
-    λ _. no-part-left (h .a) _ _ cur _ _ (none-left k false _ false)
+    λ _. no-part-left (h .a) _ _ cur _ _ (none-left k _)
 act-inside path r cur hoist st t (as-body e u) = λ p. absurd (clash refl p)
 act-inside {k = k} path r cur hoist st t (as-try e u) = λ _. parts-taken k cur hoist st
 act-inside {h = h} {k = k} path r cur hoist st t (as-for e u) =

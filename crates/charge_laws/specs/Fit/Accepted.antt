@@ -1,7 +1,7 @@
 -- An accepted file is fit, so the counts after any number of visits are those of its charges.
 -- Assumes nothing.
 use mathlib.Core.Path.{_≡_, refl, sym, ap, subst, _∙_}
-use mathlib.Core.Bool.{true, false, not, _&&_, or-true}
+use mathlib.Core.Bool.{Bool, true, false, not, _&&_, or-true}
 use mathlib.Core.List.{List, [], _∷_}
 use Prim.Native.Nat.{ℕ, suc}
 use native.Mathlib.Omega.{arith}
@@ -30,10 +30,10 @@ use Rattle.charge_laws.specs.Totals.Accepted.{one-child}
 use Rattle.charge_laws.specs.Counts.TakenUp.{Labelled}
 use Rattle.charge_laws.specs.Counts.Program.{Kinds}
 use Rattle.charge_laws.specs.Counts.Enter.{Begins, Body, Left}
-use Rattle.charge_laws.specs.Counts.Fits.{Fits}
+use Rattle.charge_laws.specs.Counts.Fits.{FitsIn, Fits}
 use Rattle.charge_laws.specs.Counts.Figures.{joined, dues-are, after}
 use Rattle.charge_laws.specs.Fit.Placed.{ReadAs, same-tag, Placed, accepted-placed}
-use Rattle.parsing.specs.Places.{Bars, body-bars-5}
+use Rattle.parsing.specs.Places.{Bars, body-bars-5, below-bars-10}
 use Rattle.charge_laws.specs.Fit.Barred.{barred, no-catch}
 use Rattle.spec_laws.specs.Bools.{or-false}
 
@@ -126,25 +126,30 @@ module _ (syms : ℕ) where
       let n = named k (placeOf (place 0) (q .0)) 0 (q .2) (and-right (isUsing h) (bindsIdentifier k) e) in
       (n .0, n .1, using-kind (q .1) (and-left (isUsing h) (bindsIdentifier k) e), body r place 1 bars (q .3))
 
-  fits : (f : Forest) (place : ℕ → Place) (i : ℕ) → Placed syms place i f → Fits f
-  fits none place i q = tt
-  fits (more h k r) place i q =
+  fits : (b : Bool) (f : Forest) (place : ℕ → Place) (i : ℕ) → (b ≡ false → (j : ℕ) → Bars Tag.Case (place j)) → Placed syms place i f → FitsIn b f
+  fits b none place i bars q = tt
+  fits b (more h k r) place i bars q =
       let inside = placeOf (place i) (q .0) in (
         record {
           items = λ e u. (exports k inside 0 (q .2), kinds k inside 0 (q .2));
           side = λ e. left k inside (body-bars-5 (place i) (q .0) (eqb-true (q .0 .tag) Tag.ForOf (rw (same-tag (q .1)) at e))) (q .2);
           label = λ e. labelled k inside 0 (q .2) (has-one (q .1) (rw e));
           handler = λ e. no-catch (q .1) (q .2) (rw (eqb-true (h .tag) Tag.Catch e));
+          taken = λ s e. absurd (clash (barred Tag.Case (bars s i) (q .1)) e);
         },
-        fits k inside 0 (q .2),
-        fits r place (suc i) (q .3),
+        fits (eqb (h .tag) Tag.Switch) k inside 0 (λ s. below-bars-10 (place i) (q .0) (rw (same-tag (q .1)) at s)) (q .2),
+        fits b r place (suc i) bars (q .3),
       )
 
 -- ---- the file
 
+program-bars-10 : Bars Tag.Case Program
+unfolding Bars allowed tagsOf
+program-bars-10 = refl
+
 -- The tree of an accepted file is fit.
 pub accepted-fit : (b : List ℕ) (f : File) → readFile b ≡ accepted f → Fits (f .tree)
-accepted-fit b f e = let q = accepted-placed b f e in fits (q .0) (f .tree) (λ _. Program) 0 (q .1)
+accepted-fit b f e = let q = accepted-placed b f e in fits (q .0) false (f .tree) (λ _. Program) 0 (λ _ _. program-bars-10) (q .1)
 
 -- What the visits of an accepted file are charged is its account from the source; after k visits the figures are those read and the first k
 -- charges.

@@ -1,12 +1,11 @@
 -- Places that do not take a tag: no record there has it.
 -- Assumes nothing.
 use mathlib.Core.Path.{_≡_, refl}
-use mathlib.Core.Bool.{false, _&&_}
-use mathlib.Core.List.{_∷_}
+use mathlib.Core.Bool.{false}
 use Prim.Native.Nat.{ℕ, suc}
 use lib.Dec.{eqb}
 use Rattle.meaning.specs.Numbers.Tag
-use Rattle.meaning.specs.Tree.{if_then_else_, Head, Forest, none, more}
+use Rattle.meaning.specs.Tree.{Head, Forest, none, more}
 use Rattle.meaning.specs.Grammar.{placeOf}
 use Rattle.meaning.specs.declared.Place.{Place}
 use Rattle.meaning.specs.declared.Field.{Field}

@@ -28,11 +28,12 @@ heldUsing (more h₁ k₁ none) = false
 heldUsing (more h₁ k₁ (more h₂ k₂ none)) = false
 heldUsing (more h₁ k₁ (more h₂ k₂ (more h₃ k₃ r))) = isUsing h₁ && bindsIdentifier k₁
 
--- why a record is kept: no using stands in its list, a ForOf holds none, and no part of a Try has one
+-- why a record is kept: no using stands in its list, a ForOf holds none, and no part of a Try and no Case of a Switch has one
 pub record Idle (h : Head) (k : Forest) : Type 0 where
   pub list : oneOf (Tag.Program ∷ Tag.Block ∷ Tag.For ∷ Tag.Body ∷ []) (h .tag) ≡ true → anyUsing k ≡ false
   pub loop : eqb (h .tag) Tag.ForOf ≡ true → heldUsing k ≡ false
   pub parts : eqb (h .tag) Tag.Try ≡ true → anyPartUsing k ≡ false
+  pub cases : eqb (h .tag) Tag.Switch ≡ true → anyCaseUsing k ≡ false
 
 pub data Chosen : Act → Head → Forest → Type 0 where
   kept : {h : Head} {k : Forest} → Idle h k → Chosen keep h k
@@ -48,17 +49,38 @@ pub data Chosen : Act → Head → Forest → Type 0 where
       → Chosen forOfWrap h (more h₁ k₁ (more h₂ k₂ (more h₃ k₃ r)))
 
 -- a record that is kept for its list, for what it holds, or because neither is looked at
-idle-list : {h : Head} {k : Forest} → eqb (h .tag) Tag.ForOf ≡ false → eqb (h .tag) Tag.Try ≡ false → anyUsing k ≡ false → Idle h k
-idle-list n m u = record { list = (λ _. u); loop = (λ e. absurd (clash n e)); parts = (λ e. absurd (clash m e)) }
+idle-list : {h : Head} {k : Forest} → oneOf (Tag.ForOf ∷ Tag.Switch ∷ Tag.Try ∷ []) (h .tag) ≡ false → anyUsing k ≡ false → Idle h k
+idle-list {h} n u =
+    let t = h .tag in
+    record {
+      list = λ _. u;
+      loop = λ e. absurd (clash n (rw (eqb-true t Tag.ForOf e)));
+      parts = λ e. absurd (clash n (rw (eqb-true t Tag.Try e)));
+      cases = λ e. absurd (clash n (rw (eqb-true t Tag.Switch e)));
+    }
 
 idle-loop : {a b c : ℕ} {k : Forest} → heldUsing k ≡ false → Idle (hd Tag.ForOf a b c) k
-idle-loop u = record { list = (λ e. absurd (clash refl e)); loop = (λ _. u); parts = (λ e. absurd (clash refl e)) }
+idle-loop u =
+    record { list = λ e. absurd (clash refl e); loop = λ _. u; parts = λ e. absurd (clash refl e); cases = λ e. absurd (clash refl e) }
 
 idle-try : {a b c : ℕ} {k : Forest} → anyPartUsing k ≡ false → Idle (hd Tag.Try a b c) k
-idle-try u = record { list = (λ e. absurd (clash refl e)); loop = (λ e. absurd (clash refl e)); parts = (λ _. u) }
+idle-try u =
+    record { list = λ e. absurd (clash refl e); loop = λ e. absurd (clash refl e); parts = λ _. u; cases = λ e. absurd (clash refl e) }
 
-idle : {h : Head} {k : Forest} → oneOf (Tag.Program ∷ Tag.Block ∷ Tag.For ∷ Tag.Body ∷ []) (h .tag) ≡ false → eqb (h .tag) Tag.ForOf ≡ false → eqb (h .tag) Tag.Try ≡ false → Idle h k
-idle l n m = record { list = (λ e. absurd (clash l e)); loop = (λ e. absurd (clash n e)); parts = (λ e. absurd (clash m e)) }
+idle-switch : {a b c : ℕ} {k : Forest} → anyCaseUsing k ≡ false → Idle (hd Tag.Switch a b c) k
+idle-switch u =
+    record { list = λ e. absurd (clash refl e); loop = λ e. absurd (clash refl e); parts = λ e. absurd (clash refl e); cases = λ _. u }
+
+idle : {h : Head} {k : Forest} → oneOf (Tag.Program ∷ Tag.Block ∷ Tag.For ∷ Tag.Body ∷ []) (h .tag) ≡ false
+    → oneOf (Tag.ForOf ∷ Tag.Switch ∷ Tag.Try ∷ []) (h .tag) ≡ false → Idle h k
+idle {h} l n =
+    let t = h .tag in
+    record {
+      list = λ e. absurd (clash l e);
+      loop = λ e. absurd (clash n (rw (eqb-true t Tag.ForOf e)));
+      parts = λ e. absurd (clash n (rw (eqb-true t Tag.Try e)));
+      cases = λ e. absurd (clash n (rw (eqb-true t Tag.Switch e)));
+    }
 
 chosen-if : {h : Head} {k : Forest} (b : Bool) {x y : Act} → (b ≡ true → Chosen x h k) → (b ≡ false → Chosen y h k)
     → Chosen (if b then x else y) h k
@@ -88,22 +110,23 @@ for-of-chosen ys a b c (more h₁ k₁ (more h₂ k₂ (more h₃ k₃ r))) =
 chosen-as : (ys : List Symbol) {t : ℕ} (a b c : ℕ) (k : Forest) → Seen (Tag.Program ∷ Tag.Block ∷ Tag.Label ∷ Tag.For ∷ Tag.ForOf ∷ Tag.Switch ∷ Tag.Try ∷ Tag.Body ∷ []) t
     → Chosen (actOf ys (hd t a b c) k) (hd t a b c) k
 unfolding actOf forList
-chosen-as ys a b c k here = chosen-if (anyUsing k) (as-program refl) (λ u. kept (idle-list refl refl u))
-chosen-as ys a b c k (there e₁ here) = chosen-if (anyUsing k) (as-block refl) (λ u. kept (idle-list refl refl u))
-chosen-as ys a b c k (there e₁ (there e₂ here)) = chosen-if (anyUsing (forList k)) (as-for refl) (λ _. kept (idle refl refl refl))
-chosen-as ys a b c k (there e₁ (there e₂ (there e₄ here))) = chosen-if (anyUsing k) (as-for refl) (λ u. kept (idle-list refl refl u))
+chosen-as ys a b c k here = chosen-if (anyUsing k) (as-program refl) (λ u. kept (idle-list refl u))
+chosen-as ys a b c k (there e₁ here) = chosen-if (anyUsing k) (as-block refl) (λ u. kept (idle-list refl u))
+chosen-as ys a b c k (there e₁ (there e₂ here)) = chosen-if (anyUsing (forList k)) (as-for refl) (λ _. kept (idle refl refl))
+chosen-as ys a b c k (there e₁ (there e₂ (there e₄ here))) = chosen-if (anyUsing k) (as-for refl) (λ u. kept (idle-list refl u))
 chosen-as ys a b c k (there e₁ (there e₂ (there e₄ (there e₇ here)))) = for-of-chosen ys a b c k
 chosen-as ys a b c k (there e₁ (there e₂ (there e₄ (there e₇ (there e₈ here))))) =
-    chosen-if (anyCaseUsing k) (as-switch refl) (λ _. kept (idle refl refl refl))
+    chosen-if (anyCaseUsing k) (as-switch refl) (λ u. kept (idle-switch u))
 chosen-as ys a b c k (there e₁ (there e₂ (there e₄ (there e₇ (there e₈ (there e₉ here)))))) =
     chosen-if (anyPartUsing k) (as-try refl) (λ u. kept (idle-try u))
 chosen-as ys a b c k (there e₁ (there e₂ (there e₄ (there e₇ (there e₈ (there e₉ (there e₁₁ here))))))) =
-    chosen-if (anyUsing k) (as-body refl) (λ u. kept (idle-list refl refl u))
+    chosen-if (anyUsing k) (as-body refl) (λ u. kept (idle-list refl u))
 chosen-as ys {t} a b c k (there e₁ (there e₂ (there e₄ (there e₇ (there e₈ (there e₉ (there e₁₁ (there e₁₄ other)))))))) =
     let h = hd t a b c in
     let none-of : actOf ys h k ≡ keep = rw (e₁, e₂, e₄, e₇, e₈, e₉, e₁₁, e₁₄) in
     let no-list : oneOf (Tag.Program ∷ Tag.Block ∷ Tag.For ∷ Tag.Body ∷ []) t ≡ false = rw (e₁, e₂, e₇, e₁₄) in
-    subst (λ (x : Act). Chosen x h k) (sym none-of) (kept (idle no-list e₈ e₁₁))
+    let no-other : oneOf (Tag.ForOf ∷ Tag.Switch ∷ Tag.Try ∷ []) t ≡ false = rw (e₈, e₉, e₁₁) in
+    subst (λ (x : Act). Chosen x h k) (sym none-of) (kept (idle no-list no-other))
 
 -- THE VIEW: what is known of every record for which a visit chooses an act.
 pub chosen : (ys : List Symbol) (h : Head) (k : Forest) → Chosen (actOf ys h k) h k

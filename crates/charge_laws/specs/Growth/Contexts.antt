@@ -1,7 +1,7 @@
 -- The visits that make one context: Block, function body, StaticBlock, For, Switch.
 -- Assumes nothing.
 use mathlib.Core.Path.{_≡_, refl}
-use mathlib.Core.Bool.{true, false}
+use mathlib.Core.Bool.{true}
 use mathlib.Core.List.{[], _∷_}
 use Prim.Native.Nat.{ℕ, _+_, _*_}
 use native.Mathlib.Omega.{arith}
@@ -204,10 +204,10 @@ switch-more cur h k st =
     let s = createChildScope cur 0 (c .1) in
     let p = changeScopeParent (h .a) (s .0) (s .1) in
     let l = helperLoad cur (p .1) in
-    let taken = one h (takeUpCases (c .0) false k) in
+    let taken = one h (takeUpCases (c .0) k) in
     omega (
       arith,
-      cases-taken k (c .0) false,
+      cases-taken k (c .0),
       declared (c .0) cur (p .1) taken,
       try-more (s .0) (declaration Kind.Var (c .0) (l .0) & taken) (c .0) cur (anyCaseAwaitUsing k) (l .1),
     )

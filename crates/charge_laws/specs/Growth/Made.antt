@@ -58,7 +58,7 @@ pub statements-more : (cur hoist : ℕ) (list : Forest) (st : Store)
 unfolding transformStatements
 statements-more cur hoist list st =
     let c = makeContext hoist st in
-    omega (arith, declared (c .0) cur (c .1) (takeUp false (c .0) false list), list-taken list false (c .0) false)
+    omega (arith, declared (c .0) cur (c .1) (takeUp (c .0) list), list-taken list (c .0))
 
 -- ---- the Try
 

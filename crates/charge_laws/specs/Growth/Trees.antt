@@ -15,7 +15,6 @@ use Rattle.meaning.specs.Statements.{
   isUsing,
   isAwaitUsing,
   anyUsing,
-  anyAwaitUsing,
   letterIf,
   wrapInitializer,
   wrapInitializers,
@@ -96,13 +95,11 @@ using-taken true h k r r′ letter ctx e i =
     omega (arith, initializers-wrapped k letter ctx, ap fieldBytes (using-tag h e))
 using-taken false h k r r′ letter ctx e i = omega arith
 
-pub list-taken : (f : Forest) (running : Bool) (ctx : ℕ) (needsAwait : Bool) → Wrapped (wraps f) f (takeUp running ctx needsAwait f)
+pub list-taken : (f : Forest) (ctx : ℕ) → Wrapped (wraps f) f (takeUp ctx f)
 unfolding takeUp wraps size recordBytes
-list-taken none running ctx needsAwait = omega arith
-list-taken (more h k r) running ctx needsAwait =
-    let awaits = needsAwait || isAwaitUsing h in
-    using-taken (isUsing h) h k r (takeUp running ctx (running && awaits) r) (letterIf awaits) ctx refl
-    (list-taken r running ctx (running && awaits))
+list-taken none ctx = omega arith
+list-taken (more h k r) ctx =
+    using-taken (isUsing h) h k r (takeUp ctx r) (letterIf (isAwaitUsing h)) ctx refl (list-taken r ctx)
 
 -- ---- For and Switch
 
@@ -110,10 +107,10 @@ loop-taken : (a b : Bool) (h : Head) (k r : Forest) (ctx : ℕ)
     → (anyUsing (forList k) ≡ true → Wrapped (wraps (forList k)) k (takeUpFor ctx k))
     → anyUsing (if a then forList k else if b then k else none) ≡ true
     → Wrapped (wraps (if a then forList k else if b then k else none)) (more h k r)
-    (more h (if a then takeUpFor ctx k else takeUp false ctx false k) r)
+    (more h (if a then takeUpFor ctx k else takeUp ctx k) r)
 unfolding size recordBytes anyUsing
 loop-taken true b h k r ctx i e = omega (arith, i e)
-loop-taken false true h k r ctx i e = omega (arith, list-taken k false ctx false)
+loop-taken false true h k r ctx i e = omega (arith, list-taken k ctx)
 loop-taken false false h k r ctx i e = absurd (clash refl e)
 
 pub for-taken : (f : Forest) (ctx : ℕ) → anyUsing (forList f) ≡ true → Wrapped (wraps (forList f)) f (takeUpFor ctx f)
@@ -121,18 +118,13 @@ unfolding forList takeUpFor anyUsing
 for-taken none ctx e = absurd (clash refl e)
 for-taken (more h k r) ctx e = loop-taken (eqb (h .tag) Tag.Label) (eqb (h .tag) Tag.For) h k r ctx (for-taken k ctx) e
 
-case-taken : (b : Bool) (h : Head) (k r r₁ r₂ : Forest) (ctx : ℕ) (needsAwait : Bool)
-    → Wrapped (caseWraps r) r r₁ → Wrapped (caseWraps r) r r₂
-    → Wrapped ((if b then wraps k else 0) + caseWraps r) (more h k r)
-    (if b then more h (takeUp true ctx needsAwait k) r₁ else more h k r₂)
+case-taken : (b : Bool) (h : Head) (k r r′ : Forest) (ctx : ℕ) → Wrapped (caseWraps r) r r′
+    → Wrapped ((if b then wraps k else 0) + caseWraps r) (more h k r) (more h (if b then takeUp ctx k else k) r′)
 unfolding size recordBytes
-case-taken true h k r r₁ r₂ ctx needsAwait i j = omega (arith, list-taken k true ctx needsAwait)
-case-taken false h k r r₁ r₂ ctx needsAwait i j = omega arith
+case-taken true h k r r′ ctx i = omega (arith, list-taken k ctx)
+case-taken false h k r r′ ctx i = omega arith
 
-pub cases-taken : (f : Forest) (ctx : ℕ) (needsAwait : Bool) → Wrapped (caseWraps f) f (takeUpCases ctx needsAwait f)
+pub cases-taken : (f : Forest) (ctx : ℕ) → Wrapped (caseWraps f) f (takeUpCases ctx f)
 unfolding takeUpCases caseWraps size recordBytes
-cases-taken none ctx needsAwait = omega arith
-cases-taken (more h k r) ctx needsAwait =
-    case-taken (eqb (h .tag) Tag.Case) h k r (takeUpCases ctx (needsAwait || anyAwaitUsing k) r) (takeUpCases ctx needsAwait r) ctx needsAwait
-    (cases-taken r ctx (needsAwait || anyAwaitUsing k))
-    (cases-taken r ctx needsAwait)
+cases-taken none ctx = omega arith
+cases-taken (more h k r) ctx = case-taken (eqb (h .tag) Tag.Case) h k r (takeUpCases ctx r) ctx (cases-taken r ctx)

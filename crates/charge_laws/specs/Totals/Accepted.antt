@@ -1,14 +1,14 @@
 -- The tree of an accepted file is regular, and not too large for the tally's counters.
 -- Assumes nothing.
 use mathlib.Core.Path.{_≡_, refl, _∙_}
-use mathlib.Core.Bool.{true, false, _&&_, or-true}
+use mathlib.Core.Bool.{true, false, or-true}
 use mathlib.Core.List.{List, [], _∷_}
 use Prim.Native.Nat.{ℕ, _≤_, min}
 use native.Mathlib.Omega.{arith}
 use lib.Dec.{eqb}
 use borrow.Author.Tests.{eqb-true}
 use Rattle.meaning.specs.Numbers.Tag
-use Rattle.meaning.specs.Tree.{if_then_else_, oneOf, Head, Forest, size}
+use Rattle.meaning.specs.Tree.{oneOf, Head, Forest, size}
 use Rattle.meaning.specs.File.{File, numbersOf, hasChildren, ownNumbers}
 use Rattle.meaning.specs.Grammar.{fieldOf, right, childrenOf}
 use Rattle.meaning.specs.Reading.{accepted, readFile}

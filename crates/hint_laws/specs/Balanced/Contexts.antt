@@ -1,7 +1,7 @@
 -- Block, function body and StaticBlock: what their context makes of them counts what they counted.
 -- Assumes nothing.
 use mathlib.Core.Path.{_≡_, refl, sym, ap, _∙_}
-use mathlib.Core.Bool.{Bool, false}
+use mathlib.Core.Bool.{Bool}
 use mathlib.Core.List.{List}
 use Prim.Native.Nat.{ℕ, _≤_, _<_}
 use native.Mathlib.Omega.{arith}
@@ -46,10 +46,10 @@ module _ (w : List ℕ → List ℕ → ℕ → ℕ) (read : ℕ) where
   pub taken-try : (scope : ℕ) (list : Forest) (made cur parent : ℕ) (needsAwait : Bool) (st st₁ st₂ : Store) → read ≤ length (st .symbols)
       → let ctx = (makeContext made st) .0 in
       let declared = declaration Kind.Var ctx ((helperLoad cur st₁) .0) in
-      balanceOf w read (single ((createTryStmt scope (declared & takeUp false ctx false list) ctx parent needsAwait st₂) .0)) ≡ listed w read list
+      balanceOf w read (single ((createTryStmt scope (declared & takeUp ctx list) ctx parent needsAwait st₂) .0)) ≡ listed w read list
   taken-try scope list made cur parent needsAwait st st₁ st₂ new =
       let ctx = (makeContext made st) .0 in
-      try-listed w read scope (takeUp false ctx false list) ctx cur ctx parent needsAwait st₁ st₂
+      try-listed w read scope (takeUp ctx list) ctx cur ctx parent needsAwait st₁ st₂
       ∙ taken-listed w read ctx list (new-context made st new)
 
   -- ---- Block, function body, StaticBlock

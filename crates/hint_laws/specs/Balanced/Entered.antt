@@ -86,7 +86,7 @@ module _ (w : List ℕ → List ℕ → ℕ → ℕ) (read : ℕ) where
         changed h k (transformForStatement cur hoist h k st) (at-loop Neutral h e refl refl) refl
         (for-keeps w read cur hoist h k st new (at-loop (λ g. eqb (g .tag) Tag.Declaration ≡ false) h e refl refl) u)
     act-keeps {h = h} {k = k} st new s p (as-switch e u) =
-        at-change Tag.Switch (λ g. transformSwitchStatement cur g k st) h k e refl refl (switch-keeps w read cur (h .a) (h .b) (h .c) k st)
+        at-change Tag.Switch (λ g. transformSwitchStatement cur g k st) h k e refl refl (switch-keeps w read cur (h .a) (h .b) (h .c) k st new)
     act-keeps {h = h} st new s p (as-insert {h₁ = h₁} {h₂ = h₂} {h₃ = h₃} {k₁ = k₁} {k₂ = k₂} {k₃ = k₃} {r = r} e b two) =
         let q = p .side (eq-eqb (h .tag) Tag.ForOf e) (b .both) in
         at-change Tag.ForOf (λ g. enterForOfStatement false g (more h₁ k₁ (more h₂ k₂ (more h₃ k₃ r))) st) h _ e refl refl

@@ -1,7 +1,7 @@
 -- For and Switch: what their context makes of them counts what they counted.
 -- Assumes nothing.
 use mathlib.Core.Path.{_≡_, refl}
-use mathlib.Core.Bool.{Bool, true, false, _||_}
+use mathlib.Core.Bool.{true, false}
 use mathlib.Core.List.{List, [], _∷_}
 use Prim.Native.Nat.{ℕ, _≤_, _<_}
 use native.Mathlib.Omega.{arith}
@@ -21,10 +21,10 @@ use Rattle.meaning.specs.Contexts.{
   transformSwitchStatement,
 }
 use Rattle.spec_laws.specs.Tags.{Seen, other, here, there, seen, clash}
-use Rattle.hint_laws.specs.Hints.{asksFor, callsIn, calls}
+use Rattle.hint_laws.specs.Hints.{asksFor, callsIn}
 use Rattle.hint_laws.specs.Balanced.Balance.{letterIn, waits, gives}
 use Rattle.hint_laws.specs.Balanced.Sums.{ownLetter, worth, balance-more, plain-one}
-use Rattle.hint_laws.specs.Balanced.Lists.{worth-plain, taken-kept}
+use Rattle.hint_laws.specs.Balanced.Lists.{worth-plain}
 use Rattle.hint_laws.specs.Balanced.Tries.{try-listed, taken-listed}
 use Rattle.hint_laws.specs.Balanced.Contexts.{Keeps, Counts, new-context}
 
@@ -50,7 +50,7 @@ module _ (w : List ℕ → List ℕ → ℕ → ℕ) (read : ℕ) where
       )
   loop-one a b c k r ctx new (there e₄ here) u i =
       let h = hd Tag.For a b c in
-      let k′ = takeUp false ctx false k in
+      let k′ = takeUp ctx k in
       (omega (arith, balance-more w read h k r, balance-more w read h k′ r, taken-listed w read ctx k new), refl)
   loop-one a b c k r ctx new (there e₄ (there e₇ other)) u i = absurd (clash (rw (e₄, e₇)) u)
 
@@ -72,45 +72,44 @@ module _ (w : List ℕ → List ℕ → ℕ → ℕ) (read : ℕ) where
         arith,
         try-listed w read (s .0) taken (c .0) cur (c .0) cur (anyAwaitUsing (forList (one h k))) (s .1) (l .1),
         loop-counts (one h k) (c .0) (new-context w read hoist st new) u,
-        plain-one w read h (if eqb (h .tag) Tag.Label then takeUpFor (c .0) k else takeUp false (c .0) false k) e,
+        plain-one w read h (if eqb (h .tag) Tag.Label then takeUpFor (c .0) k else takeUp (c .0) k) e,
       )
 
   -- ---- Switch
 
-  case-one : {t : ℕ} (a b c : ℕ) (k r r₁ r₂ : Forest) (ctx : ℕ) (needsAwait : Bool) → Seen (Tag.Case ∷ []) t → Counts w read r r₁ → Counts w read r r₂
+  case-one : {t : ℕ} (a b c : ℕ) (k r r′ : Forest) (ctx : ℕ) → read < ctx → Seen (Tag.Case ∷ []) t → Counts w read r r′
       → let h = hd t a b c in
-      Counts w read (more h k r) (if eqb t Tag.Case then more h (takeUp true ctx needsAwait k) r₁ else more h k r₂)
-  unfolding callsIn worth waits gives asksFor calls
-  case-one a b c k r r₁ r₂ ctx needsAwait here i j =
+      Counts w read (more h k r) (more h (if eqb t Tag.Case then takeUp ctx k else k) r′)
+  unfolding callsIn worth waits gives asksFor letterIn ownLetter
+  case-one a b c k r r′ ctx new here i =
       let h = hd Tag.Case a b c in
-      let k′ = takeUp true ctx needsAwait k in
-      (omega (arith, balance-more w read h k r, balance-more w read h k′ r₁, taken-kept w read k true ctx needsAwait), omega arith)
-  case-one {t} a b c k r r₁ r₂ ctx needsAwait (there e other) i j =
+      let k′ = takeUp ctx k in
+      (omega (arith, balance-more w read h k r, balance-more w read h k′ r′, taken-listed w read ctx k new), omega arith)
+  case-one {t} a b c k r r′ ctx new (there e other) i =
       let h = hd t a b c in
-      rw e (omega (arith, balance-more w read h k r, balance-more w read h k r₂), omega arith)
+      rw e (omega (arith, balance-more w read h k r, balance-more w read h k r′), omega arith)
 
-  cases-count : (f : Forest) (ctx : ℕ) (needsAwait : Bool) → Counts w read f (takeUpCases ctx needsAwait f)
+  cases-count : (f : Forest) (ctx : ℕ) → read < ctx → Counts w read f (takeUpCases ctx f)
   unfolding takeUpCases
-  cases-count none ctx needsAwait = (refl, refl)
-  cases-count (more h k r) ctx needsAwait =
-      case-one (h .a) (h .b) (h .c) k r _ _ ctx needsAwait (seen (Tag.Case ∷ []) (h .tag))
-      (cases-count r ctx (needsAwait || anyAwaitUsing k))
-      (cases-count r ctx needsAwait)
+  cases-count none ctx new = (refl, refl)
+  cases-count (more h k r) ctx new =
+      case-one (h .a) (h .b) (h .c) k r (takeUpCases ctx r) ctx new (seen (Tag.Case ∷ []) (h .tag)) (cases-count r ctx new)
 
-  pub switch-keeps : (cur a b c : ℕ) (k : Forest) (st : Store) → Keeps w read (hd Tag.Switch a b c) k (transformSwitchStatement cur (hd Tag.Switch a b c) k st)
+  pub switch-keeps : (cur a b c : ℕ) (k : Forest) (st : Store) → read ≤ length (st .symbols)
+      → Keeps w read (hd Tag.Switch a b c) k (transformSwitchStatement cur (hd Tag.Switch a b c) k st)
   unfolding transformSwitchStatement
-  switch-keeps cur a b d k st =
+  switch-keeps cur a b d k st new =
       let h = hd Tag.Switch a b d in
       let c = makeContext cur st in
       let s = createChildScope cur 0 (c .1) in
       let q = changeScopeParent (h .a) (s .0) (s .1) in
       let l = helperLoad cur (q .1) in
-      let k′ = takeUpCases (c .0) false k in
+      let k′ = takeUpCases (c .0) k in
       omega (
         arith,
         try-listed w read (s .0) (one h k′) (c .0) cur (c .0) cur (anyCaseAwaitUsing k) (q .1) (l .1),
         plain-one w read h k′ refl,
-        cases-count k (c .0) false,
+        cases-count k (c .0) (new-context w read cur st new),
         balance-more w read h k none,
         balance-more w read h k′ none,
         worth-plain w read Tag.Switch k refl refl,

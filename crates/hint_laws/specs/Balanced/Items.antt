@@ -145,7 +145,7 @@ module _ (w : List ℕ → List ℕ → ℕ → ℕ) (read : ℕ) where
   -- ---- below 18 and 19
 
   -- an export of one record, before
-  pub export-counts : (h : Head) (k : Forest) → eqb (h .tag) Tag.Declaration ≡ false → takesUp (h .tag) ≡ false → oneOf (Tag.ForOf ∷ Tag.Case ∷ []) (h .tag) ≡ false
+  pub export-counts : (h : Head) (k : Forest) → eqb (h .tag) Tag.Declaration ≡ false → takesUp (h .tag) ≡ false → eqb (h .tag) Tag.ForOf ≡ false
       → itemed (one h k) ≡ callsIn w read k + balanceOf w read k
   export-counts h k e p q =
       omega (arith, plain-item h k e, balance-more w read h k none, balance-none w read, worth-plain w read (h .tag) k p q)

@@ -1,7 +1,7 @@
 -- What taking up the usings of a list does to its balance: what they asked for, the list then gives.
 -- Assumes nothing.
 use mathlib.Core.Path.{_≡_, refl, ap, ap₂, _∙_}
-use mathlib.Core.Bool.{Bool, true, false, _||_, _&&_}
+use mathlib.Core.Bool.{Bool, true, false}
 use mathlib.Core.List.{List, [], _∷_}
 use Prim.Native.Nat.{ℕ, zero, suc, _+_, _<_}
 use native.Mathlib.Omega.{arith}
@@ -9,9 +9,9 @@ use lib.Dec.{eqb}
 use borrow.Author.Tests.{lt-ltb}
 use Rattle.meaning.specs.Numbers.Tag
 use Rattle.meaning.specs.Numbers.Kind
-use Rattle.meaning.specs.Tree.{if_then_else_, oneOf, Head, hd, Forest, none, more, one, _&_}
+use Rattle.meaning.specs.Tree.{if_then_else_, Head, hd, Forest, none, more, one, _&_}
 use Rattle.meaning.specs.Statements.{isUsing, isAwaitUsing, letterIf, wrapInitializer, wrapInitializers, asTakenUp, takeUp}
-use Rattle.spec_laws.specs.Tags.{Seen, other, here, there, seen, or-none}
+use Rattle.spec_laws.specs.Tags.{Seen, other, here, there, seen}
 use Rattle.charge_laws.specs.Growth.Trees.{using-tag}
 use Rattle.hint_laws.specs.Hints.{
   namesOf,
@@ -36,21 +36,19 @@ names-wrapped (more h k r) letter ctx (suc m) =
     ap (λ (names : List ℕ). (if eqb (h .tag) Tag.Name then h .a else 0) ∷ names) (names-wrapped r letter ctx m)
 
 -- values by tests that fail
-by-tests : (s e o : Bool) (a b c d : ℕ) → s ≡ false → e ≡ false → o ≡ false
-    → (if s then a else if e then b else 0) + (if s then c else if o then 0 else d) ≡ d
-by-tests s e o a b c d p q r = rw (p, q, r) (omega arith)
+by-tests : (s o : Bool) (a b c d : ℕ) → s ≡ false → o ≡ false → (if s then a else if o then b else 0) + (if s then c else if o then 0 else d) ≡ d
+by-tests s o a b c d p q = rw (p, q) (omega arith)
 
 module _ (w : List ℕ → List ℕ → ℕ → ℕ) (read : ℕ) where
   -- the balance
   abbrev sum : Forest → ℕ
   sum f = balanceOf w read f
 
-  -- ---- a record that is no list, no ForOf and no Case
+  -- ---- a record that is no list and no ForOf
 
-  pub worth-plain : (t : ℕ) (k : Forest) → takesUp t ≡ false → oneOf (Tag.ForOf ∷ Tag.Case ∷ []) t ≡ false → worth w read t k ≡ callsIn w read k
+  pub worth-plain : (t : ℕ) (k : Forest) → takesUp t ≡ false → eqb t Tag.ForOf ≡ false → worth w read t k ≡ callsIn w read k
   unfolding worth waits gives asksFor calls
-  worth-plain t k p q =
-      by-tests (takesUp t) (eqb t Tag.ForOf) (oneOf (Tag.ForOf ∷ Tag.Case ∷ []) t) _ _ _ (callsIn w read k) p (or-none (eqb t Tag.ForOf) (oneOf (Tag.Case ∷ []) t) q .0) q
+  worth-plain t k p q = by-tests (takesUp t) (eqb t Tag.ForOf) _ _ _ (callsIn w read k) p q
 
   -- ---- initializers
 
@@ -124,13 +122,11 @@ module _ (w : List ℕ → List ℕ → ℕ → ℕ) (read : ℕ) where
       )
   using-kept false h k r r′ letter ctx u e = omega (arith, balance-more w read h k r, balance-more w read h k r′)
 
-  pub taken-kept : (f : Forest) (running : Bool) (ctx : ℕ) (needsAwait : Bool) → sum (takeUp running ctx needsAwait f) ≡ sum f
+  pub taken-kept : (f : Forest) (ctx : ℕ) → sum (takeUp ctx f) ≡ sum f
   unfolding takeUp
-  taken-kept none running ctx needsAwait = refl
-  taken-kept (more h k r) running ctx needsAwait =
-      let awaits = needsAwait || isAwaitUsing h in
-      using-kept (isUsing h) h k r (takeUp running ctx (running && awaits) r) (letterIf awaits) ctx refl
-      (taken-kept r running ctx (running && awaits))
+  taken-kept none ctx = refl
+  taken-kept (more h k r) ctx =
+      using-kept (isUsing h) h k r (takeUp ctx r) (letterIf (isAwaitUsing h)) ctx refl (taken-kept r ctx)
 
   -- ---- in the list
 
@@ -176,7 +172,7 @@ module _ (w : List ℕ → List ℕ → ℕ → ℕ) (read : ℕ) where
     using-done false h k r r′ u e = rw u (omega arith)
 
     -- what the usings of a list asked for, it gives once they are taken up
-    pub taken-done : (f : Forest) → doneIn w read (takeUp false ctx false f) ≡ inList w read f
+    pub taken-done : (f : Forest) → doneIn w read (takeUp ctx f) ≡ inList w read f
     unfolding takeUp doneIn usingsIn
     taken-done none = refl
-    taken-done (more h k r) = using-done (isUsing h) h k r (takeUp false ctx false r) refl (taken-done r)
+    taken-done (more h k r) = using-done (isUsing h) h k r (takeUp ctx r) refl (taken-done r)

@@ -7,7 +7,7 @@ use Prim.Native.Nat.{ℕ, _+_}
 use native.Mathlib.Omega.{arith}
 use lib.Dec.{eqb}
 use Rattle.meaning.specs.Numbers.Tag
-use Rattle.meaning.specs.Tree.{if_then_else_, oneOf, Head, Forest, none, more}
+use Rattle.meaning.specs.Tree.{if_then_else_, Head, Forest, none, more}
 use Rattle.meaning.specs.Statements.{isUsing, anyUsing}
 use Rattle.spec_laws.specs.Tags.{Seen, other, here, there, seen, clash}
 use Rattle.hint_laws.specs.Hints.{sumOver, overDeclarators, takesUp, called, callsIn, calls}
@@ -29,14 +29,10 @@ by-test : (s o : Bool) (m n : ℕ) → (s ≡ true → (m ≡ n) × (o ≡ false
 by-test true o m n p = let q = p refl in let e = q .1 in rw e (q .0)
 by-test false o m n p = refl
 
--- a record that takes up usings is neither a ForOf nor a Case
-no-other : {t : ℕ} → Seen (Tag.Program ∷ Tag.Block ∷ Tag.For ∷ Tag.Body ∷ Tag.StaticBlock ∷ []) t → takesUp t ≡ true → oneOf (Tag.ForOf ∷ Tag.Case ∷ []) t ≡ false
-no-other here e = refl
-no-other (there e₁ here) e = refl
-no-other (there e₁ (there e₂ here)) e = refl
-no-other (there e₁ (there e₂ (there e₇ here))) e = refl
-no-other (there e₁ (there e₂ (there e₇ (there e₁₄ here)))) e = refl
-no-other (there e₁ (there e₂ (there e₇ (there e₁₄ (there e₁₆ other))))) e = absurd (clash (rw (e₁, e₂, e₇, e₁₄, e₁₆)) e)
+-- a record that takes up usings is no ForOf
+no-for-of : {t : ℕ} → Seen (Tag.ForOf ∷ []) t → takesUp t ≡ true → eqb t Tag.ForOf ≡ false
+no-for-of here e = absurd (clash refl e)
+no-for-of (there n other) e = n
 
 module _ (w : List ℕ → List ℕ → ℕ → ℕ) (read : ℕ) where
   -- what is done in a list without usings are its calls
@@ -49,8 +45,8 @@ module _ (w : List ℕ → List ℕ → ℕ → ℕ) (read : ℕ) where
   gives-calls : (h : Head) (k : Forest) → (takesUp (h .tag) ≡ true → anyUsing k ≡ false) → gives w read h k ≡ calls w read h k
   unfolding gives calls
   gives-calls h k p =
-      by-test (takesUp (h .tag)) (oneOf (Tag.ForOf ∷ Tag.Case ∷ []) (h .tag)) (doneIn w read k) (callsIn w read k)
-      (λ e. (all-done k (p e), no-other (seen (Tag.Program ∷ Tag.Block ∷ Tag.For ∷ Tag.Body ∷ Tag.StaticBlock ∷ []) (h .tag)) e))
+      by-test (takesUp (h .tag)) (eqb (h .tag) Tag.ForOf) (doneIn w read k) (callsIn w read k)
+      (λ e. (all-done k (p e), no-for-of (seen (Tag.ForOf ∷ []) (h .tag)) e))
 
 -- WHAT THE RECORDS OF SUCH A TREE GIVE IS WHAT IT CALLS.
 pub settled-gives : (w : List ℕ → List ℕ → ℕ → ℕ) (read : ℕ) (f : Forest) → Settled f → sumOver (λ h k. gives w read h k) f ≡ sumOver (calls w read) f

@@ -50,11 +50,11 @@ module _ (w : List ℕ → List ℕ → ℕ → ℕ) (read : ℕ) where
   try-listed scope list ctx cur ctx′ parent needsAwait st st′ =
       made-try scope (declaration Kind.Var ctx ((helperLoad cur st) .0) & list) ctx′ parent needsAwait st′ ∙ declared-list ctx cur st list
 
-  pub taken-listed : (ctx : ℕ) (f : Forest) → read < ctx → listed (takeUp false ctx false f) ≡ listed f
+  pub taken-listed : (ctx : ℕ) (f : Forest) → read < ctx → listed (takeUp ctx f) ≡ listed f
   taken-listed ctx f new =
       omega (
         arith,
-        no-usings w ownLetter (takeUp false ctx false f) (none-left f false ctx false),
+        no-usings w ownLetter (takeUp ctx f) (none-left f ctx),
         taken-done w read ctx new f,
-        taken-kept w read f false ctx false,
+        taken-kept w read f ctx,
       )

@@ -1,7 +1,7 @@
 -- What a StaticBlock becomes when it is left is quiet.
 -- Assumes nothing.
 use mathlib.Core.Path.{_≡_, refl, ap}
-use mathlib.Core.Bool.{Bool, true, false, _||_, _&&_}
+use mathlib.Core.Bool.{Bool, true, false}
 use mathlib.Core.List.{[], _∷_}
 use Prim.Native.Nat.{ℕ, zero, suc}
 use lib.Dec.{eqb}
@@ -63,13 +63,11 @@ unfolding AllQuiet asTakenUp
 using-quiet true h k r letter ctx o p q = (calm _ _ refl refl, initializers-quiet k letter ctx p, q)
 using-quiet false h k r letter ctx o p q = (o, p, q)
 
-taken-quiet : (f : Forest) (running : Bool) (ctx : ℕ) (needsAwait : Bool) → AllQuiet f → AllQuiet (takeUp running ctx needsAwait f)
+taken-quiet : (f : Forest) (ctx : ℕ) → AllQuiet f → AllQuiet (takeUp ctx f)
 unfolding AllQuiet takeUp
-taken-quiet none running ctx needsAwait p = tt
-taken-quiet (more h k r) running ctx needsAwait p =
-    let awaits = needsAwait || isAwaitUsing h in
-    using-quiet (isUsing h) h k (takeUp running ctx (running && awaits) r) (letterIf awaits) ctx (p .0) (p .1)
-    (taken-quiet r running ctx (running && awaits) (p .2))
+taken-quiet none ctx p = tt
+taken-quiet (more h k r) ctx p =
+    using-quiet (isUsing h) h k (takeUp ctx r) (letterIf (isAwaitUsing h)) ctx (p .0) (p .1) (taken-quiet r ctx (p .2))
 
 -- no using is left in it
 const-if : (b : Bool) → isUsing (hd Tag.Declaration (if b then Kind.Const else Kind.Var) 0 0) ≡ false
@@ -118,9 +116,9 @@ exit-quiet h k st p =
       quiet-list _ _ refl refl,
       (
         calm _ _ refl refl,
-        try-quiet (h .a) (takeUp false (c .0) false k) (c .0) (h .a) (c .0) (s .0) (anyAwaitUsing k) (c .1) (f .1)
-            (taken-list k false (c .0) false)
-            (taken-quiet k false (c .0) false p),
+        try-quiet (h .a) (takeUp (c .0) k) (c .0) (h .a) (c .0) (s .0) (anyAwaitUsing k) (c .1) (f .1)
+            (taken-list k (c .0))
+            (taken-quiet k (c .0) p),
         tt,
       ),
       tt,

@@ -9,7 +9,7 @@ use lib.ListN.{length}
 use lib.Dec.{eqb, leb, ltb}
 use borrow.Author.Tests.{leb-true, le-ltb}
 use Rattle.meaning.specs.Numbers.Tag
-use Rattle.meaning.specs.Tree.{if_then_else_, oneOf, Head, hd, Forest, none, more, one, count}
+use Rattle.meaning.specs.Tree.{if_then_else_, Head, hd, Forest, none, more, one, count}
 use Rattle.meaning.specs.File.{File, numbersOf, hasChildren, ownNumbers, recordNumbers}
 use Rattle.meaning.specs.Reading.{accepted, readFile}
 use Rattle.meaning.specs.Hint.{syncDispose, asyncDispose, hintOf, letterOf}
@@ -199,4 +199,4 @@ module _ (w : List ℕ → List ℕ → ℕ → ℕ) (read : ℕ) where
   -- nor any by a record
   pub calls-none : (h : Head) (k : Forest) → OldCalls read k → calls w read h k ≡ 0
   unfolding calls
-  calls-none h k o = unless-none (oneOf (Tag.ForOf ∷ Tag.Case ∷ []) (h .tag)) (callsIn w read k) (calls-in-none k o)
+  calls-none h k o = unless-none (eqb (h .tag) Tag.ForOf) (callsIn w read k) (calls-in-none k o)

@@ -1,7 +1,7 @@
 -- The Loads of a tree: each context that is made brings one, and taking up usings makes and drops none.
 -- Assumes nothing.
 use mathlib.Core.Path.{_≡_, refl, ap}
-use mathlib.Core.Bool.{Bool, true, false, _||_, _&&_}
+use mathlib.Core.Bool.{Bool, true, false, _&&_}
 use mathlib.Core.List.{List, []}
 use Prim.Native.Nat.{ℕ, zero, suc, _+_}
 use native.Mathlib.Omega.{arith}
@@ -93,38 +93,33 @@ unfolding loads asTakenUp
 using-loads true h k r r′ letter ctx e i = omega (arith, initializers-loads k letter ctx, ap loadOf (using-tag h e))
 using-loads false h k r r′ letter ctx e i = omega arith
 
-list-loads : (f : Forest) (running : Bool) (ctx : ℕ) (needsAwait : Bool) → loads (takeUp running ctx needsAwait f) ≡ loads f
+list-loads : (f : Forest) (ctx : ℕ) → loads (takeUp ctx f) ≡ loads f
 unfolding takeUp
-list-loads none running ctx needsAwait = refl
-list-loads (more h k r) running ctx needsAwait =
-    let awaits = needsAwait || isAwaitUsing h in
-    using-loads (isUsing h) h k r (takeUp running ctx (running && awaits) r) (letterIf awaits) ctx refl
-    (list-loads r running ctx (running && awaits))
+list-loads none ctx = refl
+list-loads (more h k r) ctx =
+    using-loads (isUsing h) h k r (takeUp ctx r) (letterIf (isAwaitUsing h)) ctx refl (list-loads r ctx)
 
 loop-loads : (a : Bool) (h : Head) (k r : Forest) (ctx : ℕ) → loads (takeUpFor ctx k) ≡ loads k
-    → loads (more h (if a then takeUpFor ctx k else takeUp false ctx false k) r) ≡ loads (more h k r)
+    → loads (more h (if a then takeUpFor ctx k else takeUp ctx k) r) ≡ loads (more h k r)
 unfolding loads
 loop-loads true h k r ctx i = omega arith
-loop-loads false h k r ctx i = omega (arith, list-loads k false ctx false)
+loop-loads false h k r ctx i = omega (arith, list-loads k ctx)
 
 for-loads : (f : Forest) (ctx : ℕ) → loads (takeUpFor ctx f) ≡ loads f
 unfolding takeUpFor
 for-loads none ctx = refl
 for-loads (more h k r) ctx = loop-loads (eqb (h .tag) Tag.Label) h k r ctx (for-loads k ctx)
 
-case-loads : (b : Bool) (h : Head) (k r r₁ r₂ : Forest) (ctx : ℕ) (needsAwait : Bool) → loads r₁ ≡ loads r → loads r₂ ≡ loads r
-    → loads (if b then more h (takeUp true ctx needsAwait k) r₁ else more h k r₂) ≡ loads (more h k r)
+case-loads : (b : Bool) (h : Head) (k r r′ : Forest) (ctx : ℕ) → loads r′ ≡ loads r
+    → loads (more h (if b then takeUp ctx k else k) r′) ≡ loads (more h k r)
 unfolding loads
-case-loads true h k r r₁ r₂ ctx needsAwait i j = omega (arith, list-loads k true ctx needsAwait)
-case-loads false h k r r₁ r₂ ctx needsAwait i j = omega arith
+case-loads true h k r r′ ctx i = omega (arith, list-loads k ctx)
+case-loads false h k r r′ ctx i = omega arith
 
-cases-loads : (f : Forest) (ctx : ℕ) (needsAwait : Bool) → loads (takeUpCases ctx needsAwait f) ≡ loads f
+cases-loads : (f : Forest) (ctx : ℕ) → loads (takeUpCases ctx f) ≡ loads f
 unfolding takeUpCases
-cases-loads none ctx needsAwait = refl
-cases-loads (more h k r) ctx needsAwait =
-    case-loads (eqb (h .tag) Tag.Case) h k r (takeUpCases ctx (needsAwait || anyAwaitUsing k) r) (takeUpCases ctx needsAwait r) ctx needsAwait
-    (cases-loads r ctx (needsAwait || anyAwaitUsing k))
-    (cases-loads r ctx needsAwait)
+cases-loads none ctx = refl
+cases-loads (more h k r) ctx = case-loads (eqb (h .tag) Tag.Case) h k r (takeUpCases ctx r) ctx (cases-loads r ctx)
 
 -- ---- what is made
 
@@ -147,7 +142,7 @@ statements-loads : (cur hoist : ℕ) (list : Forest) (st : Store)
 unfolding transformStatements
 statements-loads cur hoist list st =
     let c = makeContext hoist st in
-    omega (arith, declared (c .0) cur (c .1) (takeUp false (c .0) false list), list-loads list false (c .0) false)
+    omega (arith, declared (c .0) cur (c .1) (takeUp (c .0) list), list-loads list (c .0))
 
 try-loads : (scope : ℕ) (list : Forest) (ctx parent : ℕ) (needsAwait : Bool) (st : Store)
     → loads (single ((createTryStmt scope list ctx parent needsAwait st) .0)) ≡ loads list
@@ -253,10 +248,10 @@ switch-brings cur h k st =
     let s = createChildScope cur 0 (c .1) in
     let p = changeScopeParent (h .a) (s .0) (s .1) in
     let l = helperLoad cur (p .1) in
-    let taken = one h (takeUpCases (c .0) false k) in
+    let taken = one h (takeUpCases (c .0) k) in
     omega (
       arith,
-      cases-loads k (c .0) false,
+      cases-loads k (c .0),
       declared (c .0) cur (p .1) taken,
       try-loads (s .0) (declaration Kind.Var (c .0) (l .0) & taken) (c .0) cur (anyCaseAwaitUsing k) (l .1),
     )

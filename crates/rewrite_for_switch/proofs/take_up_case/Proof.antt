@@ -8,27 +8,18 @@ use Rattle.rewrite_for_switch.proofs.take_up_case.Tie as tie
 
 same-length : tie.Need-same-length
 same-length c =
-    let at-take-up = c .before .before .before in
+    let at-take-up = c .before .before in
     let at-copy-row = at-take-up .before .before .before .before in
     at-take-up .take-up .kept .0 ∙ at-copy-row .copy-row .kept .0
 
 returns : tie.Need-returns
 unfolding takeUpCaseF
 returns c =
-    let at-or-awaits = c in
-    let at-take-up = at-or-awaits .before .before .before in
+    let at-take-up = c .before .before in
     let at-copy-row = at-take-up .before .before .before .before in
-    let at-plan-list = at-copy-row .before .before in
-    let at-no-plan = at-plan-list .before in
-    let at-plus = at-no-plan .before in
-    let at-if1 = at-plus .before .before in
+    let at-if1 = at-copy-row .before .before in
     let at-row-after = at-if1 .before .before in
-    rw (← at-row-after .row-after .ensures, eq-eqb _ _ (at-if1 .if1 .taken), ← at-plus .plus .ensures, ← at-no-plan .no-plan .ensures, ← at-plan-list .plan-list .ensures, ← at-copy-row .copy-row .ensures, ← at-take-up .take-up .ensures, ← at-or-awaits .or-awaits .ensures)
-
-same-length-2 : tie.Need-same-length-2
-same-length-2 c =
-    let at-copy = c .before .before in
-    at-copy .copy .kept .0
+    rw (← at-row-after .row-after .ensures, eq-eqb _ _ (at-if1 .if1 .taken), ← at-copy-row .copy-row .ensures, ← at-take-up .take-up .ensures)
 
 returns-2 : tie.Need-returns-2
 unfolding takeUpCaseF
@@ -42,4 +33,4 @@ pub take-up-case-spec : {M : Type 1} → statement M
 take-up-case-spec =
     tie.close
     (tie.spec
-    (λ c κs. search needs) (λ c κs. search needs) (λ c κs. search needs) (λ c κs. search needs) (λ c κs. search needs) (λ c κs. search needs) (λ c κs. search needs) (λ c κs. search needs) same-length returns same-length-2 returns-2)
+    (λ c κs. search needs) (λ c κs. search needs) (λ c κs. search needs) (λ c κs. search needs) same-length returns (λ c. search needs) returns-2)

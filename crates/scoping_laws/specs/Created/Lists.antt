@@ -1,7 +1,6 @@
 -- A list with its context: Blocks and function bodies.
 -- Assumes nothing.
 use mathlib.Core.Path.{_≡_, refl, sym, ap, _∙_}
-use mathlib.Core.Bool.{false}
 use mathlib.Core.List.{List, [], _∷_, _++_}
 use Prim.Native.Nat.{ℕ, _+_, _-_, _≤_}
 use native.Mathlib.Omega.{arith}
@@ -57,7 +56,7 @@ module _ (cur hoist : ℕ) (list : Forest) (st : Store) where
       → (let p = listParts cur hoist st tried n in
       let t = transformStatements cur hoist list st .0 in
       createTryStmt scope (t .statements) (t .usingCtx) parent (t .needsAwait) tried .0
-      ≡ tryStatement (block scope (contextOf p & takeUp false (p .context .0) false list) & handlersOf p))
+      ≡ tryStatement (block scope (contextOf p & takeUp (p .context .0) list) & handlersOf p))
   unfolding transformStatements makeContext createSymbol contextOf
   list-node tried scope parent n e =
       rw (load-is (makeContext hoist st .1) cur) (try-node tried parent scope _ _ _ _ _ n (rw e (any-awaits list)))
@@ -89,7 +88,7 @@ module _ (cur hoist : ℕ) (h : Head) (list : Forest) (st : Store) where
   pub block-node : (n : ℕ) → n ≡ awaits list
       → (let p = blockParts cur hoist list st n in
       transformBlockStatement cur hoist h list st .0
-      ≡ node (hd Tag.Try Parts.Both 0 0) (block (h .a) (contextOf p & takeUp false (p .context .0) false list) & handlersOf p))
+      ≡ node (hd Tag.Try Parts.Both 0 0) (block (h .a) (contextOf p & takeUp (p .context .0) list) & handlersOf p))
   unfolding transformBlockStatement
   block-node n e = list-node cur hoist list st listed (h .a) cur n e
 
@@ -175,11 +174,11 @@ module _ (cur hoist : ℕ) (list : Forest) (st : Store) where
       → (let p = bodyParts cur hoist list st n in
       enterFunctionBody cur hoist list st .0
       ≡ node (hd Tag.Body 0 0 0)
-      (single (tryStatement (block (p .scope .0 - 1) (contextOf p & takeUp false (p .context .0) false list) & handlersOf p))))
+      (single (tryStatement (block (p .scope .0 - 1) (contextOf p & takeUp (p .context .0) list) & handlersOf p))))
   unfolding enterFunctionBody
   body-node n e =
       let p = bodyParts cur hoist list st n in
-      let list′ = contextOf p & takeUp false (p .context .0) false list in
+      let list′ = contextOf p & takeUp (p .context .0) list in
       let ys = blockScopedIn (below .symbols) cur (below .symbols) 1 in
       let s : scope ≡ p .scope .0 - 1 = omega (arith, below-number cur list bodyListed, bindings-moved ys scope below .scopes) in
       ap (λ (try : Node). node (hd Tag.Body 0 0 0) (single try))

@@ -219,7 +219,7 @@ module _ (cur : ℕ) (h : Head) (k : Forest) (st : Store) where
   pub switch-node : (n : ℕ) → anyCaseAwaitUsing k ≡ not (eqb n 0)
       → (let p = switchParts cur h st n in
       transformSwitchStatement cur h k st .0
-      ≡ node (hd Tag.Try Parts.Both 0 0) (block (p .scope .0 - 1) (contextOf p & one h (takeUpCases (p .context .0) false k)) & handlersOf p))
+      ≡ node (hd Tag.Try Parts.Both 0 0) (block (p .scope .0 - 1) (contextOf p & one h (takeUpCases (p .context .0) k)) & handlersOf p))
   unfolding transformSwitchStatement makeContext createSymbol
   switch-node n e =
       let p = switchParts cur h st n in
@@ -231,7 +231,7 @@ module _ (cur : ℕ) (h : Head) (k : Forest) (st : Store) where
         scope-parent (h .a) (child .0) (child .1) .scopes,
         load-grows cur aboveSwitch .scopes,
       ) in
-      load-try-node aboveSwitch cur (nextSymbol st) _ _ (one h (takeUpCases (p .context .0) false k)) _ n e s
+      load-try-node aboveSwitch cur (nextSymbol st) _ _ (one h (takeUpCases (p .context .0) k)) _ n e s
 
   pub switch-room : (n : ℕ) → Room (transformSwitchStatement cur h k st .1) → switchParts cur h st n .scope .0 + 2 ≤ 65535
   unfolding transformSwitchStatement

@@ -1,7 +1,6 @@
 -- A list with its context below a new scope: static blocks and try parts.
 -- Assumes nothing.
 use mathlib.Core.Path.{_≡_, refl, sym, ap, ap₂, _∙_}
-use mathlib.Core.Bool.{false}
 use mathlib.Core.List.{List}
 use Prim.Native.Nat.{ℕ, _+_, _-_, _≤_}
 use native.Mathlib.Omega.{arith}
@@ -114,7 +113,7 @@ module _ (h : Head) (list : Forest) (st : Store) where
       → (let p = staticParts h list st n in
       exitStaticBlock h list st .0
       ≡ node (hd Tag.StaticBlock (p .scope .0 - 1) 0 0)
-      (single (tryStatement (block (h .a) (contextOf p & takeUp false (p .context .0) false list) & handlersOf p))))
+      (single (tryStatement (block (h .a) (contextOf p & takeUp (p .context .0) list) & handlersOf p))))
   unfolding exitStaticBlock transformStatements makeContext createSymbol
   static-node n e =
       let y = nextSymbol st in
@@ -183,7 +182,7 @@ module _ (cur hoist : ℕ) (h : Head) (list : Forest) (st : Store) where
       → (let p = partParts cur h list st n in
       transformTryBlock cur hoist h list st .0
       ≡ node (hd Tag.Block (p .scope .0 - 1) 0 0)
-      (single (tryStatement (block (h .a) (contextOf p & takeUp false (p .context .0) false list) & handlersOf p))))
+      (single (tryStatement (block (h .a) (contextOf p & takeUp (p .context .0) list) & handlersOf p))))
   unfolding transformTryBlock
   part-node n e =
       let s : partScope ≡ partParts cur h list st n .scope .0 - 1 = omega (arith, inserted-number partListed (h .a) 0) in

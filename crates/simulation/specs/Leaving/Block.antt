@@ -138,7 +138,7 @@ module _ (before after : Forest) (path : List Crumb) (h : Head) (k : Forest) (st
         let rows = ap
         (λ (i : ℕ). wrappedRowsF (closedRowF 16 s 0 0 1) (h .a) parts (gapped (z .records) upTo i (rowsOf (one h k) ++ v))) i
         ∙ wrapped-rows-law (z .records) 16 s h k (h .a) parts upTo g v (omega arith) room′ in
-        let larger = try-size (h .a) (takeUp false ctx false k) parts in
+        let larger = try-size (h .a) (takeUp ctx k) parts in
         rw (
           old-is,
           same,
@@ -146,7 +146,7 @@ module _ (before after : Forest) (path : List Crumb) (h : Head) (k : Forest) (st
           rows,
           static-node h k st (awaits k) refl,
         )
-        (written-law _ (exitStaticBlock h k st .1) (omega (arith, larger, size-taken k false ctx false)))
+        (written-law _ (exitStaticBlock h k st .1) (omega (arith, larger, size-taken k ctx)))
 
 -- ---- by whether it has a using
 

@@ -2,7 +2,6 @@
 -- Assumes nothing.
 use mathlib.Core.Path.{_≡_, refl}
 use mathlib.Core.List.{List}
-use mathlib.Core.Bool.{false}
 use Prim.Native.Nat.{ℕ, _+_, _≤_}
 use native.Mathlib.Omega.{arith}
 use lib.ListN.{length}
@@ -54,7 +53,7 @@ module _ (done : Forest) (h : Head) (k r : Forest) (path : List Crumb) (st : Sto
       (rw plan (block-held cur hoist h k st (z .scopes) (z .symbols) (awaits k) a room))
       (rw plan (cap-sum (wraps k) 11 (omega arith)))
       (block-node cur hoist h k st (awaits k) refl)
-      (omega (arith, try-size (h .a) (takeUp false c false k) p, size-taken k false c false))
+      (omega (arith, try-size (h .a) (takeUp c k) p, size-taken k c))
       (λ i. block-rows-law (z .records) h k p _ 0 (behind r path) i (block-room cur hoist h k st (awaits k) room))
       fits
 
@@ -92,7 +91,7 @@ module _ (done : Forest) (h : Head) (k r : Forest) (path : List Crumb) (st : Sto
       room))
       (rw plan (cap-sum (wraps k) 12 (omega arith)))
       (body-node cur hoist k st (awaits k) refl)
-      (omega (arith, try-size (listScope p) (takeUp false c false k) p, size-taken k false c false))
+      (omega (arith, try-size (listScope p) (takeUp c k) p, size-taken k c))
       (λ i.
       wrapped-rows-law (z .records) 14 0 h k (listScope p) p _ 0 (behind r path) i (body-room cur hoist k st (awaits k) room))
       fits

@@ -2,7 +2,7 @@
 -- Assumes nothing.
 use mathlib.Core.Path.{_≡_, refl}
 use mathlib.Core.List.{List}
-use mathlib.Core.Bool.{true, false}
+use mathlib.Core.Bool.{true}
 use Prim.Native.Nat.{ℕ, _+_, _≤_}
 use native.Mathlib.Omega.{arith}
 use lib.ListN.{length}
@@ -61,7 +61,7 @@ module _ (done : Forest) (h : Head) (k r : Forest) (path : List Crumb) (st : Sto
       (rw (plan, a-is done h k r path st (n + g) z₀) (switch-held cur h k st (z .scopes) (z .symbols) (caseAwaits k) a room))
       (rw plan (cap-sum (caseWraps k) 12 (omega arith)))
       (switch-node cur h k st (caseAwaits k) (any-case-awaits k))
-      (omega (arith, try-size (listScope p) (one h (takeUpCases c false k)) p, cases-taken k c false))
+      (omega (arith, try-size (listScope p) (one h (takeUpCases c k)) p, cases-taken k c))
       (λ i. switch-rows-law (z .records) h k p _ 0 (behind r path) i (switch-room cur h k st (caseAwaits k) room))
       fits
 

@@ -17,10 +17,12 @@ returns c =
     let at-take-up-declarators = c .before .before in
     let at-replace-row = at-take-up-declarators .before .before .before .before in
     let at-as-const = at-replace-row .before in
-    let at-if1 = at-as-const .before .before in
+    let at-letter-if = at-as-const .before .before in
+    let at-is-await-using = at-letter-if .before in
+    let at-if1 = at-is-await-using .before in
     let at-is-using = at-if1 .before in
     let at-row-after = at-is-using .before in
-    rw (← at-row-after .row-after .ensures, ← at-is-using .is-using .ensures, at-if1 .if1 .taken, ← at-as-const .as-const .ensures, ← at-replace-row .replace-row .ensures, ← at-take-up-declarators .take-up-declarators .ensures)
+    rw (← at-row-after .row-after .ensures, ← at-is-using .is-using .ensures, at-if1 .if1 .taken, ← at-is-await-using .is-await-using .ensures, ← at-letter-if .letter-if .ensures, ← at-as-const .as-const .ensures, ← at-replace-row .replace-row .ensures, ← at-take-up-declarators .take-up-declarators .ensures)
 
 returns-2 : tie.Need-returns-2
 unfolding takeUpItemF
@@ -35,4 +37,4 @@ pub take-up-item-spec : {M : Type 1} → statement M
 take-up-item-spec =
     tie.close
     (tie.spec
-    (λ c κs. search needs) (λ c κs. search needs) (λ c κs. search needs) (λ c κs. search needs) (λ c κs. search needs) (λ c κs. search needs) same-length returns (λ c. search needs) returns-2)
+    (λ c κs. search needs) (λ c κs. search needs) (λ c κs. search needs) (λ c κs. search needs) (λ c κs. search needs) (λ c κs. search needs) (λ c κs. search needs) (λ c κs. search needs) same-length returns (λ c. search needs) returns-2)

@@ -2,7 +2,7 @@
 -- Assumes nothing.
 use mathlib.Core.Path.{_≡_, refl, ap, _∙_}
 use mathlib.Core.List.{List, [], _∷_, _++_, append-assoc, append-nil}
-use mathlib.Core.Bool.{Bool, true, false, _||_, _&&_}
+use mathlib.Core.Bool.{Bool, true, false, _&&_}
 use Prim.Native.Nat.{ℕ, zero, suc, _+_, _-_, _≤_, _<_}
 use native.Mathlib.Nat.{zero-add, add-assoc, sub-zero, suc-sub-suc}
 use native.Mathlib.Numerals.{one-add}
@@ -15,7 +15,7 @@ use Rattle.meaning.specs.Tree.{if_then_else_, Head, Forest, none, more, count, 
 use Rattle.meaning.specs.Statements.{isUsing, isAwaitUsing, letterIf, wrapInitializer, wrapInitializers, asTakenUp, takeUp}
 use Rattle.meaning.specs.Charges.{initializers, wraps}
 use Rattle.tables.specs.Loops.{turns}
-use Rattle.tables.specs.Table.{closedRowF, headF}
+use Rattle.tables.specs.Table.{closedRowF}
 use Rattle.tables.specs.Stream.{emitF, replaceRowF, copyF}
 use Rattle.tables.specs.declared.Row.{Row}
 use Rattle.representation.specs.Gap.Cells.{line, rowsOf, gapped, length-rows, rows-&}
@@ -27,7 +27,6 @@ use Rattle.statements.specs.TakeUp.{
   takeUpDeclaratorsF,
   asConstF,
   takeUpItemF,
-  takeUpOneF,
   takeUpF,
 }
 
@@ -96,22 +95,20 @@ count-item true letter ctx h k r = refl
 count-item false letter ctx h k r = refl
 
 -- a Call more for each initializer of its usings
-pub size-taken : (f : Forest) (running : Bool) (ctx : ℕ) (needs : Bool) → size (takeUp running ctx needs f) ≡ size f + wraps f
+pub size-taken : (f : Forest) (ctx : ℕ) → size (takeUp ctx f) ≡ size f + wraps f
 unfolding takeUp wraps size
-size-taken none running ctx needs = omega arith
-size-taken (more h k r) running ctx needs =
-    let awaits = needs || isAwaitUsing h in
-    let rest = takeUp running ctx (running && awaits) r in
-    omega (arith, size-item (isUsing h) (letterIf awaits) ctx h k rest, size-taken r running ctx (running && awaits))
+size-taken none ctx = omega arith
+size-taken (more h k r) ctx =
+    let rest = takeUp ctx r in
+    omega (arith, size-item (isUsing h) (letterIf (isAwaitUsing h)) ctx h k rest, size-taken r ctx)
 
 -- as many items
-pub count-taken : (f : Forest) (running : Bool) (ctx : ℕ) (needs : Bool) → count (takeUp running ctx needs f) ≡ count f
+pub count-taken : (f : Forest) (ctx : ℕ) → count (takeUp ctx f) ≡ count f
 unfolding takeUp count
-count-taken none running ctx needs = refl
-count-taken (more h k r) running ctx needs =
-    let awaits = needs || isAwaitUsing h in
-    count-item (isUsing h) (letterIf awaits) ctx h k (takeUp running ctx (running && awaits) r)
-    ∙ ap suc (count-taken r running ctx (running && awaits))
+count-taken none ctx = refl
+count-taken (more h k r) ctx =
+    count-item (isUsing h) (letterIf (isAwaitUsing h)) ctx h k (takeUp ctx r)
+    ∙ ap suc (count-taken r ctx)
 
 -- ---- a using
 
@@ -220,44 +217,28 @@ module _ (z : List ℕ) where
   one-law false letter ctx h k a g v q =
       rw (zero-add, append-nil) (rw append-nil at (copy-all z (more h k none) a g v (omega arith)))
 
-  item-law : (letter ctx : ℕ) (h : Head) (k : Forest) (a : List Row) (g : ℕ) (v : List Row)
-      → length a + (itemWraps h k + g) + size k < 65535
-      → takeUpItemF letter ctx (gapped z a (itemWraps h k + g) (line h (count k) ∷ (rowsOf k ++ v)))
-      ≡ gapped z (a ++ rowsOf (item (isUsing h) letter ctx h k none)) g v
+  item-law : (ctx : ℕ) (h : Head) (k : Forest) (a : List Row) (g : ℕ) (v : List Row) → length a + (itemWraps h k + g) + size k < 65535
+      → takeUpItemF ctx (gapped z a (itemWraps h k + g) (line h (count k) ∷ (rowsOf k ++ v)))
+      ≡ gapped z (a ++ rowsOf (item (isUsing h) (letterIf (isAwaitUsing h)) ctx h k none)) g v
   unfolding takeUpItemF
-  item-law letter ctx h k a g v q =
-      rw (next-gapped z a (itemWraps h k + g) (line h (count k)) (rowsOf k ++ v)) (one-law (isUsing h) letter ctx h k a g v q)
-
-  -- the item before the others
-  take-next : (running : Bool) (ctx : ℕ) (needs : Bool) (n : ℕ) (h : Head) (m : ℕ) (a : List Row) (g : ℕ) (v : List Row)
-      → (let awaits = needs || isAwaitUsing h in
-      takeUpF (suc n) running ctx needs (gapped z a g (line h m ∷ v))
-      ≡ takeUpF n running ctx (running && awaits) (takeUpItemF (letterIf awaits) ctx (gapped z a g (line h m ∷ v))))
-  unfolding takeUpF takeUpOneF turns
-  take-next running ctx needs n h m a g v =
-      ap
-      (λ (x : Row).
-      let awaits = needs || isAwaitUsing (headF x) in
-      takeUpF n running ctx (running && awaits) (takeUpItemF (letterIf awaits) ctx (gapped z a g (line h m ∷ v))))
-      (next-gapped z a g (line h m) v)
+  item-law ctx h k a g v q =
+      rw (next-gapped z a (itemWraps h k + g) (line h (count k)) (rowsOf k ++ v)) (one-law (isUsing h) (letterIf (isAwaitUsing h)) ctx h k a g v q)
 
   -- A LIST TAKEN UP, through a gap that is left with g rows
-  pub take-up-law : (f : Forest) (running : Bool) (ctx : ℕ) (needs : Bool) (a : List Row) (g : ℕ) (v : List Row)
+  pub take-up-law : (f : Forest) (ctx : ℕ) (a : List Row) (g : ℕ) (v : List Row)
       → length a + (wraps f + g) + size f ≤ 65535
-      → takeUpF (count f) running ctx needs (gapped z a (wraps f + g) (rowsOf f ++ v))
-      ≡ gapped z (a ++ rowsOf (takeUp running ctx needs f)) g v
+      → takeUpF (count f) ctx (gapped z a (wraps f + g) (rowsOf f ++ v))
+      ≡ gapped z (a ++ rowsOf (takeUp ctx f)) g v
   unfolding takeUpF turns takeUp wraps count size rowsOf
-  take-up-law none running ctx needs a g v q = rw (zero-add, append-nil)
-  take-up-law (more h k r) running ctx needs a g v q =
-      let awaits = needs || isAwaitUsing h in
-      let rest = takeUp running ctx (running && awaits) r in
+  take-up-law none ctx a g v q = rw (zero-add, append-nil)
+  take-up-law (more h k r) ctx a g v q =
+      let rest = takeUp ctx r in
       let w = itemWraps h k in
-      let first = item (isUsing h) (letterIf awaits) ctx h k none in
+      let letter = letterIf (isAwaitUsing h) in
+      let first = item (isUsing h) letter ctx h k none in
       let l : length (a ++ rowsOf first) ≡ length a + suc (size k + w) =
-      omega (arith, length-append a (rowsOf first), length-rows first, size-item (isUsing h) (letterIf awaits) ctx h k none) in
-      ap (takeUpF (suc (count r)) running ctx needs) (first-row z h k r a w (wraps r) g v)
-      ∙ take-next running ctx needs (count r) h (count k) a (w + (wraps r + g)) (rowsOf k ++ (rowsOf r ++ v))
-      ∙ ap (takeUpF (count r) running ctx (running && awaits))
-      (item-law (letterIf awaits) ctx h k a (wraps r + g) (rowsOf r ++ v) (omega arith))
-      ∙ take-up-law r running ctx (running && awaits) (a ++ rowsOf first) g v (omega arith)
-      ∙ rw (item-& (isUsing h) (letterIf awaits) ctx h k rest, rows-& first rest) (simp append-assoc)
+      omega (arith, length-append a (rowsOf first), length-rows first, size-item (isUsing h) letter ctx h k none) in
+      ap (takeUpF (suc (count r)) ctx) (first-row z h k r a w (wraps r) g v)
+      ∙ ap (takeUpF (count r) ctx) (item-law ctx h k a (wraps r + g) (rowsOf r ++ v) (omega arith))
+      ∙ take-up-law r ctx (a ++ rowsOf first) g v (omega arith)
+      ∙ rw (item-& (isUsing h) letter ctx h k rest, rows-& first rest) (simp append-assoc)

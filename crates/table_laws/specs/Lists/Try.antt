@@ -2,7 +2,6 @@
 -- Assumes nothing.
 use mathlib.Core.Path.{_≡_, ap, _∙_}
 use mathlib.Core.List.{List, [], _∷_, _++_, append-assoc, append-nil}
-use mathlib.Core.Bool.{false}
 use Prim.Native.Nat.{ℕ, suc, _+_, _≤_}
 use native.Mathlib.Nat.{zero-add, suc-add}
 use native.Mathlib.Omega.{arith}
@@ -83,19 +82,19 @@ module _ (z : List ℕ) where
   pub transform-list-law : (f : Forest) (p : Parts) (a : List Row) (g : ℕ) (v : List Row)
       → length a + (wraps f + (10 + g)) + size f ≤ 65535 → p .scope .0 + 2 ≤ 65535
       → transformListF (count f) p (gapped z a (wraps f + (10 + g)) (rowsOf f ++ v))
-      ≡ gapped z (a ++ (rowsOf (contextOf p & takeUp false (p .context .0) false f) ++ rowsOf (handlersOf p))) g v
+      ≡ gapped z (a ++ (rowsOf (contextOf p & takeUp (p .context .0) f) ++ rowsOf (handlersOf p))) g v
   unfolding transformListF contextOf rowsOf count
   transform-list-law f p a g v q s =
       let c = p .context .0 in
-      let f′ = takeUp false c false f in
+      let f′ = takeUp c f in
       let a₁ = a ++ rowsOf (contextOf p) in
       let l₁ : length a₁ ≡ length a + 4 = length-append a (rowsOf (contextOf p)) in
       let l₂ : length (a₁ ++ rowsOf f′) ≡ length a₁ + (size f + wraps f) =
-      omega (arith, length-append a₁ (rowsOf f′), length-rows f′, size-taken f false c false) in
+      omega (arith, length-append a₁ (rowsOf f′), length-rows f′, size-taken f c) in
       ap (λ (n : ℕ). transformListF (count f) p (gapped z a n (rowsOf f ++ v))) (omega arith)
-      ∙ ap (λ (b : Buf). handlersF p (takeUpF (count f) false c false b))
+      ∙ ap (λ (b : Buf). handlersF p (takeUpF (count f) c b))
       (declare-context-law p a (wraps f + (6 + g)) (rowsOf f ++ v) (omega arith))
-      ∙ ap (handlersF p) (take-up-law z f false c false a₁ (6 + g) v (omega arith))
+      ∙ ap (handlersF p) (take-up-law z f c a₁ (6 + g) v (omega arith))
       ∙ handlers-law p (a₁ ++ rowsOf f′) g v (omega arith) s
       ∙ rw (rows-& (contextOf p) f′) (simp append-assoc)
 
@@ -104,13 +103,13 @@ module _ (z : List ℕ) where
       → length a + (wraps f + (12 + g)) + size f ≤ 65535 → p .scope .0 + 2 ≤ 65535
       → transformListF (count f) p (openTryF scope (suc (count f)) (gapped z a (wraps f + (12 + g)) (rowsOf f ++ v)))
       ≡ gapped z
-      (a ++ rowsOf (single (tryStatement (block scope (contextOf p & takeUp false (p .context .0) false f) & handlersOf p))))
+      (a ++ rowsOf (single (tryStatement (block scope (contextOf p & takeUp (p .context .0) f) & handlersOf p))))
       g v
   unfolding contextOf handlersOf count _&_
   try-rows-law f p scope a g v q s =
-      let f′ = takeUp false (p .context .0) false f in
+      let f′ = takeUp (p .context .0) f in
       let m = closedRowF 11 3 0 0 3 ∷ closedRowF 2 scope 0 0 (suc (count f)) ∷ [] in
       ap (λ (n : ℕ). transformListF (count f) p (openTryF scope (suc (count f)) (gapped z a n (rowsOf f ++ v)))) (omega arith)
       ∙ ap (transformListF (count f) p) (open-try-law scope (suc (count f)) a (wraps f + (10 + g)) (rowsOf f ++ v) (omega arith))
       ∙ transform-list-law f p (a ++ m) g v (omega (arith, length-append a m)) s
-      ∙ rw (try-rows scope (contextOf p & f′) (handlersOf p), count-taken f false (p .context .0) false) (simp append-assoc)
+      ∙ rw (try-rows scope (contextOf p & f′) (handlersOf p), count-taken f (p .context .0)) (simp append-assoc)

@@ -120,11 +120,11 @@ count-for (more h k r) ctx = refl
 
 -- what is written below a record, by whether it is a Label
 abbrev loopBelow : Bool → ℕ → Forest → Forest
-loopBelow b ctx k = if b then takeUpFor ctx k else takeUp false ctx false k
+loopBelow b ctx k = if b then takeUpFor ctx k else takeUp ctx k
 
 count-below : (b : Bool) (ctx : ℕ) (k : Forest) → count (loopBelow b ctx k) ≡ count k
 count-below true ctx k = count-for k ctx
-count-below false ctx k = count-taken k false ctx false
+count-below false ctx k = count-taken k ctx
 
 -- a For, if there is a using below it
 size-by : (b c : Bool) (ctx : ℕ) (k : Forest) → anyUsing (if b then forList k else if c then k else none) ≡ true
@@ -132,7 +132,7 @@ size-by : (b c : Bool) (ctx : ℕ) (k : Forest) → anyUsing (if b then forList 
     → size (loopBelow b ctx k) ≡ size k + wraps (if b then forList k else if c then k else none)
 unfolding anyUsing
 size-by true c ctx k u i = i refl u
-size-by false true ctx k u i = size-taken k false ctx false
+size-by false true ctx k u i = size-taken k ctx
 size-by false false ctx k u i = absurd (clash refl u)
 
 size-for : (f : Forest) (ctx : ℕ) → anyUsing (forList f) ≡ true → size (takeUpFor ctx f) ≡ size f + wraps (forList f)
@@ -144,7 +144,7 @@ size-for (more h k r) ctx u = omega (arith, size-by (eqb (h .tag) Tag.Label) (eq
 abbrev loopRows : ℕ → ℕ → Buf → Buf
 loopRows n ctx b =
     let b₁ = passRowsF n b in
-    takeUpF (columnF (b₁ .t) (b₁ .read) 4) false ctx false (copyRowF b₁)
+    takeUpF (columnF (b₁ .t) (b₁ .read) 4) ctx (copyRowF b₁)
 
 module _ (z : List ℕ) where
   loop-by : (b c : Bool) (ctx : ℕ) (h : Head) (k : Forest) (a : List Row) (g : ℕ) (v : List Row)
@@ -161,7 +161,7 @@ module _ (z : List ℕ) where
   loop-by false true ctx h k a g v u q i =
       let x = line h (count k) in
       rw (n-gapped z a (wraps k + g) x (rowsOf k ++ v), pass-gapped z a (wraps k + g) x (rowsOf k ++ v) (omega arith))
-      (take-up-law z k false ctx false (a ++ x ∷ []) g v (omega (arith, length-snoc a x)))
+      (take-up-law z k ctx (a ++ x ∷ []) g v (omega (arith, length-snoc a x)))
   loop-by false false ctx h k a g v u q i = absurd (clash refl u)
 
   loop-law : (f : Forest) (ctx : ℕ) (a : List Row) (g : ℕ) (v : List Row) → Labelled f → anyUsing (forList f) ≡ true

@@ -2,7 +2,6 @@
 -- Assumes nothing.
 use mathlib.Core.Path.{_≡_, ap₂, _∙_}
 use mathlib.Core.List.{List, [], _∷_, _++_, append-assoc}
-use mathlib.Core.Bool.{false}
 use Prim.Native.Nat.{ℕ, suc, _+_, _≤_}
 use native.Mathlib.Omega.{arith}
 use lib.ListN.{length}
@@ -35,7 +34,7 @@ module _ (z : List ℕ) where
       → length a + (wraps k + (11 + g)) + suc (size k) ≤ 65535 → p .scope .0 + 2 ≤ 65535
       → blockRowsF p (gapped z a (wraps k + (11 + g)) (rowsOf (one h k) ++ v))
       ≡ gapped z
-      (a ++ rowsOf (one (hd Tag.Try Parts.Both 0 0) (block (h .a) (contextOf p & takeUp false (p .context .0) false k) & handlersOf p)))
+      (a ++ rowsOf (one (hd Tag.Try Parts.Both 0 0) (block (h .a) (contextOf p & takeUp (p .context .0) k) & handlersOf p)))
       g v
   unfolding blockRowsF contextOf count _&_
   block-rows-law h k p a g v q s =
@@ -57,7 +56,7 @@ module _ (z : List ℕ) where
         pass-as-gapped z a₁ m x u w (omega arith),
       )
       (transform-list-law z k p (a₁ ++ w ∷ []) g v (omega (arith, length-snoc a₁ w)) s
-      ∙ rw (try-rows (h .a) (contextOf p & takeUp false c false k) p, count-taken k false c false) (simp append-assoc))
+      ∙ rw (try-rows (h .a) (contextOf p & takeUp c k) p, count-taken k c) (simp append-assoc))
 
   -- A RECORD KEEPS ITS ROW, as given, and gets a Try around its list
   pub wrapped-rows-law : (t x : ℕ) (h : Head) (k : Forest) (scope : ℕ) (p : Parts) (a : List Row) (g : ℕ) (v : List Row)
@@ -67,7 +66,7 @@ module _ (z : List ℕ) where
       (a
       ++ rowsOf
       (one (hd t x 0 0)
-      (single (tryStatement (block scope (contextOf p & takeUp false (p .context .0) false k) & handlersOf p)))))
+      (single (tryStatement (block scope (contextOf p & takeUp (p .context .0) k) & handlersOf p)))))
       g v
   unfolding wrappedRowsF count
   wrapped-rows-law t x h k scope p a g v q s =
