@@ -13,14 +13,8 @@ use Rattle.meaning.specs.Shapes.{block, declaration}
 use Rattle.meaning.specs.Scoping.{Store, Change, scopeIn, binds, lastBinding, getBinding, findBinding}
 use Rattle.meaning.specs.HelperLoader.{makeHelper, loadRuntime, loadExternal, helperLoad}
 use Rattle.meaning.specs.Statements.{
-  isUsing,
-  isAwaitUsing,
   anyUsing,
-  letterIf,
-  wrapInitializer,
-  wrapInitializers,
   asTakenUp,
-  takeUp,
   makeContext,
   Transformed,
   transformStatements,
@@ -38,12 +32,11 @@ use Rattle.meaning.specs.Contexts.{
   moveCatchNames,
   transformTryParts,
   enterTryStatement,
-  takeUpFor,
   transformForStatement,
-  takeUpCases,
   transformSwitchStatement,
 }
 use Rattle.spec_laws.specs.Trees.{transformHandler}
+use Rattle.charge_laws.specs.Growth.Taken.{Taken, nothing, passed, as-const, in-declarator, called, taken, TakenIn, in-list, around, taken-for, taken-cases}
 use Rattle.bound_laws.specs.Numbers.{
   UpTo,
   HeadWithin,
@@ -87,54 +80,20 @@ found-most (suc n) st scope name =
 module _ {B : ℕ} (big : 32 ≤ B) where
   -- ---- usings that are taken up
 
-  initializer-within : (letter ctx m : ℕ) (f : Forest) → letter ≤ B → ctx ≤ B → TreeWithin B f
-      → TreeWithin B (wrapInitializer letter ctx m f)
-  unfolding wrapInitializer _&_
-  initializer-within letter ctx m none l c w = tt
-  initializer-within letter ctx zero (more h k r) l c w = (omega arith, (w .0, w .1, tt), w .2)
-  initializer-within letter ctx (suc m) (more h k r) l c w = (w .0, w .1, initializer-within letter ctx m r l c (w .2))
-
-  initializers-within : (letter ctx : ℕ) (f : Forest) → letter ≤ B → ctx ≤ B → TreeWithin B f
-      → TreeWithin B (wrapInitializers letter ctx f)
-  unfolding wrapInitializers
-  initializers-within letter ctx none l c w = tt
-  initializers-within letter ctx (more h k r) l c w = (
-    w .0,
-    either (TreeWithin B) (eqb (h .tag) Tag.Declarator) (initializer-within letter ctx (h .b) k l c (w .1)) (w .1),
-    initializers-within letter ctx r l c (w .2),
-  )
-
   const-within : (h : Head) → HeadWithin B (asTakenUp h)
   unfolding asTakenUp
   const-within h = (omega arith, either (UpTo B) (eqb (h .b) 0) (omega arith) (omega arith), omega arith, omega arith)
 
-  list-within : (ctx : ℕ) (f : Forest) → ctx ≤ B → TreeWithin B f → TreeWithin B (takeUp ctx f)
-  unfolding takeUp
-  list-within ctx none c w = tt
-  list-within ctx (more h k r) c w =
-      let letter : letterIf (isAwaitUsing h) ≤ B = either (UpTo B) (isAwaitUsing h) (omega arith) (omega arith) in
-      let rest = list-within ctx r c (w .2) in
-      either (TreeWithin B) (isUsing h)
-      (const-within h, initializers-within (letterIf (isAwaitUsing h)) ctx k letter c (w .1), rest)
-      (w .0, w .1, rest)
+  taken-within : {ctx n : ℕ} {f f′ : Forest} → ctx ≤ B → Taken ctx n f f′ → TreeWithin B f → TreeWithin B f′
+  taken-within c nothing w = tt
+  taken-within c (passed t) w = (w .0, w .1, taken-within c t (w .2))
+  taken-within c (as-const {h = h} u s t) w = (const-within h, taken-within c s (w .1), taken-within c t (w .2))
+  taken-within c (in-declarator e s t) w = (w .0, taken-within c s (w .1), taken-within c t (w .2))
+  taken-within c (called l) w = (omega arith, (w .0, w .1, tt), w .2)
 
-  for-within : (ctx : ℕ) (f : Forest) → ctx ≤ B → TreeWithin B f → TreeWithin B (takeUpFor ctx f)
-  unfolding takeUpFor
-  for-within ctx none c w = tt
-  for-within ctx (more h k r) c w = (
-    w .0,
-    either (TreeWithin B) (eqb (h .tag) Tag.Label) (for-within ctx k c (w .1)) (list-within ctx k c (w .1)),
-    w .2,
-  )
-
-  cases-within : (ctx : ℕ) (f : Forest) → ctx ≤ B → TreeWithin B f → TreeWithin B (takeUpCases ctx f)
-  unfolding takeUpCases
-  cases-within ctx none c w = tt
-  cases-within ctx (more h k r) c w = (
-    w .0,
-    either (TreeWithin B) (eqb (h .tag) Tag.Case) (list-within ctx k c (w .1)) (w .1),
-    cases-within ctx r c (w .2),
-  )
+  around-within : {ctx : ℕ} {f f′ : Forest} → ctx ≤ B → TakenIn ctx f f′ → TreeWithin B f → TreeWithin B f′
+  around-within c (in-list t) w = taken-within c t w
+  around-within c (around s t) w = (w .0, around-within c s (w .1), around-within c t (w .2))
 
   -- ---- the helper
 
@@ -193,7 +152,7 @@ module _ {B : ℕ} (big : 32 ≤ B) where
       step (context-kept hoist st) (λ (d, _). d)
       (step (load-kept cur _) (λ _. tt)
       (gives (λ (((_, w), ctx), helper). (
-        declared-within 0 _ _ _ (omega arith) ctx helper (list-within _ list ctx w),
+        declared-within 0 _ _ _ (omega arith) ctx helper (taken-within ctx (taken _ list) w),
         ctx,
       ))))
 
@@ -311,7 +270,7 @@ module _ {B : ℕ} (big : 32 ≤ B) where
       (last (try-kept _ _ _ cur _ _)
       (λ (((_, ctx), scope), helper). (
         scope,
-        declared-within 0 _ _ _ (omega arith) ctx helper (for-within _ (one h k) ctx (p, w, tt)),
+        declared-within 0 _ _ _ (omega arith) ctx helper (around-within ctx (taken-for _ (one h k)) (p, w, tt)),
         ctx,
         c,
       )))))
@@ -327,7 +286,7 @@ module _ {B : ℕ} (big : 32 ≤ B) where
       (last (try-kept _ _ _ cur _ _)
       (λ ((((_, ctx), scope), _), helper). (
         scope,
-        declared-within 0 _ _ _ (omega arith) ctx helper (p, cases-within _ k ctx w, tt),
+        declared-within 0 _ _ _ (omega arith) ctx helper (p, around-within ctx (taken-cases _ k) w, tt),
         ctx,
         c,
       ))))))

@@ -1,6 +1,7 @@
 -- Each visit adds what its lines charge.
 pub mod Rows
 pub mod Loading
+pub mod Taken
 pub mod Trees
 pub mod Charged
 pub mod Made

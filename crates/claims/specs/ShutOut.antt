@@ -438,7 +438,7 @@ switched switch f =
     }
 
 -- lowering does no more to such a file
-cases-switched : written (switched transformSwitchStatement (fileOf (readFile cases))) ≡ bytesOf (on lower cases)
+pub cases-switched : written (switched transformSwitchStatement (fileOf (readFile cases))) ≡ bytesOf (on lower cases)
 unfolding computing
 cases-switched = refl
 

@@ -1,8 +1,8 @@
 -- Lists that a context takes up, and the Try around them: records without n get no children.
 -- Assumes nothing.
-use mathlib.Core.Path.{_≡_, refl, ap}
+use mathlib.Core.Path.{_≡_, refl, subst}
 use mathlib.Core.Bool.{Bool, true, false}
-use Prim.Native.Nat.{ℕ, zero, suc}
+use Prim.Native.Nat.{ℕ}
 use lib.Dec.{eqb}
 use Rattle.meaning.specs.Numbers.Tag
 use Rattle.meaning.specs.Numbers.Kind
@@ -12,11 +12,6 @@ use Rattle.meaning.specs.Scoping.{Store}
 use Rattle.meaning.specs.Shapes.{declaration}
 use Rattle.meaning.specs.HelperLoader.{loadRuntime, loadExternal, helperLoad}
 use Rattle.meaning.specs.Statements.{
-  isUsing,
-  isAwaitUsing,
-  letterIf,
-  wrapInitializer,
-  wrapInitializers,
   asTakenUp,
   takeUp,
   createCatchClause,
@@ -25,6 +20,7 @@ use Rattle.meaning.specs.Statements.{
 }
 use Rattle.meaning.specs.Contexts.{takeUpFor, takeUpCases}
 use Rattle.spec_laws.specs.Tags.{clash}
+use Rattle.charge_laws.specs.Growth.Taken.{Taken, nothing, passed, as-const, in-declarator, called, taken, TakenIn, in-list, around, taken-for, taken-cases}
 use Rattle.readback_laws.specs.Back.{Childless}
 
 -- without n, a record has no children
@@ -42,61 +38,34 @@ childless-& (more h k r) g p q = (p .0, p .1, childless-& r g (p .2) q)
 
 -- ---- lists
 
-initializer-childless : (f : Forest) (letter ctx m : ℕ) → Childless f → Childless (wrapInitializer letter ctx m f)
-unfolding wrapInitializer _&_ hasChildren
-initializer-childless none letter ctx m p = tt
-initializer-childless (more h k r) letter ctx zero p = (never, (p .0, p .1, tt), p .2)
-initializer-childless (more h k r) letter ctx (suc m) p = (p .0, p .1, initializer-childless r letter ctx m (p .2))
+list-empty : {ctx n : ℕ} {f : Forest} → Taken ctx n none f → f ≡ none
+list-empty nothing = refl
 
-declarator-childless : (b : Bool) (h : Head) (k r : Forest) (letter ctx : ℕ) → Bare h k → Childless k → Childless r
-    → Childless (more h (if b then wrapInitializer letter ctx (h .b) k else k) r)
-unfolding wrapInitializer
-declarator-childless true h k r letter ctx o p q =
-    ((λ e. ap (wrapInitializer letter ctx (h .b)) (o e)), initializer-childless k letter ctx (h .b) p, q)
-declarator-childless false h k r letter ctx o p q = (o, p, q)
-
-initializers-childless : (f : Forest) (letter ctx : ℕ) → Childless f → Childless (wrapInitializers letter ctx f)
-unfolding wrapInitializers
-initializers-childless none letter ctx p = tt
-initializers-childless (more h k r) letter ctx p =
-    declarator-childless (eqb (h .tag) Tag.Declarator) h k (wrapInitializers letter ctx r) letter ctx (p .0) (p .1)
-    (initializers-childless r letter ctx (p .2))
-
-using-childless : (u : Bool) (h : Head) (k r : Forest) (letter ctx : ℕ) → Bare h k → Childless k → Childless r
-    → Childless (if u then more (asTakenUp h) (wrapInitializers letter ctx k) r else more h k r)
+taken-childless : {ctx n : ℕ} {f f′ : Forest} → Taken ctx n f f′ → Childless f → Childless f′
 unfolding asTakenUp hasChildren
-using-childless true h k r letter ctx o p q = (never, initializers-childless k letter ctx p, q)
-using-childless false h k r letter ctx o p q = (o, p, q)
+taken-childless nothing p = tt
+taken-childless (passed t) p = (p .0, p .1, taken-childless t (p .2))
+taken-childless (as-const u s t) p = (never, taken-childless s (p .1), taken-childless t (p .2))
+taken-childless (in-declarator e s t) p = (rw e never, taken-childless s (p .1), taken-childless t (p .2))
+taken-childless (called l) p = (never, (p .0, p .1, tt), p .2)
 
 pub list-childless : (f : Forest) (ctx : ℕ) → Childless f → Childless (takeUp ctx f)
-unfolding takeUp
-list-childless none ctx p = tt
-list-childless (more h k r) ctx p =
-    using-childless (isUsing h) h k (takeUp ctx r) (letterIf (isAwaitUsing h)) ctx (p .0) (p .1) (list-childless r ctx (p .2))
+list-childless f ctx p = taken-childless (taken ctx f) p
 
-case-childless : (b : Bool) (h : Head) (k r : Forest) (ctx : ℕ) → Bare h k → Childless k → Childless r
-    → Childless (more h (if b then takeUp ctx k else k) r)
-unfolding takeUp
-case-childless true h k r ctx o p q = ((λ e. ap (takeUp ctx) (o e)), list-childless k ctx p, q)
-case-childless false h k r ctx o p q = (o, p, q)
+-- records around lists: what has no children gets none
+still-empty : {ctx : ℕ} {f : Forest} → TakenIn ctx none f → f ≡ none
+still-empty (in-list t) = list-empty t
+
+around-childless : {ctx : ℕ} {f f′ : Forest} → TakenIn ctx f f′ → Childless f → Childless f′
+around-childless (in-list t) p = taken-childless t p
+around-childless {ctx} (around {k′ = k′} s t) p =
+    ((λ e. still-empty (subst (λ (x : Forest). TakenIn ctx x k′) (p .0 e) s)), around-childless s (p .1), around-childless t (p .2))
 
 pub cases-childless : (f : Forest) (ctx : ℕ) → Childless f → Childless (takeUpCases ctx f)
-unfolding takeUpCases
-cases-childless none ctx p = tt
-cases-childless (more h k r) ctx p =
-    case-childless (eqb (h .tag) Tag.Case) h k (takeUpCases ctx r) ctx (p .0) (p .1) (cases-childless r ctx (p .2))
-
-loop-childless : (b : Bool) (h : Head) (k r : Forest) (ctx : ℕ) → Bare h k → Childless k → Childless r → Childless (takeUpFor ctx k)
-    → Childless (more h (if b then takeUpFor ctx k else takeUp ctx k) r)
-unfolding takeUpFor takeUp
-loop-childless true h k r ctx o p q i = ((λ e. ap (takeUpFor ctx) (o e)), i, q)
-loop-childless false h k r ctx o p q i = ((λ e. ap (takeUp ctx) (o e)), list-childless k ctx p, q)
+cases-childless f ctx p = around-childless (taken-cases ctx f) p
 
 pub for-childless : (f : Forest) (ctx : ℕ) → Childless f → Childless (takeUpFor ctx f)
-unfolding takeUpFor
-for-childless none ctx p = tt
-for-childless (more h k r) ctx p =
-    loop-childless (eqb (h .tag) Tag.Label) h k r ctx (p .0) (p .1) (p .2) (for-childless k ctx (p .1))
+for-childless f ctx p = around-childless (taken-for ctx f) p
 
 -- ---- the Try that a context makes
 

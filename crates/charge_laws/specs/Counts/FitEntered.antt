@@ -68,7 +68,7 @@ use Rattle.charge_laws.specs.Growth.ForOf.{Named}
 use Rattle.charge_laws.specs.Growth.Chosen.{Binds, Chosen, kept, as-program, as-block, as-body, as-try, as-for, as-switch, as-insert, as-wrap, chosen}
 use Rattle.charge_laws.specs.Growth.Items.{Anything, anything, ChosenItem, as-kept, as-moved, as-class, as-declaration, as-exported-declaration, as-exported-class, as-default-class, as-default-value, chosen-item}
 use Rattle.charge_laws.specs.Counts.Enter.{Fit}
-use Rattle.charge_laws.specs.Counts.Fits.{FitsIn, Fits, FitsBelow, below, entered-cases, easy, catch-fit, fits-&, list-fits, cases-fit, loop-fits, declared-fits, try-fits}
+use Rattle.charge_laws.specs.Counts.Fits.{FitsIn, Fits, FitsBelow, below, above, entered-cases, easy, catch-fit, fits-&, list-fits, cases-fit, loop-fits, declared-fits, try-fits}
 
 -- ---- contexts
 
@@ -188,9 +188,6 @@ rebind-fits y (more h (more h₁ k₁ r₁) r) e n p =
     let six = eqb-true (h .tag) Tag.Declarator (and-left (eqb (h .tag) Tag.Declarator) (eqb (h .a) 0) e) in
     (easy (rw six), (easy refl, below h₁ k₁ n refl (p .1 .1), p .1 .2), p .2)
 
-below-block : (h : Head) (k : Forest) → h .tag ≡ Tag.Block → Fits k → FitsBelow h k
-below-block h k e p = subst (λ (t : ℕ). FitsIn (eqb t Tag.Switch) k) (sym e) p
-
 module _ (h h₁ : Head) (k₁ : Forest) (h₂ : Head) (k₂ : Forest) (h₃ : Head) (k₃ r : Forest) (st : Store) (b : Binds h₁ k₁) (n : Named k₁) where
   abbrev sides : Forest
   sides = more h₁ k₁ (more h₂ k₂ (more h₃ k₃ r))
@@ -208,7 +205,7 @@ module _ (h h₁ : Head) (k₁ : Forest) (h₂ : Head) (k₂ : Forest) (h₃ : H
           p .2 .1,
           (
             easy (rw e),
-            below-block h₃ list e (declared-fits (h₁ .a) (boundSymbol k₁) (read t) k₃ (easy refl, tt, tt) (below h₃ k₃ e refl (q .1))),
+            above h₃ list e refl (declared-fits (h₁ .a) (boundSymbol k₁) (read t) k₃ (easy refl, tt, tt) (below h₃ k₃ e refl (q .1))),
             q .2,
           ),
         ),

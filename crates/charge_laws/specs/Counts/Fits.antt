@@ -1,9 +1,9 @@
 -- Visits keep a tree fit.
 -- Assumes nothing.
-use mathlib.Core.Path.{_≡_, refl, ap, subst, _∙_}
+use mathlib.Core.Path.{_≡_, refl, sym, ap, subst, _∙_}
 use mathlib.Core.Bool.{Bool, true, false, _&&_}
 use mathlib.Core.List.{[], _∷_}
-use Prim.Native.Nat.{ℕ, zero, suc}
+use Prim.Native.Nat.{ℕ}
 use lib.Dec.{eqb}
 use borrow.Author.Tests.{eqb-true}
 use Rattle.meaning.specs.Numbers.Tag
@@ -13,12 +13,7 @@ use Rattle.meaning.specs.Scoping.{Store, createChildScope, createSymbol}
 use Rattle.meaning.specs.Shapes.{declaration}
 use Rattle.meaning.specs.HelperLoader.{loadRuntime, loadExternal, helperLoad}
 use Rattle.meaning.specs.Statements.{
-  isUsing,
-  isAwaitUsing,
   anyUsing,
-  letterIf,
-  wrapInitializer,
-  wrapInitializers,
   asTakenUp,
   takeUp,
   createCatchClause,
@@ -27,6 +22,7 @@ use Rattle.meaning.specs.Statements.{
 }
 use Rattle.meaning.specs.Contexts.{forList, takeUpFor, anyCaseUsing, takeUpCases}
 use Rattle.spec_laws.specs.Tags.{Seen, other, here, there, seen, clash, or-none}
+use Rattle.charge_laws.specs.Growth.Taken.{Taken, nothing, passed, as-const, in-declarator, called, taken}
 use Rattle.charge_laws.specs.Growth.Trees.{using-tag}
 use Rattle.charge_laws.specs.Counts.TakenUp.{none-left, Labelled}
 use Rattle.charge_laws.specs.Totals.Roles.{Lacks}
@@ -46,6 +42,9 @@ FitsBelow h k = FitsIn (eqb (h .tag) Tag.Switch) k
 
 pub below : {t : ℕ} (h : Head) (k : Forest) → h .tag ≡ t → eqb t Tag.Switch ≡ false → FitsBelow h k → Fits k
 below h k e n p = subst (λ (b : Bool). FitsIn b k) (ap (λ (t : ℕ). eqb t Tag.Switch) e ∙ n) p
+
+pub above : {t : ℕ} (h : Head) (k : Forest) → h .tag ≡ t → eqb t Tag.Switch ≡ false → Fits k → FitsBelow h k
+above h k e n p = subst (λ (b : Bool). FitsIn b k) (sym (ap (λ (t : ℕ). eqb t Tag.Switch) e ∙ n)) p
 
 -- a record that is no Program, no ForOf, no Label, no Catch and no Case
 pub easy : {b : Bool} {h : Head} {k : Forest} → oneOf (Tag.Program ∷ Tag.ForOf ∷ Tag.Label ∷ Tag.Catch ∷ Tag.Case ∷ []) (h .tag) ≡ false → FitIn b h k
@@ -96,36 +95,17 @@ fits-& (more h k r) g p q = (p .0, p .1, fits-& r g (p .2) q)
 
 -- ---- lists that a context takes up
 
-initializer-fits : (f : Forest) (letter ctx m : ℕ) → Fits f → Fits (wrapInitializer letter ctx m f)
-unfolding wrapInitializer _&_
-initializer-fits none letter ctx m p = tt
-initializer-fits (more h k r) letter ctx zero p = (easy refl, (p .0, p .1, tt), p .2)
-initializer-fits (more h k r) letter ctx (suc m) p = (p .0, p .1, initializer-fits r letter ctx m (p .2))
-
-declarator-fits : {t : ℕ} (a b c : ℕ) (k r : Forest) (letter ctx : ℕ) → Seen (Tag.Declarator ∷ []) t → Fit (hd t a b c) k
-    → FitsBelow (hd t a b c) k → Fits r
-    → Fits (more (hd t a b c) (if eqb t Tag.Declarator then wrapInitializer letter ctx b k else k) r)
-declarator-fits a b c k r letter ctx here o p q = (easy refl, initializer-fits k letter ctx b p, q)
-declarator-fits a b c k r letter ctx (there e other) o p q = rw e (o, p, q)
-
-initializers-fit : (f : Forest) (letter ctx : ℕ) → Fits f → Fits (wrapInitializers letter ctx f)
-unfolding wrapInitializers
-initializers-fit none letter ctx p = tt
-initializers-fit (more h k r) letter ctx p =
-    declarator-fits (h .a) (h .b) (h .c) k (wrapInitializers letter ctx r) letter ctx (seen (Tag.Declarator ∷ []) (h .tag)) (p .0) (p .1)
-    (initializers-fit r letter ctx (p .2))
-
-using-fits : (u : Bool) (h : Head) (k r : Forest) (letter ctx : ℕ) → isUsing h ≡ u → Fit h k → FitsBelow h k → Fits r
-    → Fits (if u then more (asTakenUp h) (wrapInitializers letter ctx k) r else more h k r)
+taken-fits : {ctx n : ℕ} {f f′ : Forest} → Taken ctx n f f′ → Fits f → Fits f′
 unfolding asTakenUp
-using-fits true h k r letter ctx u o p q = (easy refl, initializers-fit k letter ctx (below h k (using-tag h u) refl p), q)
-using-fits false h k r letter ctx u o p q = (o, p, q)
+taken-fits nothing p = tt
+taken-fits (passed t) p = (p .0, p .1, taken-fits t (p .2))
+taken-fits (as-const {h = h} {k = k} u s t) p = (easy refl, taken-fits s (below h k (using-tag h u) refl (p .1)), taken-fits t (p .2))
+taken-fits (in-declarator {h = h} {k = k} {k′ = k′} e s t) p =
+    (easy (rw e), above h k′ e refl (taken-fits s (below h k e refl (p .1))), taken-fits t (p .2))
+taken-fits (called l) p = (easy refl, (p .0, p .1, tt), p .2)
 
 pub list-fits : (f : Forest) (ctx : ℕ) → Fits f → Fits (takeUp ctx f)
-unfolding takeUp
-list-fits none ctx p = tt
-list-fits (more h k r) ctx p =
-    using-fits (isUsing h) h k (takeUp ctx r) (letterIf (isAwaitUsing h)) ctx refl (p .0) (p .1) (list-fits r ctx (p .2))
+list-fits f ctx p = taken-fits (taken ctx f) p
 
 case-fits : {t : ℕ} (a b c : ℕ) (k r : Forest) (ctx : ℕ) → Seen (Tag.Case ∷ []) t → FitIn true (hd t a b c) k → FitsBelow (hd t a b c) k
     → FitsIn true r → FitsIn true (more (hd t a b c) (if eqb t Tag.Case then takeUp ctx k else k) r)

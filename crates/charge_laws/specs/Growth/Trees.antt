@@ -1,30 +1,26 @@
 -- What taking up usings adds to a tree: a Call for each initializer.
 -- Assumes nothing.
 use mathlib.Core.Path.{_≡_, refl, ap}
-use mathlib.Core.Bool.{Bool, true, false, _||_, _&&_}
+use mathlib.Core.Bool.{Bool, true, false, _||_}
 use mathlib.Core.List.{[], _∷_}
-use Prim.Native.Nat.{ℕ, zero, suc, _+_, _*_}
+use Prim.Native.Nat.{ℕ, _+_, _*_}
 use native.Mathlib.Omega.{arith}
-use lib.Dec.{eqb, ltb, leb·zero, leb·suc-zero, leb·suc-suc}
+use lib.Dec.{eqb}
 use borrow.Author.Tests.{eqb-true}
 use Rattle.meaning.specs.Numbers.Tag
 use Rattle.meaning.specs.Numbers.Kind
-use Rattle.meaning.specs.Tree.{if_then_else_, oneOf, Head, Forest, none, more, count, size, _&_}
+use Rattle.meaning.specs.Tree.{if_then_else_, oneOf, Head, Forest, none, more, size, _&_}
 use Rattle.meaning.specs.File.{fieldBytes, numbersOf}
 use Rattle.meaning.specs.Statements.{
   isUsing,
-  isAwaitUsing,
   anyUsing,
-  letterIf,
-  wrapInitializer,
-  wrapInitializers,
   asTakenUp,
   takeUp,
 }
 use Rattle.meaning.specs.Contexts.{forList, takeUpFor, takeUpCases}
-use Rattle.meaning.specs.Charges.{initializers, wraps, caseWraps, recordBytes}
+use Rattle.meaning.specs.Charges.{wraps, caseWraps, recordBytes}
 use Rattle.spec_laws.specs.Tags.{clash, and-left}
-use Rattle.charge_laws.specs.Growth.Rows.{oneIf}
+use Rattle.charge_laws.specs.Growth.Taken.{Taken, nothing, passed, as-const, in-declarator, called, taken}
 
 -- so many records and bytes more
 abbrev pub More : ℕ → ℕ → Forest → Forest → Type 0
@@ -60,46 +56,22 @@ unfolding isUsing
 using-tag h e =
     eqb-true (h .tag) Tag.Declaration (and-left (eqb (h .tag) Tag.Declaration) (oneOf (Kind.Using ∷ Kind.AwaitUsing ∷ []) (h .a) || oneOf (3 ∷ 4 ∷ []) (h .b)) e)
 
--- ---- initializers
+-- ---- lists
 
 call-bytes : fieldBytes 27 ≡ 9
 unfolding fieldBytes numbersOf
 call-bytes = refl
 
-initializer-wrapped : (f : Forest) (letter ctx m : ℕ) → Wrapped (oneIf (ltb m (count f))) f (wrapInitializer letter ctx m f)
-unfolding wrapInitializer size recordBytes count _&_
-initializer-wrapped none letter ctx m = rw (leb·suc-zero m) (omega arith)
-initializer-wrapped (more h k r) letter ctx zero =
-    rw (leb·suc-suc 0 (count r), leb·zero (count r)) (omega (arith, call-bytes))
-initializer-wrapped (more h k r) letter ctx (suc m) =
-    rw (leb·suc-suc (suc m) (count r)) (omega (arith, initializer-wrapped r letter ctx m))
-
-declarator-wrapped : (b : Bool) (k : Forest) (letter ctx m : ℕ)
-    → Wrapped (oneIf (b && ltb m (count k))) k (if b then wrapInitializer letter ctx m k else k)
-declarator-wrapped true k letter ctx m = initializer-wrapped k letter ctx m
-declarator-wrapped false k letter ctx m = omega arith
-
-initializers-wrapped : (f : Forest) (letter ctx : ℕ) → Wrapped (initializers f) f (wrapInitializers letter ctx f)
-unfolding wrapInitializers size recordBytes initializers
-initializers-wrapped none letter ctx = omega arith
-initializers-wrapped (more h k r) letter ctx =
-    omega (arith, declarator-wrapped (eqb (h .tag) Tag.Declarator) k letter ctx (h .b), initializers-wrapped r letter ctx)
-
--- ---- lists
-
-using-taken : (b : Bool) (h : Head) (k r r′ : Forest) (letter ctx : ℕ) → isUsing h ≡ b → Wrapped (wraps r) r r′
-    → Wrapped ((if b then initializers k else 0) + wraps r) (more h k r)
-    (if b then more (asTakenUp h) (wrapInitializers letter ctx k) r′ else more h k r′)
+taken-adds : {ctx n : ℕ} {f f′ : Forest} → Taken ctx n f f′ → Wrapped n f f′
 unfolding size recordBytes asTakenUp
-using-taken true h k r r′ letter ctx e i =
-    omega (arith, initializers-wrapped k letter ctx, ap fieldBytes (using-tag h e))
-using-taken false h k r r′ letter ctx e i = omega arith
+taken-adds nothing = omega arith
+taken-adds (passed t) = omega (arith, taken-adds t)
+taken-adds (as-const {h = h} u s t) = omega (arith, taken-adds s, taken-adds t, ap fieldBytes (using-tag h u))
+taken-adds (in-declarator e s t) = omega (arith, taken-adds s, taken-adds t)
+taken-adds (called l) = omega (arith, call-bytes)
 
 pub list-taken : (f : Forest) (ctx : ℕ) → Wrapped (wraps f) f (takeUp ctx f)
-unfolding takeUp wraps size recordBytes
-list-taken none ctx = omega arith
-list-taken (more h k r) ctx =
-    using-taken (isUsing h) h k r (takeUp ctx r) (letterIf (isAwaitUsing h)) ctx refl (list-taken r ctx)
+list-taken f ctx = taken-adds (taken ctx f)
 
 -- ---- For and Switch
 

@@ -2,25 +2,21 @@
 -- Assumes nothing.
 use mathlib.Core.Path.{_≡_, refl, ap}
 use mathlib.Core.Bool.{Bool, true, false}
-use mathlib.Core.List.{[], _∷_}
-use Prim.Native.Nat.{ℕ, zero, suc}
+use mathlib.Core.List.{_∷_}
+use Prim.Native.Nat.{ℕ}
 use lib.Dec.{eqb}
 use borrow.Author.Tests.{eqb-true}
 use Rattle.meaning.specs.Numbers.Tag
 use Rattle.meaning.specs.Numbers.Kind
 use Rattle.meaning.specs.Grammar.{expressions}
-use Rattle.meaning.specs.Tree.{if_then_else_, oneOf, Head, hd, Forest, none, more, one, node, _&_}
+use Rattle.meaning.specs.Tree.{if_then_else_, oneOf, Head, Forest, more, one, node, _&_}
 use Rattle.meaning.specs.Scoping.{Store, return, insertScopeBetween, moveBinding, setScopeFlags}
 use Rattle.meaning.specs.Shapes.{declaration}
 use Rattle.meaning.specs.HelperLoader.{loadRuntime, loadExternal, helperLoad}
 use Rattle.meaning.specs.Statements.{
   isUsing,
-  isAwaitUsing,
   anyUsing,
   anyAwaitUsing,
-  letterIf,
-  wrapInitializer,
-  wrapInitializers,
   asTakenUp,
   takeUp,
   makeContext,
@@ -31,49 +27,22 @@ use Rattle.meaning.specs.Statements.{
 }
 use Rattle.meaning.specs.Contexts.{exitStaticBlock}
 use Rattle.meaning.specs.Walk.{isStaticBlock, leave}
-use Rattle.spec_laws.specs.Tags.{Seen, other, here, there, seen}
 use Rattle.hint_laws.specs.Outline.{Same, same-refl, same-neutral}
-use Rattle.hint_laws.specs.Lowered.Quiet.{Quiet, AllQuiet, calm, quiet-list}
+use Rattle.hint_laws.specs.Lowered.Quiet.{AllQuiet, calm, quiet-list}
+use Rattle.charge_laws.specs.Growth.Taken.{Taken, nothing, passed, as-const, in-declarator, called, taken}
 use Rattle.charge_laws.specs.Counts.TakenUp.{none-left as taken-list}
+use Rattle.hint_laws.specs.Hints.{takesUp}
 
 -- ---- the list that is taken up
 
-initializer-quiet : (f : Forest) (letter ctx m : ℕ) → AllQuiet f → AllQuiet (wrapInitializer letter ctx m f)
-unfolding AllQuiet wrapInitializer _&_
-initializer-quiet none letter ctx m p = tt
-initializer-quiet (more h k r) letter ctx zero p = (calm _ _ refl refl, (p .0, p .1, tt), p .2)
-initializer-quiet (more h k r) letter ctx (suc m) p = (p .0, p .1, initializer-quiet r letter ctx m (p .2))
-
-declarator-quiet : {t : ℕ} (a b c : ℕ) (k r : Forest) (letter ctx : ℕ) → Seen (Tag.Declarator ∷ []) t → Quiet (hd t a b c) k → AllQuiet k → AllQuiet r
-    → AllQuiet (more (hd t a b c) (if eqb t Tag.Declarator then wrapInitializer letter ctx b k else k) r)
-unfolding AllQuiet
-declarator-quiet a b c k r letter ctx here o p q = (calm _ _ refl refl, initializer-quiet k letter ctx b p, q)
-declarator-quiet a b c k r letter ctx (there e other) o p q = rw e (o, p, q)
-
-initializers-quiet : (f : Forest) (letter ctx : ℕ) → AllQuiet f → AllQuiet (wrapInitializers letter ctx f)
-unfolding AllQuiet wrapInitializers
-initializers-quiet none letter ctx p = tt
-initializers-quiet (more h k r) letter ctx p =
-    declarator-quiet (h .a) (h .b) (h .c) k (wrapInitializers letter ctx r) letter ctx (seen (Tag.Declarator ∷ []) (h .tag)) (p .0) (p .1)
-    (initializers-quiet r letter ctx (p .2))
-
-using-quiet : (u : Bool) (h : Head) (k r : Forest) (letter ctx : ℕ) → Quiet h k → AllQuiet k → AllQuiet r
-    → AllQuiet (if u then more (asTakenUp h) (wrapInitializers letter ctx k) r else more h k r)
+taken-quiet : {ctx n : ℕ} {f f′ : Forest} → Taken ctx n f f′ → AllQuiet f → AllQuiet f′
 unfolding AllQuiet asTakenUp
-using-quiet true h k r letter ctx o p q = (calm _ _ refl refl, initializers-quiet k letter ctx p, q)
-using-quiet false h k r letter ctx o p q = (o, p, q)
-
-taken-quiet : (f : Forest) (ctx : ℕ) → AllQuiet f → AllQuiet (takeUp ctx f)
-unfolding AllQuiet takeUp
-taken-quiet none ctx p = tt
-taken-quiet (more h k r) ctx p =
-    using-quiet (isUsing h) h k (takeUp ctx r) (letterIf (isAwaitUsing h)) ctx (p .0) (p .1) (taken-quiet r ctx (p .2))
-
--- no using is left in it
-const-if : (b : Bool) → isUsing (hd Tag.Declaration (if b then Kind.Const else Kind.Var) 0 0) ≡ false
-unfolding isUsing
-const-if true = refl
-const-if false = refl
+taken-quiet nothing p = tt
+taken-quiet (passed t) p = (p .0, p .1, taken-quiet t (p .2))
+taken-quiet (as-const u s t) p = (calm _ _ refl refl, taken-quiet s (p .1), taken-quiet t (p .2))
+taken-quiet (in-declarator e s t) p =
+    (calm _ _ (ap takesUp e) (ap (λ (t : ℕ). eqb t Tag.ForOf) e), taken-quiet s (p .1), taken-quiet t (p .2))
+taken-quiet (called l) p = (calm _ _ refl refl, (p .0, p .1, tt), p .2)
 
 -- ---- the Try
 
@@ -118,7 +87,7 @@ exit-quiet h k st p =
         calm _ _ refl refl,
         try-quiet (h .a) (takeUp (c .0) k) (c .0) (h .a) (c .0) (s .0) (anyAwaitUsing k) (c .1) (f .1)
             (taken-list k (c .0))
-            (taken-quiet k (c .0) p),
+            (taken-quiet (taken (c .0) k) p),
         tt,
       ),
       tt,

@@ -3,7 +3,7 @@
 use mathlib.Core.Path.{_≡_, refl, ap}
 use mathlib.Core.Bool.{Bool, true, false, _&&_}
 use mathlib.Core.List.{List, []}
-use Prim.Native.Nat.{ℕ, zero, suc, _+_}
+use Prim.Native.Nat.{ℕ, _+_}
 use native.Mathlib.Omega.{arith}
 use lib.Dec.{eqb}
 use borrow.Author.Tests.{eqb-true}
@@ -15,12 +15,8 @@ use Rattle.meaning.specs.Scoping.{Store, Change, return, symbolIn, createChildS
 use Rattle.meaning.specs.HelperLoader.{loadRuntime, loadExternal, helperLoad}
 use Rattle.meaning.specs.Statements.{
   isUsing,
-  isAwaitUsing,
   anyUsing,
   anyAwaitUsing,
-  letterIf,
-  wrapInitializer,
-  wrapInitializers,
   asTakenUp,
   takeUp,
   makeContext,
@@ -49,6 +45,7 @@ use Rattle.meaning.specs.Charges.{ContextKind, ofBlock, ofBody, ofStaticBlock, 
 use Rattle.meaning.specs.Due.{partLines}
 use Rattle.spec_laws.specs.Trees.{transformHandler}
 use Rattle.spec_laws.specs.Figures.{total-++}
+use Rattle.charge_laws.specs.Growth.Taken.{Taken, nothing, passed, as-const, in-declarator, called, taken, TakenIn, in-list, around, taken-for, taken-cases}
 use Rattle.charge_laws.specs.Growth.Trees.{using-tag}
 use Rattle.charge_laws.specs.Growth.ForOf.{Named}
 
@@ -71,55 +68,18 @@ loads-& (more h k r) g = omega (arith, loads-& r g)
 
 -- ---- usings that are taken up
 
-initializer-loads : (f : Forest) (letter ctx m : ℕ) → loads (wrapInitializer letter ctx m f) ≡ loads f
-unfolding wrapInitializer loads loadOf _&_
-initializer-loads none letter ctx m = refl
-initializer-loads (more h k r) letter ctx zero = omega arith
-initializer-loads (more h k r) letter ctx (suc m) = omega (arith, initializer-loads r letter ctx m)
+taken-loads : {ctx n : ℕ} {f f′ : Forest} → Taken ctx n f f′ → loads f′ ≡ loads f
+unfolding loads loadOf asTakenUp
+taken-loads nothing = refl
+taken-loads (passed t) = omega (arith, taken-loads t)
+taken-loads (as-const {h = h} u s t) = omega (arith, taken-loads s, taken-loads t, ap loadOf (using-tag h u))
+taken-loads (in-declarator e s t) = omega (arith, taken-loads s, taken-loads t)
+taken-loads (called l) = omega arith
 
-declarator-loads : (b : Bool) (k : Forest) (letter ctx m : ℕ) → loads (if b then wrapInitializer letter ctx m k else k) ≡ loads k
-declarator-loads true k letter ctx m = initializer-loads k letter ctx m
-declarator-loads false k letter ctx m = refl
-
-initializers-loads : (f : Forest) (letter ctx : ℕ) → loads (wrapInitializers letter ctx f) ≡ loads f
-unfolding wrapInitializers loads
-initializers-loads none letter ctx = refl
-initializers-loads (more h k r) letter ctx =
-    omega (arith, declarator-loads (eqb (h .tag) Tag.Declarator) k letter ctx (h .b), initializers-loads r letter ctx)
-
-using-loads : (b : Bool) (h : Head) (k r r′ : Forest) (letter ctx : ℕ) → isUsing h ≡ b → loads r′ ≡ loads r
-    → loads (if b then more (asTakenUp h) (wrapInitializers letter ctx k) r′ else more h k r′) ≡ loads (more h k r)
-unfolding loads asTakenUp
-using-loads true h k r r′ letter ctx e i = omega (arith, initializers-loads k letter ctx, ap loadOf (using-tag h e))
-using-loads false h k r r′ letter ctx e i = omega arith
-
-list-loads : (f : Forest) (ctx : ℕ) → loads (takeUp ctx f) ≡ loads f
-unfolding takeUp
-list-loads none ctx = refl
-list-loads (more h k r) ctx =
-    using-loads (isUsing h) h k r (takeUp ctx r) (letterIf (isAwaitUsing h)) ctx refl (list-loads r ctx)
-
-loop-loads : (a : Bool) (h : Head) (k r : Forest) (ctx : ℕ) → loads (takeUpFor ctx k) ≡ loads k
-    → loads (more h (if a then takeUpFor ctx k else takeUp ctx k) r) ≡ loads (more h k r)
+around-loads : {ctx : ℕ} {f f′ : Forest} → TakenIn ctx f f′ → loads f′ ≡ loads f
 unfolding loads
-loop-loads true h k r ctx i = omega arith
-loop-loads false h k r ctx i = omega (arith, list-loads k ctx)
-
-for-loads : (f : Forest) (ctx : ℕ) → loads (takeUpFor ctx f) ≡ loads f
-unfolding takeUpFor
-for-loads none ctx = refl
-for-loads (more h k r) ctx = loop-loads (eqb (h .tag) Tag.Label) h k r ctx (for-loads k ctx)
-
-case-loads : (b : Bool) (h : Head) (k r r′ : Forest) (ctx : ℕ) → loads r′ ≡ loads r
-    → loads (more h (if b then takeUp ctx k else k) r′) ≡ loads (more h k r)
-unfolding loads
-case-loads true h k r r′ ctx i = omega (arith, list-loads k ctx)
-case-loads false h k r r′ ctx i = omega arith
-
-cases-loads : (f : Forest) (ctx : ℕ) → loads (takeUpCases ctx f) ≡ loads f
-unfolding takeUpCases
-cases-loads none ctx = refl
-cases-loads (more h k r) ctx = case-loads (eqb (h .tag) Tag.Case) h k r (takeUpCases ctx r) ctx (cases-loads r ctx)
+around-loads (in-list t) = taken-loads t
+around-loads (around s t) = omega (arith, around-loads s, around-loads t)
 
 -- ---- what is made
 
@@ -142,7 +102,7 @@ statements-loads : (cur hoist : ℕ) (list : Forest) (st : Store)
 unfolding transformStatements
 statements-loads cur hoist list st =
     let c = makeContext hoist st in
-    omega (arith, declared (c .0) cur (c .1) (takeUp (c .0) list), list-loads list (c .0))
+    omega (arith, declared (c .0) cur (c .1) (takeUp (c .0) list), taken-loads (taken (c .0) list))
 
 try-loads : (scope : ℕ) (list : Forest) (ctx parent : ℕ) (needsAwait : Bool) (st : Store)
     → loads (single ((createTryStmt scope list ctx parent needsAwait st) .0)) ≡ loads list
@@ -235,7 +195,7 @@ for-brings cur hoist h k st u =
     omega (
       arith,
       lines-one ofFor (forList (one h k)) u,
-      for-loads (one h k) (c .0),
+      around-loads (taken-for (c .0) (one h k)),
       declared (c .0) cur (s .1) taken,
       try-loads (s .0) (declaration Kind.Var (c .0) (l .0) & taken) (c .0) cur (anyAwaitUsing (forList (one h k))) (l .1),
     )
@@ -251,7 +211,7 @@ switch-brings cur h k st =
     let taken = one h (takeUpCases (c .0) k) in
     omega (
       arith,
-      cases-loads k (c .0),
+      around-loads (taken-cases (c .0) k),
       declared (c .0) cur (p .1) taken,
       try-loads (s .0) (declaration Kind.Var (c .0) (l .0) & taken) (c .0) cur (anyCaseAwaitUsing k) (l .1),
     )

@@ -11,7 +11,7 @@ use borrow.Author.Tests.{ltb-true, ltb-false}
 use lib.Dec.{eqb, ltb, leb·zero, leb·suc-zero, leb·suc-suc}
 use lib.ListN.{length, length-append}
 use Rattle.meaning.specs.Numbers.Tag
-use Rattle.meaning.specs.Tree.{if_then_else_, Head, Forest, none, more, count, size, _&_}
+use Rattle.meaning.specs.Tree.{if_then_else_, Head, Forest, none, more, one, count, size, _&_}
 use Rattle.meaning.specs.Statements.{isUsing, isAwaitUsing, letterIf, wrapInitializer, wrapInitializers, asTakenUp, takeUp}
 use Rattle.meaning.specs.Charges.{initializers, wraps}
 use Rattle.tables.specs.Loops.{turns}
@@ -29,6 +29,7 @@ use Rattle.statements.specs.TakeUp.{
   takeUpItemF,
   takeUpF,
 }
+use Rattle.charge_laws.specs.Growth.Trees.{list-taken}
 
 -- what `initializers` and `wraps` add for one record
 abbrev pub initializer : Head → Forest → ℕ
@@ -73,34 +74,15 @@ count-declarator letter ctx h k = by (eqb (h .tag) Tag.Declarator)
     by true = count-wrapped letter ctx (h .b) k
     by false = refl
 
-size-declarators : (letter ctx : ℕ) (f : Forest) → size (wrapInitializers letter ctx f) ≡ size f + initializers f
-unfolding wrapInitializers initializers size
-size-declarators letter ctx none = omega arith
-size-declarators letter ctx (more h k r) = omega (arith, size-declarator letter ctx h k, size-declarators letter ctx r)
-
 count-declarators : (letter ctx : ℕ) (f : Forest) → count (wrapInitializers letter ctx f) ≡ count f
 unfolding wrapInitializers count
 count-declarators letter ctx none = refl
 count-declarators letter ctx (more h k r) = ap suc (count-declarators letter ctx r)
 
-size-item : (b : Bool) (letter ctx : ℕ) (h : Head) (k r : Forest)
-    → size (item b letter ctx h k r) ≡ suc (size k + (if b then initializers k else 0) + size r)
-unfolding size
-size-item true letter ctx h k r = omega (arith, size-declarators letter ctx k)
-size-item false letter ctx h k r = omega arith
-
 count-item : (b : Bool) (letter ctx : ℕ) (h : Head) (k r : Forest) → count (item b letter ctx h k r) ≡ suc (count r)
 unfolding count
 count-item true letter ctx h k r = refl
 count-item false letter ctx h k r = refl
-
--- a Call more for each initializer of its usings
-pub size-taken : (f : Forest) (ctx : ℕ) → size (takeUp ctx f) ≡ size f + wraps f
-unfolding takeUp wraps size
-size-taken none ctx = omega arith
-size-taken (more h k r) ctx =
-    let rest = takeUp ctx r in
-    omega (arith, size-item (isUsing h) (letterIf (isAwaitUsing h)) ctx h k rest, size-taken r ctx)
 
 -- as many items
 pub count-taken : (f : Forest) (ctx : ℕ) → count (takeUp ctx f) ≡ count f
@@ -237,7 +219,7 @@ module _ (z : List ℕ) where
       let letter = letterIf (isAwaitUsing h) in
       let first = item (isUsing h) letter ctx h k none in
       let l : length (a ++ rowsOf first) ≡ length a + suc (size k + w) =
-      omega (arith, length-append a (rowsOf first), length-rows first, size-item (isUsing h) letter ctx h k none) in
+      omega (arith, length-append a (rowsOf first), length-rows first, list-taken (one h k) ctx) in
       ap (takeUpF (suc (count r)) ctx) (first-row z h k r a w (wraps r) g v)
       ∙ ap (takeUpF (count r) ctx) (item-law ctx h k a (wraps r + g) (rowsOf r ++ v) (omega arith))
       ∙ take-up-law r ctx (a ++ rowsOf first) g v (omega arith)

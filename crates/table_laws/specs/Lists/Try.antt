@@ -20,7 +20,8 @@ use Rattle.representation.specs.Gap.Rows.{length-snoc, emit-gapped}
 use Rattle.statements.specs.TakeUp.{takeUpF}
 use Rattle.statements.specs.Try.{declareF, declareContextF, catchClauseF, finallyBlockF, handlersF, openTryF, transformListF}
 use Rattle.statements.specs.declared.Parts.{Parts}
-use Rattle.table_laws.specs.Lists.TakeUp.{size-taken, count-taken, take-up-law}
+use Rattle.table_laws.specs.Lists.TakeUp.{count-taken, take-up-law}
+use Rattle.charge_laws.specs.Growth.Trees.{list-taken}
 use Rattle.table_laws.specs.Lists.Plan.{cap-sum}
 
 -- the declaration of a context, and the Catch with the last Block
@@ -90,7 +91,7 @@ module _ (z : List ℕ) where
       let a₁ = a ++ rowsOf (contextOf p) in
       let l₁ : length a₁ ≡ length a + 4 = length-append a (rowsOf (contextOf p)) in
       let l₂ : length (a₁ ++ rowsOf f′) ≡ length a₁ + (size f + wraps f) =
-      omega (arith, length-append a₁ (rowsOf f′), length-rows f′, size-taken f c) in
+      omega (arith, length-append a₁ (rowsOf f′), length-rows f′, list-taken f c) in
       ap (λ (n : ℕ). transformListF (count f) p (gapped z a n (rowsOf f ++ v))) (omega arith)
       ∙ ap (λ (b : Buf). handlersF p (takeUpF (count f) c b))
       (declare-context-law p a (wraps f + (6 + g)) (rowsOf f ++ v) (omega arith))

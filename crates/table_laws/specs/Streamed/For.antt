@@ -26,7 +26,8 @@ use Rattle.statements.specs.TakeUp.{takeUpF}
 use Rattle.statements.specs.Plan.{plan, noPlan, planF}
 use Rattle.statements.specs.declared.Parts.{Parts}
 use Rattle.statements.specs.declared.Plan.{Plan}
-use Rattle.table_laws.specs.Lists.TakeUp.{size-taken, count-taken, take-up-law}
+use Rattle.table_laws.specs.Lists.TakeUp.{count-taken, take-up-law}
+use Rattle.charge_laws.specs.Growth.Trees.{for-taken}
 use Rattle.table_laws.specs.Lists.Plan.{usings, awaits, parted, row-here}
 use Rattle.table_laws.specs.Lists.Try.{contextOf, handlersOf}
 use Rattle.rewrite_contexts.specs.Lists.{listScope}
@@ -127,19 +128,6 @@ count-below true ctx k = count-for k ctx
 count-below false ctx k = count-taken k ctx
 
 -- a For, if there is a using below it
-size-by : (b c : Bool) (ctx : ℕ) (k : Forest) → anyUsing (if b then forList k else if c then k else none) ≡ true
-    → (b ≡ true → anyUsing (forList k) ≡ true → size (takeUpFor ctx k) ≡ size k + wraps (forList k))
-    → size (loopBelow b ctx k) ≡ size k + wraps (if b then forList k else if c then k else none)
-unfolding anyUsing
-size-by true c ctx k u i = i refl u
-size-by false true ctx k u i = size-taken k ctx
-size-by false false ctx k u i = absurd (clash refl u)
-
-size-for : (f : Forest) (ctx : ℕ) → anyUsing (forList f) ≡ true → size (takeUpFor ctx f) ≡ size f + wraps (forList f)
-unfolding takeUpFor forList anyUsing size
-size-for none ctx u = absurd (clash refl u)
-size-for (more h k r) ctx u = omega (arith, size-by (eqb (h .tag) Tag.Label) (eqb (h .tag) Tag.For) ctx k u (λ e d. size-for k ctx d))
-
 -- the Labels pass, and the For's list is taken up
 abbrev loopRows : ℕ → ℕ → Buf → Buf
 loopRows n ctx b =
@@ -202,5 +190,5 @@ module _ (z : List ℕ) where
       let f = one h k in
       let m = wraps (forList f) in
       rw (labels-gapped f a (m + (12 + g)) v o (omega arith))
-      (frame-law z p h (loopBelow (eqb (h .tag) Tag.Label) c k) (loopRows (labels f) c) m a g (rowsOf f ++ v) v (omega (arith, size-for f c u)) s
+      (frame-law z p h (loopBelow (eqb (h .tag) Tag.Label) c k) (loopRows (labels f) c) m a g (rowsOf f ++ v) v (omega (arith, for-taken f c u)) s
       (λ a₁ l. loop-law f c a₁ (6 + g) v o u (omega arith)))

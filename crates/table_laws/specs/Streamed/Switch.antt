@@ -23,7 +23,8 @@ use Rattle.representation.specs.Gap.Rows.{length-snoc, next-gapped, pass-gapped
 use Rattle.representation.specs.Gap.Streams.{copy-all}
 use Rattle.statements.specs.TakeUp.{takeUpF}
 use Rattle.statements.specs.declared.Parts.{Parts}
-use Rattle.table_laws.specs.Lists.TakeUp.{size-taken, count-taken, length-line, take-up-law, first-row}
+use Rattle.table_laws.specs.Lists.TakeUp.{count-taken, length-line, take-up-law, first-row}
+use Rattle.charge_laws.specs.Growth.Trees.{list-taken, cases-taken}
 use Rattle.table_laws.specs.Lists.Try.{contextOf, handlersOf}
 use Rattle.rewrite_contexts.specs.Lists.{listScope}
 use Rattle.rewrite_for_switch.specs.Switch.{takeUpCaseF, takeUpCasesF, switchRowsF}
@@ -38,17 +39,12 @@ below b ctx k = if b then takeUp ctx k else k
 -- ---- how many records there are
 
 size-below : (b : Bool) (ctx : ℕ) (k : Forest) → size (below b ctx k) ≡ size k + (if b then wraps k else 0)
-size-below true ctx k = size-taken k ctx
+size-below true ctx k = list-taken k ctx .0
 size-below false ctx k = omega arith
 
 count-below : (b : Bool) (ctx : ℕ) (k : Forest) → count (below b ctx k) ≡ count k
 count-below true ctx k = count-taken k ctx
 count-below false ctx k = refl
-
-size-cases : (f : Forest) (ctx : ℕ) → size (takeUpCases ctx f) ≡ size f + caseWraps f
-unfolding takeUpCases caseWraps size
-size-cases none ctx = refl
-size-cases (more h k r) ctx = omega (arith, size-below (eqb (h .tag) Tag.Case) ctx k, size-cases r ctx)
 
 count-cases : (f : Forest) (ctx : ℕ) → count (takeUpCases ctx f) ≡ count f
 unfolding takeUpCases count
@@ -111,7 +107,7 @@ module _ (z : List ℕ) where
       let k′ = takeUpCases c k in
       let m = caseWraps k in
       rw (one-row h k, n-gapped z a (m + (12 + g)) x (rowsOf k ++ v))
-      (frame-law z p h k′ (λ b. takeUpCasesF (count k) c (copyRowF b)) m a g (x ∷ (rowsOf k ++ v)) v (omega (arith, size-cases k c)) s
+      (frame-law z p h k′ (λ b. takeUpCasesF (count k) c (copyRowF b)) m a g (x ∷ (rowsOf k ++ v)) v (omega (arith, cases-taken k c)) s
       (λ a₁ l. ap (takeUpCasesF (count k) c) (pass-gapped z a₁ (m + (6 + g)) x (rowsOf k ++ v) (omega arith))
       ∙ cases-law k c (a₁ ++ x ∷ []) (6 + g) v (omega (arith, length-snoc a₁ x))
       ∙ rw (one-row h k′, count-cases k c) (simp append-assoc)))
