@@ -17,7 +17,7 @@ use Rattle.meaning.specs.Charges.{finalFigures}
 use Rattle.meaning.specs.Lowering.{lastSpot}
 use Rattle.spec_laws.specs.Tags.{clash}
 use Rattle.hint_laws.specs.Hints.{sumOver, overDeclarators, takesUp, ofSource, asked, called, given}
-use Rattle.hint_laws.specs.Requested.Asked.{OldCalls, accepted-old, overs-none, calls-none, asked-by-kind, asked-of-source}
+use Rattle.hint_laws.specs.Requested.Asked.{OldCalls, accepted-old, overs-none, calls-in-none, asked-by-kind, asked-of-source}
 use Rattle.hint_laws.specs.Balanced.Balance.{letterIn, waits, doneIn, gives, balanceOf, balance}
 use Rattle.hint_laws.specs.Balanced.Visit.{visits-balance}
 use Rattle.hint_laws.specs.Balanced.Settled.{Settled, settled-gives}
@@ -54,7 +54,7 @@ module _ (w : List ℕ → List ℕ → ℕ → ℕ) (read : ℕ) where
   gives-none (more h k r) q =
       omega (
         arith,
-        either-none (takesUp (h .tag)) (doneIn w read k) _ (done-none k (q .1)) (calls-none w read h k (q .1)),
+        either-none (takesUp (h .tag)) (doneIn w read k) _ (done-none k (q .1)) (calls-in-none w read k (q .1)),
         gives-none k (q .1),
         gives-none r (q .2),
       )

@@ -30,7 +30,7 @@ use Rattle.path.specs.Path.{Tables}
 use Rattle.representation.specs.Spots.Spots.{Rest, held}
 use Rattle.walk.specs.Over.{isOverIn}
 use Rattle.simulation.specs.Visit.{over-told}
-use Rattle.hint_laws.specs.Hints.{sumOver, namesOf, ofInitializer, overDeclarators, shown, asInSource, usingsIn, asksFor, asked, called, callsIn, calls, given}
+use Rattle.hint_laws.specs.Hints.{sumOver, namesOf, ofInitializer, overDeclarators, shown, asInSource, usingsIn, asksFor, asked, called, callsIn, given}
 use Rattle.readback_laws.specs.ReadBack.{numbersIn, fieldsIn, fieldsOf}
 use Rattle.readback_laws.specs.Decoded.{recordsOf, rowOf, treesFrom, treeIn}
 use Rattle.claims.specs.Depth.{forestWith, readDeep, depthFirst, readBefore}
@@ -346,11 +346,11 @@ unfolding asked sumOver asksFor usingsIn overDeclarators ofInitializer namesOf s
 twins-asked = refl
 
 twins-swapped : givenBy swapping twins ofEight ≡ 0
-unfolding swapping otherLetters given sumOver calls callsIn overDeclarators ofInitializer namesOf called shown asInSource treeIn treesFrom recordsOf rowOf fieldsOf fieldsIn numbersIn computing
+unfolding swapping otherLetters given sumOver callsIn overDeclarators ofInitializer namesOf called shown asInSource treeIn treesFrom recordsOf rowOf fieldsOf fieldsIn numbersIn computing
 twins-swapped = refl
 
 twins-lowered : givenBy lower twins ofEight ≡ 1
-unfolding given sumOver calls callsIn overDeclarators ofInitializer namesOf called shown asInSource treeIn treesFrom recordsOf rowOf fieldsOf fieldsIn numbersIn computing
+unfolding given sumOver callsIn overDeclarators ofInitializer namesOf called shown asInSource treeIn treesFrom recordsOf rowOf fieldsOf fieldsIn numbersIn computing
 twins-lowered = refl
 
 pub no-swapped-letters : swapping ≡ lower → ⊥
@@ -393,11 +393,11 @@ unfolding asked sumOver asksFor usingsIn overDeclarators ofInitializer namesOf s
 default-asked = refl
 
 default-wrapped : givenBy wrappingDefault exporting anyCalled ≡ 2
-unfolding wrappingDefault wrapDefault rowNamed given sumOver calls callsIn overDeclarators ofInitializer namesOf called shown asInSource treeIn treesFrom recordsOf rowOf fieldsOf fieldsIn numbersIn computing
+unfolding wrappingDefault wrapDefault rowNamed given sumOver callsIn overDeclarators ofInitializer namesOf called shown asInSource treeIn treesFrom recordsOf rowOf fieldsOf fieldsIn numbersIn computing
 default-wrapped = refl
 
 default-lowered : givenBy lower exporting anyCalled ≡ 1
-unfolding given sumOver calls callsIn overDeclarators ofInitializer namesOf called shown asInSource treeIn treesFrom recordsOf rowOf fieldsOf fieldsIn numbersIn computing
+unfolding given sumOver callsIn overDeclarators ofInitializer namesOf called shown asInSource treeIn treesFrom recordsOf rowOf fieldsOf fieldsIn numbersIn computing
 default-lowered = refl
 
 pub no-wrapped-default : wrappingDefault ≡ lower → ⊥
@@ -454,11 +454,11 @@ unfolding asked sumOver asksFor usingsIn overDeclarators ofInitializer namesOf s
 cases-asked = refl
 
 cases-running : givenBy running cases byLetter ≡ 2
-unfolding running switchBy takeUpCasesBefore takeUpBefore given sumOver calls callsIn overDeclarators ofInitializer namesOf called shown asInSource treeIn treesFrom recordsOf rowOf fieldsOf fieldsIn numbersIn computing
+unfolding running switchBy takeUpCasesBefore takeUpBefore given sumOver callsIn overDeclarators ofInitializer namesOf called shown asInSource treeIn treesFrom recordsOf rowOf fieldsOf fieldsIn numbersIn computing
 cases-running = refl
 
 cases-lowered : givenBy lower cases byLetter ≡ 1
-unfolding given sumOver calls callsIn overDeclarators ofInitializer namesOf called shown asInSource treeIn treesFrom recordsOf rowOf fieldsOf fieldsIn numbersIn computing
+unfolding given sumOver callsIn overDeclarators ofInitializer namesOf called shown asInSource treeIn treesFrom recordsOf rowOf fieldsOf fieldsIn numbersIn computing
 cases-lowered = refl
 
 pub no-running-letter : running ≡ lower → ⊥

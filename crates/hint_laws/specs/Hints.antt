@@ -113,10 +113,6 @@ module _ (w : List ℕ → List ℕ → ℕ → ℕ) where
   callsIn read none = 0
   callsIn read (more h k r) = (if eqb (h .tag) Tag.Declaration then overDeclarators (called read) k else 0) + callsIn read r
 
-  -- by a record; the Declaration of a ForOf has no initializer
-  unfoldable pub calls : ℕ → Head → Forest → ℕ
-  calls read h k = if eqb (h .tag) Tag.ForOf then 0 else callsIn read k
-
 -- WHAT A TREE CALLS: the names of each Declarator whose initializer lowering has wrapped, with what is wrapped, and the letter of the Call.
 unfoldable pub given : (List ℕ → List ℕ → ℕ → ℕ) → ℕ → Forest → ℕ
-given w read tree = sumOver (calls (ofSource read w) read) tree
+given w read tree = sumOver (λ h k. callsIn (ofSource read w) read k) tree

@@ -12,7 +12,7 @@ use Rattle.meaning.specs.Numbers.Tag
 use Rattle.meaning.specs.Tree.{if_then_else_, Head, hd, Forest, none, more, count, size, Row, row, flatten}
 use Rattle.meaning.specs.File.{Scope, Symbol, File, numbersOf, hasChildren, ownNumbers, recordNumbers, written}
 use Rattle.spec_laws.specs.Tags.{and-left}
-use Rattle.hint_laws.specs.Hints.{sumOver, namesOf, ofInitializer, overDeclarators, isExpression, shown, ofSource, called, callsIn, calls, given}
+use Rattle.hint_laws.specs.Hints.{sumOver, namesOf, ofInitializer, overDeclarators, isExpression, shown, ofSource, called, callsIn, given}
 use Rattle.readback_laws.specs.ReadBack.{
   Read,
   readAs,
@@ -238,14 +238,10 @@ module _ (w : List ℕ → List ℕ → ℕ → ℕ) (read : ℕ) where
   calls-kept (more h k r) =
       ap₂ _+_ (if-same (eqb (h .tag) Tag.Declaration) _ _ (λ e. declarators-kept k)) (calls-kept r)
 
-  record-kept : (h : Head) (k : Forest) → calls w read (plainHead h) (plain k) ≡ calls w read h k
-  unfolding calls plainHead
-  record-kept h k = rw (calls-kept k)
-
-  plain-gives : (f : Forest) → sumOver (calls w read) (plain f) ≡ sumOver (calls w read) f
+  plain-gives : (f : Forest) → sumOver (λ h k. callsIn w read k) (plain f) ≡ sumOver (λ h k. callsIn w read k) f
   unfolding sumOver plain
   plain-gives none = refl
-  plain-gives (more h k r) = ap₂ _+_ (record-kept h k) (ap₂ _+_ (plain-gives k) (plain-gives r))
+  plain-gives (more h k r) = ap₂ _+_ (calls-kept k) (ap₂ _+_ (plain-gives k) (plain-gives r))
 
 -- The tree read off the written bytes gives the hints of the tree: what is not written changes none.
 pub hints-back : (w : List ℕ → List ℕ → ℕ → ℕ) (read : ℕ) (g : File) → Tagged (g .tree) → Childless (g .tree)

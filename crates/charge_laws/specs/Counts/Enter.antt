@@ -51,10 +51,11 @@ Body none = Unit {0}
 Body (more h k none) = Unit {0}
 Body (more h₂ k₂ (more h₃ k₃ r)) = eqb (h₃ .tag) Tag.Declaration ≡ false
 
--- the using of a ForOf begins with a Name, and is not recorded
+-- the using of a ForOf begins with a Name, is not recorded, and has no initializer
 abbrev pub Left : Forest → Type 0
 Left none = Unit {0}
 Left (more h k r) = (isUsing h && bindsIdentifier k) ≡ true → Named k × Begins k × (oneOf (Kind.Using ∷ Kind.AwaitUsing ∷ []) (h .a) ≡ true) × Body r
+    × (initializers k ≡ 0)
 
 -- The exports of a Program with a using have one child each, and its usings are not recorded; a ForOf's left side is as said; a Label
 -- has one child; a Catch has no Catch among its children; a Case has usings only in a Switch that is still to be entered.

@@ -1,29 +1,30 @@
 -- An accepted file is fit, so the counts after any number of visits are those of its charges.
 -- Assumes nothing.
 use mathlib.Core.Path.{_≡_, refl, sym, ap, subst, _∙_}
-use mathlib.Core.Bool.{Bool, true, false, not, _&&_, or-true}
+use mathlib.Core.Bool.{Bool, true, false, not, _||_, _&&_, or-true}
 use mathlib.Core.List.{List, [], _∷_}
 use Prim.Native.Nat.{ℕ, suc}
 use native.Mathlib.Omega.{arith}
 use lib.ListN.{take}
-use lib.Dec.{eqb}
-use borrow.Author.Tests.{eqb-true}
+use lib.Dec.{eqb, ltb}
+use borrow.Author.Tests.{eqb-true, le-ltb}
 use Rattle.meaning.specs.Numbers.Tag
 use Rattle.meaning.specs.Numbers.Kind
 use Rattle.meaning.specs.Tree.{oneOf, Head, Forest, none, more, count}
 use Rattle.meaning.specs.File.{File, numbersOf, hasChildren, ownNumbers}
-use Rattle.meaning.specs.Grammar.{tagsOf, allowed, is, declaratorRight, right, childrenOf, placeOf, headOf}
+use Rattle.meaning.specs.Grammar.{tagsOf, index, allowed, is, declaratorRight, right, childrenOf, placeOf, headOf}
 use Rattle.meaning.specs.Reading.{accepted, readFile}
 use Rattle.meaning.specs.declared.Place.{Place}
-use Rattle.meaning.specs.declared.Place.the-variants.{Program, Name, ForOfDeclarator}
+use Rattle.meaning.specs.declared.Place.the-variants.{Program, Name, ForOfLeft, ForOfDeclarator}
 use Rattle.meaning.specs.declared.Field.{Field}
 use Rattle.meaning.specs.Statements.{isUsing}
 use Rattle.meaning.specs.ForOf.{bindsIdentifier}
 use Rattle.meaning.specs.Walk.{start, visits}
-use Rattle.meaning.specs.Charges.{Line, _⊕_, total, figuresIn, figuresAt}
+use Rattle.meaning.specs.Charges.{Line, initializers, _⊕_, total, figuresIn, figuresAt}
 use Rattle.meaning.specs.Due.{dues}
 use Rattle.charge_laws.specs.VisitCharges.{visitCharges}
 use Rattle.spec_laws.specs.Tags.{Seen, other, here, there, seen, clash, and-left, and-right}
+use Rattle.charge_laws.specs.Growth.Trees.{using-tag}
 use Rattle.charge_laws.specs.Growth.ForOf.{Named}
 use Rattle.charge_laws.specs.Growth.Items.{Exports}
 use Rattle.charge_laws.specs.Totals.Accepted.{one-child}
@@ -83,6 +84,26 @@ module _ {syms : ℕ} {p : Place} {x : Field} {h : Head} {k : Forest} (q : ReadA
       let a : h .a ≡ x .a = ap (λ (v : Head). v .a) (q .head) ∙ rw t in
       (t, sym a ∙ eqb-true (h .a) 0 (and-right (eqb (h .tag) Tag.Declarator) (eqb (h .a) 0) e))
 
+-- ---- the children of a ForOf
+
+for-of-left : (p : Place) (x : Field) → x .tag ≡ Tag.ForOf → placeOf p x 0 ≡ ForOfLeft
+unfolding placeOf
+for-of-left p x e = rw e
+
+-- a Declarator there has no more children than Names
+all-names : (syms : ℕ) (x : Field) → x .tag ≡ Tag.Declarator → right ForOfDeclarator syms x ≡ true → x .c ≡ x .b
+unfolding right declaratorRight index
+all-names syms x t e = eqb-true (x .c) (x .b) (or-false (eqb (x .c) (x .b)) (and-right (not (eqb (x .a) 0) || eqb (x .b) 1) _ (rw t at e)))
+
+no-initializer : {syms : ℕ} {p : Place} {x : Field} {h : Head} {k : Forest} → ReadAs syms p x h k → p ≡ ForOfDeclarator
+    → (eqb (h .tag) Tag.Declarator && ltb (h .b) (count k)) ≡ false
+unfolding allowed tagsOf headOf childrenOf ownNumbers hasChildren numbersOf
+no-initializer {syms} {p} {x} q e =
+    let t : x .tag ≡ Tag.Declarator =
+    eqb-true (x .tag) Tag.Declarator (or-false (eqb (x .tag) Tag.Declarator) (subst (λ (p : Place). allowed p (x .tag) ≡ true) e (q .taken))) in
+    let same = all-names syms x t (subst (λ (p : Place). right p syms x ≡ true) e (q .numbers)) in
+    rw (q .head, q .children, t, same, le-ltb (x .b) (x .b) (omega arith))
+
 -- ---- lists
 
 module _ (syms : ℕ) where
@@ -119,12 +140,23 @@ module _ (syms : ℕ) where
   body (more h k none) place i bars q = tt
   body (more h₂ k₂ (more h₃ k₃ r)) place i bars q = barred 5 bars (q .3 .1)
 
-  left : (f : Forest) (place : ℕ → Place) → Bars Tag.Declaration (place 2) → Placed syms place 0 f → Left f
-  left none place bars q = tt
-  left (more h k r) place bars q =
+  -- Declarators of a ForOf
+  bare : (f : Forest) (place : ℕ → Place) (i : ℕ) → ((j : ℕ) → place j ≡ ForOfDeclarator) → Placed syms place i f → initializers f ≡ 0
+  unfolding initializers
+  bare none place i e q = refl
+  bare (more h k r) place i e q =
+      let none-here = no-initializer (q .1) (e i) in
+      rw none-here (omega (arith, bare r place (suc i) e (q .3)))
+
+  left : (f : Forest) (place : ℕ → Place) → place 0 ≡ ForOfLeft → Bars Tag.Declaration (place 2) → Placed syms place 0 f → Left f
+  unfolding placeOf index
+  left none place first bars q = tt
+  left (more h k r) place first bars q =
       λ e.
+      let u = and-left (isUsing h) (bindsIdentifier k) e in
+      let five : q .0 .tag ≡ Tag.Declaration = sym (same-tag (q .1)) ∙ using-tag h u in
       let n = named k (placeOf (place 0) (q .0)) 0 (q .2) (and-right (isUsing h) (bindsIdentifier k) e) in
-      (n .0, n .1, using-kind (q .1) (and-left (isUsing h) (bindsIdentifier k) e), body r place 1 bars (q .3))
+      (n .0, n .1, using-kind (q .1) u, body r place 1 bars (q .3), bare k (placeOf (place 0) (q .0)) 0 (λ j. rw (first, five)) (q .2))
 
   fits : (b : Bool) (f : Forest) (place : ℕ → Place) (i : ℕ) → (b ≡ false → (j : ℕ) → Bars Tag.Case (place j)) → Placed syms place i f → FitsIn b f
   fits b none place i bars q = tt
@@ -132,7 +164,10 @@ module _ (syms : ℕ) where
       let inside = placeOf (place i) (q .0) in (
         record {
           items = λ e u. (exports k inside 0 (q .2), kinds k inside 0 (q .2));
-          side = λ e. left k inside (body-bars-5 (place i) (q .0) (eqb-true (q .0 .tag) Tag.ForOf (rw (same-tag (q .1)) at e))) (q .2);
+          side =
+              λ e.
+              let eight = eqb-true (q .0 .tag) Tag.ForOf (rw (same-tag (q .1)) at e) in
+              left k inside (for-of-left (place i) (q .0) eight) (body-bars-5 (place i) (q .0) eight) (q .2);
           label = λ e. labelled k inside 0 (q .2) (has-one (q .1) (rw e));
           handler = λ e. no-catch (q .1) (q .2) (rw (eqb-true (h .tag) Tag.Catch e));
           taken = λ s e. absurd (clash (barred Tag.Case (bars s i) (q .1)) e);

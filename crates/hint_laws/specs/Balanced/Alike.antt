@@ -28,7 +28,6 @@ use Rattle.hint_laws.specs.Hints.{
   asksFor,
   called,
   callsIn,
-  calls,
 }
 use Rattle.hint_laws.specs.Outline.{Neutral, Same, same-&, same-below}
 use Rattle.hint_laws.specs.Balanced.Balance.{letterIn, waits, doneIn, gives, balanceOf}
@@ -249,7 +248,7 @@ module _ (w : List ℕ → List ℕ → ℕ → ℕ) (read : ℕ) where
   -- ---- the record above, and all that stands around it
 
   worth-same : (t : ℕ) (f g : Forest) → Same f g → worth w read t f ≡ worth w read t g
-  unfolding worth waits gives asksFor calls
+  unfolding worth waits gives asksFor
   worth-same t f g s =
       rw (usings-same (letterIn t) f g s, for-of-same f g s, done-same f g s, calls-same f g s)
 

@@ -7,7 +7,7 @@ use lib.Dec.{eqb}
 use Rattle.meaning.specs.Numbers.Tag
 use Rattle.meaning.specs.Tree.{if_then_else_, Head, Forest, none, more}
 use Rattle.meaning.specs.Statements.{isUsing, isAwaitUsing, letterIf}
-use Rattle.hint_laws.specs.Hints.{sumOver, overDeclarators, letterFor, takesUp, ofSource, asksFor, called, calls}
+use Rattle.hint_laws.specs.Hints.{sumOver, overDeclarators, letterFor, takesUp, ofSource, asksFor, called, callsIn}
 
 -- The letter with which a using in a list will be called, by the tag of the list's record: Program's are recorded with their kinds.
 unfoldable pub letterIn : ℕ → Head → ℕ
@@ -26,7 +26,7 @@ module _ (w : List ℕ → List ℕ → ℕ → ℕ) where
 
   -- what a record gives; a using that will be taken up gives nothing yet
   unfoldable pub gives : ℕ → Head → Forest → ℕ
-  gives read h k = if takesUp (h .tag) then doneIn read k else calls w read h k
+  gives read h k = if takesUp (h .tag) then doneIn read k else callsIn w read k
 
   unfoldable pub balanceOf : ℕ → Forest → ℕ
   balanceOf read tree = sumOver (λ h k. waits h k + gives read h k) tree

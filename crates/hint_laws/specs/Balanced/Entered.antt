@@ -90,11 +90,11 @@ module _ (w : List ℕ → List ℕ → ℕ → ℕ) (read : ℕ) where
     act-keeps {h = h} st new s p (as-insert {h₁ = h₁} {h₂ = h₂} {h₃ = h₃} {k₁ = k₁} {k₂ = k₂} {k₃ = k₃} {r = r} e b two) =
         let q = p .side (eq-eqb (h .tag) Tag.ForOf e) (b .both) in
         at-change Tag.ForOf (λ g. enterForOfStatement false g (more h₁ k₁ (more h₂ k₂ (more h₃ k₃ r))) st) h _ e refl refl
-        (insert-keeps w read (h .a) (h .b) (h .c) h₁ k₁ h₂ k₂ h₃ k₃ r st (b .uses) (b .identifier) (q .0) (q .1) (q .2) unseen new two)
+        (insert-keeps w read (h .a) (h .b) (h .c) h₁ k₁ h₂ k₂ h₃ k₃ r st (b .uses) (b .identifier) (q .0) (q .1) (q .2) (q .3) (q .4) unseen new two)
     act-keeps {h = h} st new s p (as-wrap {h₁ = h₁} {h₂ = h₂} {h₃ = h₃} {k₁ = k₁} {k₂ = k₂} {k₃ = k₃} {r = r} e b) =
         let q = p .side (eq-eqb (h .tag) Tag.ForOf e) (b .both) in
         at-change Tag.ForOf (λ g. enterForOfStatement true g (more h₁ k₁ (more h₂ k₂ (more h₃ k₃ r))) st) h _ e refl refl
-        (wrap-keeps w read (h .a) (h .b) (h .c) h₁ k₁ h₂ k₂ h₃ k₃ r st (b .uses) (b .identifier) (q .0) (q .1) (q .2) unseen new (q .3))
+        (wrap-keeps w read (h .a) (h .b) (h .c) h₁ k₁ h₂ k₂ h₃ k₃ r st (b .uses) (b .identifier) (q .0) (q .1) (q .2) (q .3) (q .4) unseen new)
 
   pub enter-keeps : Unseen w read → (cur hoist : ℕ) (h : Head) (k : Forest) (st : Store)
       → read ≤ length (st .symbols) → Source read h k → Fit h k → Opens h k (enter cur hoist h k st)

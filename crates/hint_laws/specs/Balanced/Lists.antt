@@ -23,7 +23,6 @@ use Rattle.hint_laws.specs.Hints.{
   asksFor,
   called,
   callsIn,
-  calls,
 }
 use Rattle.hint_laws.specs.Balanced.Balance.{waits, doneIn, gives, balanceOf}
 use Rattle.hint_laws.specs.Balanced.Sums.{ownLetter, worth, inList, balance-more, balance-none}
@@ -36,7 +35,7 @@ names-wrapped (more h k r) letter ctx (suc m) =
     ap (λ (names : List ℕ). (if eqb (h .tag) Tag.Name then h .a else 0) ∷ names) (names-wrapped r letter ctx m)
 
 -- values by tests that fail
-by-tests : (s o : Bool) (a b c d : ℕ) → s ≡ false → o ≡ false → (if s then a else if o then b else 0) + (if s then c else if o then 0 else d) ≡ d
+by-tests : (s o : Bool) (a b c d : ℕ) → s ≡ false → o ≡ false → (if s then a else if o then b else 0) + (if s then c else d) ≡ d
 by-tests s o a b c d p q = rw (p, q) (omega arith)
 
 module _ (w : List ℕ → List ℕ → ℕ → ℕ) (read : ℕ) where
@@ -47,7 +46,7 @@ module _ (w : List ℕ → List ℕ → ℕ → ℕ) (read : ℕ) where
   -- ---- a record that is no list and no ForOf
 
   pub worth-plain : (t : ℕ) (k : Forest) → takesUp t ≡ false → eqb t Tag.ForOf ≡ false → worth w read t k ≡ callsIn w read k
-  unfolding worth waits gives asksFor calls
+  unfolding worth waits gives asksFor
   worth-plain t k p q = by-tests (takesUp t) (eqb t Tag.ForOf) _ _ _ (callsIn w read k) p q
 
   -- ---- initializers

@@ -2,15 +2,15 @@
 -- Assumes nothing.
 use mathlib.Core.Path.{_≡_, refl}
 use mathlib.Core.Bool.{Bool, true, false, not, _||_, _&&_}
-use mathlib.Core.List.{List, [], _∷_}
+use mathlib.Core.List.{List}
 use Prim.Native.Nat.{ℕ, _+_}
 use native.Mathlib.Omega.{arith}
 use lib.Dec.{eqb}
 use Rattle.meaning.specs.Numbers.Tag
 use Rattle.meaning.specs.Tree.{if_then_else_, Head, Forest, none, more}
 use Rattle.meaning.specs.Statements.{isUsing, anyUsing}
-use Rattle.spec_laws.specs.Tags.{Seen, other, here, there, seen, clash}
-use Rattle.hint_laws.specs.Hints.{sumOver, overDeclarators, takesUp, called, callsIn, calls}
+use Rattle.spec_laws.specs.Tags.{clash}
+use Rattle.hint_laws.specs.Hints.{sumOver, overDeclarators, takesUp, called, callsIn}
 use Rattle.hint_laws.specs.Balanced.Balance.{doneIn, gives}
 
 -- no using stands directly in a list that takes up usings
@@ -25,14 +25,9 @@ one-done true v b n m m′ e i = absurd (clash e refl)
 one-done false v true n m m′ e i = omega (arith, i e)
 one-done false v false n m m′ e i = omega (arith, i e)
 
-by-test : (s o : Bool) (m n : ℕ) → (s ≡ true → (m ≡ n) × (o ≡ false)) → (if s then m else if o then 0 else n) ≡ (if o then 0 else n)
-by-test true o m n p = let q = p refl in let e = q .1 in rw e (q .0)
-by-test false o m n p = refl
-
--- a record that takes up usings is no ForOf
-no-for-of : {t : ℕ} → Seen (Tag.ForOf ∷ []) t → takesUp t ≡ true → eqb t Tag.ForOf ≡ false
-no-for-of here e = absurd (clash refl e)
-no-for-of (there n other) e = n
+by-test : (s : Bool) (m n : ℕ) → (s ≡ true → m ≡ n) → (if s then m else n) ≡ n
+by-test true m n p = p refl
+by-test false m n p = refl
 
 module _ (w : List ℕ → List ℕ → ℕ → ℕ) (read : ℕ) where
   -- what is done in a list without usings are its calls
@@ -42,14 +37,13 @@ module _ (w : List ℕ → List ℕ → ℕ → ℕ) (read : ℕ) where
   all-done (more h k r) e =
       one-done (isUsing h) (anyUsing r) (eqb (h .tag) Tag.Declaration) (overDeclarators (called w read) k) (callsIn w read r) (doneIn w read r) e (all-done r)
 
-  gives-calls : (h : Head) (k : Forest) → (takesUp (h .tag) ≡ true → anyUsing k ≡ false) → gives w read h k ≡ calls w read h k
-  unfolding gives calls
-  gives-calls h k p =
-      by-test (takesUp (h .tag)) (eqb (h .tag) Tag.ForOf) (doneIn w read k) (callsIn w read k)
-      (λ e. (all-done k (p e), no-for-of (seen (Tag.ForOf ∷ []) (h .tag)) e))
+  gives-calls : (h : Head) (k : Forest) → (takesUp (h .tag) ≡ true → anyUsing k ≡ false) → gives w read h k ≡ callsIn w read k
+  unfolding gives
+  gives-calls h k p = by-test (takesUp (h .tag)) (doneIn w read k) (callsIn w read k) (λ e. all-done k (p e))
 
 -- WHAT THE RECORDS OF SUCH A TREE GIVE IS WHAT IT CALLS.
-pub settled-gives : (w : List ℕ → List ℕ → ℕ → ℕ) (read : ℕ) (f : Forest) → Settled f → sumOver (λ h k. gives w read h k) f ≡ sumOver (calls w read) f
+pub settled-gives : (w : List ℕ → List ℕ → ℕ → ℕ) (read : ℕ) (f : Forest) → Settled f
+    → sumOver (λ h k. gives w read h k) f ≡ sumOver (λ h k. callsIn w read k) f
 unfolding Settled sumOver
 settled-gives w read none q = refl
 settled-gives w read (more h k r) q =

@@ -9,7 +9,7 @@ use lib.Dec.{eqb}
 use Rattle.meaning.specs.Numbers.Tag
 use Rattle.meaning.specs.Tree.{Head, hd, Forest, none, more, one, _&_}
 use Rattle.meaning.specs.Statements.{isUsing, isAwaitUsing, letterIf}
-use Rattle.hint_laws.specs.Hints.{sumOver, usingsIn, asksFor, calls}
+use Rattle.hint_laws.specs.Hints.{sumOver, usingsIn, asksFor}
 use Rattle.hint_laws.specs.Balanced.Balance.{letterIn, waits, doneIn, gives, balanceOf}
 
 -- the letter of a using outside Program
@@ -27,7 +27,7 @@ module _ (w : List ℕ → List ℕ → ℕ → ℕ) (read : ℕ) where
 
   pub balance-more : (h : Head) (k r : Forest)
       → balanceOf w read (more h k r) ≡ worth (h .tag) k + (balanceOf w read k + balanceOf w read r)
-  unfolding balanceOf sumOver worth waits gives asksFor calls
+  unfolding balanceOf sumOver worth waits gives asksFor
   balance-more h k r = refl
 
   pub balance-none : balanceOf w read none ≡ 0

@@ -13,7 +13,7 @@ use Rattle.meaning.specs.Shapes.{declaration, load}
 use Rattle.meaning.specs.HelperLoader.{loadRuntime, loadExternal, helperLoad}
 use Rattle.meaning.specs.Statements.{isUsing, takeUp, createCatchClause, createFinallyBlock, createTryStmt}
 use Rattle.charge_laws.specs.Counts.TakenUp.{none-left}
-use Rattle.hint_laws.specs.Hints.{sumOver, ofInitializer, overDeclarators, usingsIn, asksFor, called, callsIn, calls}
+use Rattle.hint_laws.specs.Hints.{sumOver, ofInitializer, overDeclarators, usingsIn, asksFor, called, callsIn}
 use Rattle.hint_laws.specs.Outline.{no-usings}
 use Rattle.hint_laws.specs.Balanced.Balance.{letterIn, waits, doneIn, gives, balanceOf}
 use Rattle.hint_laws.specs.Balanced.Sums.{ownLetter, inList}
@@ -26,7 +26,7 @@ module _ (w : List ℕ → List ℕ → ℕ → ℕ) (read : ℕ) where
 
   -- the context's declaration before a list
   loaded : (ctx form y : ℕ) (list : Forest) → listed (declaration Kind.Var ctx (load form y) & list) ≡ listed list
-  unfolding balanceOf sumOver waits gives asksFor calls callsIn usingsIn doneIn overDeclarators ofInitializer called isUsing _&_
+  unfolding balanceOf sumOver waits gives asksFor callsIn usingsIn doneIn overDeclarators ofInitializer called isUsing _&_
   loaded ctx form y list = omega arith
 
   loaded-if : (b : Bool) (ctx cur : ℕ) (st : Store) (list : Forest)
@@ -41,7 +41,7 @@ module _ (w : List ℕ → List ℕ → ℕ → ℕ) (read : ℕ) where
 
   made-try : (scope : ℕ) (list : Forest) (ctx parent : ℕ) (needsAwait : Bool) (st : Store)
       → balanceOf w read (single ((createTryStmt scope list ctx parent needsAwait st) .0)) ≡ listed list
-  unfolding createTryStmt createCatchClause createFinallyBlock balanceOf sumOver waits gives asksFor calls callsIn usingsIn doneIn isUsing letterIn ownLetter _&_
+  unfolding createTryStmt createCatchClause createFinallyBlock balanceOf sumOver waits gives asksFor callsIn usingsIn doneIn isUsing letterIn ownLetter _&_
   made-try scope list ctx parent needsAwait st = omega arith
 
   pub try-listed : (scope : ℕ) (list : Forest) (ctx cur ctx′ parent : ℕ) (needsAwait : Bool) (st st′ : Store)

@@ -15,7 +15,7 @@ use Rattle.meaning.specs.Reading.{accepted, readFile}
 use Rattle.meaning.specs.Hint.{syncDispose, asyncDispose, hintOf, letterOf}
 use Rattle.meaning.specs.Statements.{isUsing, isAwaitUsing, letterIf}
 use Rattle.spec_laws.specs.Tags.{Seen, other, here, there, seen, and-left}
-use Rattle.hint_laws.specs.Hints.{sumOver, namesOf, ofInitializer, overDeclarators, isExpression, shown, asInSource, ofSource, wanted, letterFor, usingsIn, forOfUsing, asksFor, asked, called, callsIn, calls}
+use Rattle.hint_laws.specs.Hints.{sumOver, namesOf, ofInitializer, overDeclarators, isExpression, shown, asInSource, ofSource, wanted, letterFor, usingsIn, forOfUsing, asksFor, asked, called, callsIn}
 use Rattle.hint_laws.specs.Requested.Everywhere.{Everywhere, everywhere, sums-same}
 use Rattle.hint_laws.specs.Requested.Known.{Known, accepted-known}
 use Rattle.spec_laws.specs.Bools.{if-same}
@@ -25,10 +25,6 @@ use Rattle.spec_laws.specs.Bools.{if-same}
 if-none : (b : Bool) (x : ℕ) → x ≡ 0 → (if b then x else 0) ≡ 0
 if-none true x e = e
 if-none false x e = refl
-
-unless-none : (b : Bool) (x : ℕ) → x ≡ 0 → (if b then 0 else x) ≡ 0
-unless-none true x e = refl
-unless-none false x e = e
 
 -- ---- what is asked for
 
@@ -195,8 +191,3 @@ module _ (w : List ℕ → List ℕ → ℕ → ℕ) (read : ℕ) where
   calls-in-none none o = refl
   calls-in-none (more h k r) o =
       omega (arith, if-none (eqb (h .tag) Tag.Declaration) (overDeclarators (called w read) k) (overs-none k (o .1)), calls-in-none r (o .2))
-
-  -- nor any by a record
-  pub calls-none : (h : Head) (k : Forest) → OldCalls read k → calls w read h k ≡ 0
-  unfolding calls
-  calls-none h k o = unless-none (eqb (h .tag) Tag.ForOf) (callsIn w read k) (calls-in-none k o)
