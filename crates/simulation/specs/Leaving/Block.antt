@@ -29,7 +29,7 @@ use Rattle.representation.specs.Spots.Scopes.{under}
 use Rattle.representation.specs.Spots.Lengths.{walk-eq}
 use Rattle.statements.specs.Plan.{plan, noPlan, planF}
 use Rattle.statements.specs.declared.Plan.{Plan}
-use Rattle.table_laws.specs.Lists.TakeUp.{size-taken}
+use Rattle.charge_laws.specs.Growth.Trees.{list-taken}
 use Rattle.table_laws.specs.Lists.Plan.{usings, awaits, any-usings, cap-sum}
 use Rattle.scoping_laws.specs.Created.Held.{freeScopes, freeSymbols, Room}
 use Rattle.scoping_laws.specs.Created.Parts.{staticParts, static-held, static-node, static-room}
@@ -146,7 +146,7 @@ module _ (before after : Forest) (path : List Crumb) (h : Head) (k : Forest) (st
           rows,
           static-node h k st (awaits k) refl,
         )
-        (written-law _ (exitStaticBlock h k st .1) (omega (arith, larger, size-taken k ctx)))
+        (written-law _ (exitStaticBlock h k st .1) (omega (arith, larger, list-taken k ctx)))
 
 -- ---- by whether it has a using
 

@@ -16,7 +16,7 @@ use Rattle.charge_laws.specs.Growth.Rows.{oneIf}
 use Rattle.tables.specs.Table.{capped, columnF, closedRowF}
 use Rattle.representation.specs.Store.Agreed.{Agreed}
 use Rattle.representation.specs.Spots.Spots.{visitedAt, restAt, Rest, held}
-use Rattle.table_laws.specs.Lists.TakeUp.{size-taken}
+use Rattle.charge_laws.specs.Growth.Trees.{list-taken}
 use Rattle.table_laws.specs.Lists.Plan.{awaits, cap-sum}
 use Rattle.creation.specs.Kinds.{forBlockF, forBodyF}
 use Rattle.scoping_laws.specs.Created.Held.{Room}
@@ -53,7 +53,7 @@ module _ (done : Forest) (h : Head) (k r : Forest) (path : List Crumb) (st : Sto
       (rw plan (block-held cur hoist h k st (z .scopes) (z .symbols) (awaits k) a room))
       (rw plan (cap-sum (wraps k) 11 (omega arith)))
       (block-node cur hoist h k st (awaits k) refl)
-      (omega (arith, try-size (h .a) (takeUp c k) p, size-taken k c))
+      (omega (arith, try-size (h .a) (takeUp c k) p, list-taken k c))
       (λ i. block-rows-law (z .records) h k p _ 0 (behind r path) i (block-room cur hoist h k st (awaits k) room))
       fits
 
@@ -91,7 +91,7 @@ module _ (done : Forest) (h : Head) (k r : Forest) (path : List Crumb) (st : Sto
       room))
       (rw plan (cap-sum (wraps k) 12 (omega arith)))
       (body-node cur hoist k st (awaits k) refl)
-      (omega (arith, try-size (listScope p) (takeUp c k) p, size-taken k c))
+      (omega (arith, try-size (listScope p) (takeUp c k) p, list-taken k c))
       (λ i.
       wrapped-rows-law (z .records) 14 0 h k (listScope p) p _ 0 (behind r path) i (body-room cur hoist k st (awaits k) room))
       fits
