@@ -11,7 +11,7 @@ use lib.Dec.{eqb}
 use Rattle.meaning.specs.Numbers.Tag
 use Rattle.meaning.specs.Numbers.KnownName
 use Rattle.meaning.specs.Numbers.Letter
-use Rattle.meaning.specs.Tree.{if_then_else_, Head, hd, Forest, none, more, one, Node, single}
+use Rattle.meaning.specs.Tree.{if_then_else_, Head, hd, Forest, none, more, one, Node, single, _&_}
 use Rattle.meaning.specs.File.{File, Symbol, numbersOf, written}
 use Rattle.meaning.specs.Scoping.{Change}
 use Rattle.meaning.specs.Statements.{wrapInitializer}
@@ -466,6 +466,30 @@ no-running-letter e = omega (arith, cases-lowered, cases-running, ap (λ (l : Lo
 
 pub running-not-hinted : Hinted running cases → ⊥
 running-not-hinted e = omega (arith, cases-asked, cases-running, e byLetter)
+
+-- ---- the usings of Cases left as they are (excluded by `hints`, since it speaks of switches too)
+
+-- each Call is replaced by what it calls
+unfoldable pub uncalled : Forest → Forest
+uncalled none = none
+uncalled (more h k r) = if eqb (h .tag) Tag.Call then k & uncalled r else more h (uncalled k) (uncalled r)
+
+unfoldable pub uncalledCases : Forest → Forest
+uncalledCases none = none
+uncalledCases (more h k r) = more h (if eqb (h .tag) Tag.Case then uncalled k else uncalledCases k) (uncalledCases r)
+
+unfoldable pub skippingCases : Lowering
+skippingCases file lent out = changing (λ _ tree. uncalledCases tree) file lent out
+
+cases-skipped : givenBy skippingCases cases byLetter ≡ 0
+unfolding skippingCases uncalledCases uncalled given sumOver callsIn overDeclarators ofInitializer namesOf called shown asInSource treeIn treesFrom recordsOf rowOf fieldsOf fieldsIn numbersIn computing
+cases-skipped = refl
+
+pub no-skipped-cases : skippingCases ≡ lower → ⊥
+no-skipped-cases e = omega (arith, cases-lowered, cases-skipped, ap (λ (l : Lowering). givenBy l cases byLetter) e)
+
+pub skipped-not-hinted : Hinted skippingCases cases → ⊥
+skipped-not-hinted e = omega (arith, cases-asked, cases-skipped, e byLetter)
 
 -- ---- a switch's step by its letters alone (excluded by `letters-only`)
 
