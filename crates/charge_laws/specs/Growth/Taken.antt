@@ -1,5 +1,5 @@
--- THE VIEW OF TAKING UP: what becomes of each record of a list whose usings a context takes up. A law on such lists is one recursion over it,
--- in place of one through `takeUp`, another through the Declarators and a third through the initializer.
+-- THE VIEW OF TAKING UP: what becomes of each record of a list whose usings a context takes up. A law that goes by it is one recursion, in place of
+-- one through `takeUp`, another through the Declarators and a third through the initializer.
 -- Assumes nothing.
 use mathlib.Core.Path.{_≡_, refl}
 use mathlib.Core.Bool.{Bool, true, false, _&&_}
