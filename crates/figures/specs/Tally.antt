@@ -25,6 +25,7 @@ use Rattle.meaning.specs.Charges.{
   programBlock,
   topLevelClass,
   exportedClass,
+  importLine,
   contextCharge,
   lineCharge,
   callBytes,
@@ -325,6 +326,9 @@ classRecords = 3
 abbrev pub exportRecords : ℕ
 exportRecords = 4
 
+abbrev pub importRecords : ℕ
+importRecords = 2
+
 abbrev pub blockScopes : ℕ
 blockScopes = 3
 
@@ -361,10 +365,11 @@ pub rows-charged
     : (blockRecords ≡ lineCharge (context ofBlock) .records) × (partRecords ≡ lineCharge (context ofBody) .records)
     × (forOfRecords ≡ lineCharge forOf .records) × (forOfBlockRecords ≡ lineCharge forOfBlock .records)
     × (classRecords ≡ lineCharge topLevelClass .records) × (exportRecords ≡ lineCharge exportedClass .records)
+    × (importRecords ≡ lineCharge importLine .records)
     × (blockScopes ≡ lineCharge (context ofBlock) .scopes) × (partScopes ≡ lineCharge (context ofBody) .scopes)
     × (contextSymbols ≡ lineCharge (context ofBlock) .symbols) × (contextSymbols ≡ lineCharge (context ofBody) .symbols)
 unfolding lineCharge contextCharge
-rows-charged = (refl, refl, refl, refl, refl, refl, refl, refl, refl, refl)
+rows-charged = (refl, refl, refl, refl, refl, refl, refl, refl, refl, refl, refl)
 
 pub costs-charged
     : (blockCost ≡ lineCharge (context ofBlock) .bytes) × (partCost ≡ lineCharge (context ofBody) .bytes)

@@ -26,7 +26,7 @@ ghost use lib.Dec.{eqb, leb};
 ghost use Rattle.meaning.specs.Numbers.Mode;
 ghost use Rattle.meaning.specs.Charges.{callBytes, lineBytes, specifierBytes};
 ghost use Rattle.figures.specs.Tally.{blockRecords, partRecords, forOfRecords, forOfBlockRecords, classRecords, exportRecords, blockScopes, partScopes, contextSymbols, blockCost, partCost, forOfCost, forOfBlockCost, programCost, classCost, exportCost};
-ghost use Rattle.figures.specs.Figures.{mostPart, helperF, finalF, figuredF};
+ghost use Rattle.figures.specs.Figures.{mostPart, helperF, importF, finalF, figuredF};
 
 // Records, scopes and symbols of the lowered file, contexts made, and its length in bytes.
 pub struct FinalFigures {
@@ -59,6 +59,9 @@ const FOR_OF_BLOCK_RECORDS: u64 = 5;
 const CLASS_RECORDS: u64 = 3;
 
 const EXPORT_RECORDS: u64 = 4;
+
+// The records of the import line.
+const IMPORT_RECORDS: u64 = 2;
 
 // The scopes and symbols of a context.
 const BLOCK_SCOPES: u64 = 3;
@@ -105,6 +108,8 @@ const EXPORT_COST: u64 = (NEW_EXPORT_BYTES as u64) + SYMBOL;
 const LINE_COST: u64 = (MODULE_LINE_BYTES - EXPORT_BYTES) as u64;
 
 const NAME_COST: u64 = SPECIFIER_BYTES as u64;
+
+const IMPORT_COST: u64 = (MODULE_LINE_BYTES + SPECIFIER_BYTES) as u64;
 
 // ---- sums over the lines; each is far below the largest number
 
@@ -218,15 +223,28 @@ fn helper_of(mode: u16, contexts: u64) -> u64
     1
 }
 
-// The figures of a file with this mode, so many rows and a tree of this tally.
-fn final_figures(mode: u16, scopes: u16, symbols: u16, t: Tally) -> FinalFigures
-    ensures { λ r. ⌜ r ≡ finalF mode scopes symbols t ⌝ }
+// 1 where it is imported: in a module.
+fn import_of(mode: u16, esm: u16, contexts: u64) -> u64
+    ensures value { λ r. ⌜ r ≡ importF mode esm contexts ⌝ }
+    ensures bound { λ r. ⌜ r ≤ 1 ⌝ }
+{
+    if esm != 1 {
+        return 0;
+    }
+    helper_of(mode, contexts)
+}
+
+// The figures of a file with these settings, so many rows and a tree of this tally.
+fn final_figures(mode: u16, esm: u16, scopes: u16, symbols: u16, t: Tally) -> FinalFigures
+    ensures { λ r. ⌜ r ≡ finalF mode esm scopes symbols t ⌝ }
 {
     let contexts = contexts_of(t);
     let h = helper_of(mode, contexts);
+    let i = import_of(mode, esm, contexts);
     let bytes = context_bytes(t) + for_of_bytes(t) + item_bytes(t);
+    let records = context_records(t) + for_of_records(t) + item_records(t);
     FinalFigures {
-        records: context_records(t) + for_of_records(t) + item_records(t),
+        records: records + IMPORT_RECORDS * i,
         scopes: (scopes as u64) + new_scopes(t),
         symbols: (symbols as u64) + (context_symbols(t) + item_symbols(t)) + h,
         contexts: contexts,
@@ -234,7 +252,8 @@ fn final_figures(mode: u16, scopes: u16, symbols: u16, t: Tally) -> FinalFigures
             + SCOPE * (scopes as u64)
             + SYMBOL * (symbols as u64)
             + bytes
-            + SYMBOL * h,
+            + SYMBOL * h
+            + IMPORT_COST * i,
     }
 }
 
@@ -249,11 +268,11 @@ fn lacks_helper(mode: u16, contexts: u64) -> bool
 }
 
 // The figures of a file, or a refusal of inline mode with a context to make.
-pub fn figures_of(mode: u16, scopes: u16, symbols: u16, t: Tally) -> Figured
-    ensures { λ r. ⌜ r ≡ figuredF mode scopes symbols t ⌝ }
+pub fn figures_of(mode: u16, esm: u16, scopes: u16, symbols: u16, t: Tally) -> Figured
+    ensures { λ r. ⌜ r ≡ figuredF mode esm scopes symbols t ⌝ }
 {
     if lacks_helper(mode, contexts_of(t)) {
         return Figured::Refused(refusal::INLINE_CONTEXT, 0);
     }
-    Figured::Fine(final_figures(mode, scopes, symbols, t))
+    Figured::Fine(final_figures(mode, esm, scopes, symbols, t))
 }

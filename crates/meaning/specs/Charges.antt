@@ -28,7 +28,7 @@ pub data Line : Type 0 where
   wrapped : ℕ → Line
   forOf forOfBlock programBlock topLevelClass exportedClass defaultExport : Line
   exportedNames : ℕ → Line
-  helper : Line
+  helper importLine : Line
 
 -- records, scopes, symbols, contexts, and the bytes of the written file
 pub record Figures : Type 0 where
@@ -89,6 +89,10 @@ lineBytes = 4
 abbrev pub specifierBytes : ℕ
 specifierBytes = 7
 
+-- the import line: a Module line with one Specifier
+abbrev pub importBytes : ℕ
+importBytes = 16
+
 -- the bytes of records with these tags
 unfoldable pub bytesOf : List ℕ → ℕ
 bytesOf [] = 0
@@ -113,9 +117,9 @@ pub bytes-made
     × (bytesOf (Tag.DefaultExport ∷ []) + exportBytes ≡ bytesOf (Tag.ModuleLine ∷ Tag.Specifier ∷ varTags))
     × (bytesOf (Tag.ExportedDeclaration ∷ []) + exportBytes ≡ bytesOf (Tag.ModuleLine ∷ Tag.Specifier ∷ varTags))
     × (bytesOf (Tag.ExportedDeclaration ∷ []) + lineBytes ≡ bytesOf (Tag.ModuleLine ∷ []))
-    × (specifierBytes ≡ bytesOf (Tag.Specifier ∷ []))
+    × (specifierBytes ≡ bytesOf (Tag.Specifier ∷ [])) × (importBytes ≡ bytesOf (Tag.ModuleLine ∷ Tag.Specifier ∷ []))
 unfolding bytesOf fieldBytes numbersOf
-bytes-made = (refl, refl, refl, refl, refl, refl, refl, refl, refl, refl, refl)
+bytes-made = (refl, refl, refl, refl, refl, refl, refl, refl, refl, refl, refl, refl)
 
 unfoldable pub contextCharge : ContextKind → Figures
 contextCharge ofBlock = charge 11 3 2 1 contextBytes
@@ -136,6 +140,7 @@ lineCharge exportedClass = charge 4 0 1 0 exportBytes
 lineCharge defaultExport = charge 4 0 1 0 exportBytes
 lineCharge (exportedNames n) = charge n 0 0 0 (lineBytes + specifierBytes * n)
 lineCharge helper = charge 0 0 1 0 0
+lineCharge importLine = charge 2 0 0 0 importBytes
 
 unfoldable pub total : List Line → Figures
 total [] = charge 0 0 0 0 0
@@ -235,8 +240,17 @@ figuresAt s = figuresIn (fileAt s) ⊕ figures 0 0 0 (storeAt s .contexts) 0
 unfoldable pub helperLines : ℕ → Figures → List Line
 helperLines mode due = if eqb mode Mode.Runtime && not (eqb (due .contexts) 0) then helper ∷ [] else []
 
--- the final figures: those read and all charges
-unfoldable pub finalFigures : File → Figures
-finalFigures f =
+-- the figures at the end of the walk: those read and the charges of its visits
+unfoldable pub walkFigures : File → Figures
+walkFigures f =
     let due = total (treeLines (f .symbols) 0 (f .tree)) in
     figuresIn f ⊕ (due ⊕ total (helperLines (f .mode) due))
+
+-- the import line, once, in a runtime module with a context (02, request 1)
+unfoldable pub importLines : ℕ → ℕ → Figures → List Line
+importLines mode isModule g =
+    if eqb mode Mode.Runtime && eqb isModule 1 && not (eqb (g .contexts) 0) then importLine ∷ [] else []
+
+-- the final figures: those read and all charges
+unfoldable pub finalFigures : File → Figures
+finalFigures f = walkFigures f ⊕ total (importLines (f .mode) (f .isModule) (walkFigures f))

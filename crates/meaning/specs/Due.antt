@@ -29,6 +29,7 @@ use Rattle.meaning.specs.Walk.{
   visit,
   storeAt,
 }
+use Rattle.meaning.specs.ImportLine.{importDue}
 use Rattle.meaning.specs.Charges.{
   ofBlock,
   ofBody,
@@ -47,6 +48,7 @@ use Rattle.meaning.specs.Charges.{
   defaultExport,
   exportedNames,
   helper,
+  importLine,
   caseWraps,
   contextLines,
   itemLines,
@@ -92,6 +94,7 @@ isContext exportedClass = false
 isContext defaultExport = false
 isContext (exportedNames n) = false
 isContext helper = false
+isContext importLine = false
 
 unfoldable pub anyContext : List Line → Bool
 anyContext [] = false
@@ -109,3 +112,11 @@ due s = let lines = rewriteLines s in if missing (storeAt s) && anyContext lines
 unfoldable pub dues : ℕ → Spot → List (List Line)
 dues zero s = []
 dues (suc k) s = if isOver s then [] else due s ∷ dues k (visit s)
+
+-- ---- the import line (02, request 1)
+
+-- what the line is charged where the walk stands: two records from the call of the last visit on
+unfoldable pub importDues : Spot → List Line
+importDues (over tree st) = if importDue st then importLine ∷ [] else []
+importDues (at done h k r path st) = []
+importDues (leaving kids h before after path st) = []

@@ -11,14 +11,15 @@ use Rattle.meaning.specs.Numbers.Kind
 use Rattle.meaning.specs.Numbers.Letter
 use Rattle.meaning.specs.Numbers.SymbolFlag
 use Rattle.meaning.specs.Tree.{hd, Forest, none, one, _&_}
-use Rattle.meaning.specs.File.{scopeRow, Symbol, symbolRow}
+use Rattle.meaning.specs.File.{scopeRow, Symbol, symbolRow, File}
 use Rattle.meaning.specs.Reading.{Outcome, accepted, refused, readForest, readFile}
 use Rattle.meaning.specs.Scoping.{getBinding, findBinding, blockScopedIn}
 use Rattle.meaning.specs.Shapes.{call, load}
 use Rattle.meaning.specs.Statements.{takeUp}
 use Rattle.meaning.specs.Contexts.{anyCaseAwaitUsing}
-use Rattle.meaning.specs.Walk.{storeOf}
-use Rattle.meaning.specs.Charges.{figures}
+use Rattle.meaning.specs.Walk.{storeOf, start}
+use Rattle.meaning.specs.ImportLine.{visitCalls}
+use Rattle.meaning.specs.Charges.{figures, figuresAt}
 use Rattle.meaning.specs.Lowering.{Lent, Written, figuresOf, admit, admitOutput, lower}
 use Rattle.meaning.specs.Notation.{bytes}
 use Rattle.meaning.specs.Computing.{computing}
@@ -196,3 +197,48 @@ pub kept-first
     ≡ gives 24 5 4 1 264 "40:1,1 41:0,17 41:1,1 41:1,3 41:3,1 41:1,1 42:10,1,1,0 42:11,1,1,0 42:5,1,1,1 42:2,17,4,0 1:1,2 17:2,0,1 20:2,11 11:3,3 2:2,3 5:0,1 6:0,1,2 26:3 28:1,0 5:0,1 6:0,1,2 26:1 27:0,3,1 24:7,0 5:0,1 6:0,1,2 26:2 24:8,0 12:3,1,0,2 26:4 2:4,1 29:0,3,4 2:5,1 29:1,3,0"
 unfolding computing
 kept-first = refl
+
+-- ---- the import line
+
+-- in a runtime module the helper's import is Program's first child: two records and 16 bytes more
+abbrev importing : List ℕ
+importing = bytes "40:0,1 41:0,16 41:1,0 42:10,6,2,0 1:1,1 2:2,1 5:3,1 6:0,1,2 26:1 24:7,0"
+
+pub line-first
+    : lower importing (lend 20 5 4) 236
+    ≡ gives 20 5 4 1 236 "40:0,1 41:0,16 41:1,0 41:1,2 41:3,0 41:1,0 42:10,6,2,0 42:5,1,1,1 42:5,32,1,1 42:2,17,4,0 1:1,2 17:4,0,1 20:3,3 11:3,3 2:2,2 5:0,1 6:0,1,2 26:2 28:0,3 5:2,1 6:0,1,2 26:1 27:0,2,1 24:7,0 12:3,1,0,2 26:4 2:4,1 29:0,2,4 2:5,1 29:1,2,0"
+unfolding computing
+line-first = refl
+
+-- its rows are counted: one too few
+pub line-counted : admit importing (lend 19 5 4) ≡ refused 9 0
+unfolding computing
+line-counted = refl
+
+-- in a script there is none
+pub no-line-in-script
+    : figuresOf (bytes "40:0,0 41:0,16 41:1,0 42:10,6,2,0 1:1,1 2:2,1 5:3,1 6:0,1,2 26:1 24:7,0") ≡ accepted (figures 18 5 4 1 220)
+unfolding figuresOf computing
+no-line-in-script = refl
+
+-- so many records stand after some calls: the second makes the context, the 18th is the last and puts the line
+abbrev recordsAfter : ℕ → Outcome File → ℕ
+recordsAfter k (accepted f) = figuresAt (visitCalls k (start f)) .records
+recordsAfter k (refused c p) = 0
+
+pub line-last
+    : (recordsAfter 2 (readFile importing) ≡ 18) × (recordsAfter 17 (readFile importing) ≡ 18) × (recordsAfter 18 (readFile importing) ≡ 20)
+    × (recordsAfter 19 (readFile importing) ≡ 20)
+unfolding computing
+line-last = (refl, refl, refl, refl)
+
+-- on reading it has one Specifier, and stays among the lines of a lowered Program
+pub line-alone : readFile (bytes "40:1,0 41:0,16 1:1,1 17:4,0,0") ≡ refused 5 21
+unfolding computing
+line-alone = refl
+
+pub line-read
+    : lowered "40:1,1 41:0,17 42:10,6,1,0 42:5,32,1,1 1:1,2 5:3,1 6:0,1,1 26:1 17:4,7,1 20:2,9"
+    ≡ gives 18 5 4 1 220 "40:1,1 41:0,17 41:1,1 41:1,3 41:3,1 41:1,1 42:10,1,1,0 42:5,32,1,1 42:5,1,1,1 42:2,17,4,0 1:1,2 17:4,7,1 20:2,9 11:3,3 2:2,2 5:0,1 6:0,1,2 26:3 28:1,0 5:0,1 6:0,1,1 26:1 12:3,1,0,2 26:4 2:4,1 29:0,3,4 2:5,1 29:1,3,0"
+unfolding computing
+line-read = refl

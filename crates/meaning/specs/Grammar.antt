@@ -212,6 +212,10 @@ classRight p syms x =
     formFits p (x .a) && leb 1 (x .b) && leb (x .c) syms
     && (eqb (x .a) Form.Expression || leb 1 (x .c) || is p DefaultExport)
 
+-- 17: a form, with any number of Specifiers; the helper's import has one (02, request 1)
+unfoldable pub moduleLineRight : Field → Bool
+moduleLineRight x = leb (x .a) LineForm.ExportFrom || (eqb (x .a) LineForm.ImportHelper && eqb (x .c) 1)
+
 -- The numbers of a record are right at its place, with so many symbol rows; whether it may name its scope row is `mayName`'s.
 unfoldable pub right : Place → ℕ → Field → Bool
 right p syms x =
@@ -232,7 +236,7 @@ right p syms x =
     else if eqb t Tag.Body then true
     else if eqb t Tag.Class then classRight p syms x
     else if eqb t Tag.StaticBlock then leb 1 (x .a)
-    else if eqb t Tag.ModuleLine then leb (x .a) LineForm.ExportFrom
+    else if eqb t Tag.ModuleLine then moduleLineRight x
     else if eqb t Tag.DefaultExport then eqb (x .a) 1
     else if eqb t Tag.ExportedDeclaration then eqb (x .a) 1
     else if eqb t Tag.Specifier then isRow syms (x .a) && leb 1 (x .b)

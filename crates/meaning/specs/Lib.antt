@@ -12,6 +12,7 @@ pub mod Contexts
 pub mod ForOf
 pub mod Program
 pub mod Walk
+pub mod ImportLine
 pub mod Charges
 pub mod Due
 pub mod Lowering

@@ -9,6 +9,7 @@ use Rattle.meaning.specs.Numbers.Refusal
 use Rattle.meaning.specs.File.{File, written}
 use Rattle.meaning.specs.Reading.{Outcome, accepted, _>>=_, _>>_, ensure, readFile}
 use Rattle.meaning.specs.Walk.{Spot, start, visits, fileAt}
+use Rattle.meaning.specs.ImportLine.{completed}
 use Rattle.meaning.specs.Charges.{Figures, finalFigures}
 
 -- the rows that are lent
@@ -63,6 +64,10 @@ admitOutput bytes lent out = do
 unfoldable pub lastSpot : File → Spot
 lastSpot f = visits (2 * finalFigures f .records) (start f)
 
+-- where the last call leaves it: with the import line, if it is due (02, request 1)
+unfoldable pub finalSpot : File → Spot
+finalSpot f = completed (lastSpot f)
+
 -- what an accepted lowering writes and answers; `bytes` is the length
 pub record Written : Type 0 where
   pub file : List ℕ
@@ -71,4 +76,4 @@ pub record Written : Type 0 where
 unfoldable pub lower : List ℕ → Lent → ℕ → Outcome Written
 lower bytes lent out = do
   f ← admitOutput bytes lent out
-  accepted (record { file = written (fileAt (lastSpot f)); figures = finalFigures f })
+  accepted (record { file = written (fileAt (finalSpot f)); figures = finalFigures f })

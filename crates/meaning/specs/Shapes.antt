@@ -5,6 +5,7 @@ use mathlib.Core.Bool.{Bool}
 use Rattle.meaning.specs.Numbers.Tag
 use Rattle.meaning.specs.Numbers.Form
 use Rattle.meaning.specs.Numbers.LineForm
+use Rattle.meaning.specs.Numbers.KnownName
 use Rattle.meaning.specs.Numbers.Parts
 use Rattle.meaning.specs.Numbers.StepForm
 use Rattle.meaning.specs.Tree.{if_then_else_, hd, Forest, none, more, one, Node, node}
@@ -48,6 +49,10 @@ exportNamed specifiers = one (hd Tag.ModuleLine LineForm.ExportNamed 0 0) specif
 -- `y as exported`, before others
 abbrev pub specifier : ℕ → ℕ → Forest → Forest
 specifier y exported rest = more (hd Tag.Specifier y exported 0) none rest
+
+-- `import { default as y }` of the runtime helper
+abbrev pub importHelper : ℕ → Forest
+importHelper y = one (hd Tag.ModuleLine LineForm.ImportHelper 0 0) (specifier y KnownName.Default none)
 
 -- a Class as an expression
 abbrev pub classExpression : ℕ → ℕ → Forest → Forest

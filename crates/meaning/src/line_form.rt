@@ -6,3 +6,6 @@ pub const EXPORT_ALL: u16 = 1;
 pub const EXPORT_NAMED: u16 = 2;
 
 pub const EXPORT_FROM: u16 = 3;
+
+// The runtime helper's import.
+pub const IMPORT_HELPER: u16 = 4;

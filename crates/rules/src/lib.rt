@@ -23,7 +23,7 @@ ghost use Rattle.meaning.specs.Numbers.Parts;
 ghost use Rattle.meaning.specs.Numbers.StepForm;
 ghost use Rattle.meaning.specs.Tree.{if_then_else_, oneOf};
 ghost use Rattle.meaning.specs.File.{hasChildren, ownNumbers};
-ghost use Rattle.meaning.specs.Grammar.{index, is, formFits, isRow, scopeRight, symbolRight, declarationRight, declaratorRight, tryRight, functionRight, classRight, right, childrenOf, placeOf, headOf, scopeOf, below};
+ghost use Rattle.meaning.specs.Grammar.{index, is, formFits, isRow, scopeRight, symbolRight, declarationRight, declaratorRight, tryRight, functionRight, classRight, moduleLineRight, right, childrenOf, placeOf, headOf, scopeOf, below};
 
 // All flags of a scope together, and all of a symbol.
 const SCOPE_FLAGS: u16 = scope_flag::STRICT
@@ -338,6 +338,19 @@ fn specifier_right(symbols: usize, x: Field) -> bool
     1 <= x.b
 }
 
+// A Module line: a form, with any number of Specifiers; the helper's import has one.
+fn module_line_right(x: Field) -> bool
+    ensures { λ r. ⌜ r ≡ moduleLineRight x ⌝ }
+{
+    if x.a <= line_form::EXPORT_FROM {
+        return true;
+    }
+    if x.a != line_form::IMPORT_HELPER {
+        return false;
+    }
+    x.c == 1
+}
+
 // The numbers of a record are right at its place; its scope row apart.
 pub fn is_right(place: Place, symbols: usize, x: Field) -> bool
     ensures { λ r. ⌜ r ≡ right place symbols x ⌝ }
@@ -360,7 +373,7 @@ pub fn is_right(place: Place, symbols: usize, x: Field) -> bool
         tag::BODY => true,
         tag::CLASS => class_right(place, symbols, x),
         tag::STATIC_BLOCK => 1 <= x.a,
-        tag::MODULE_LINE => x.a <= line_form::EXPORT_FROM,
+        tag::MODULE_LINE => module_line_right(x),
         tag::DEFAULT_EXPORT => x.a == 1,
         tag::EXPORTED_DECLARATION => x.a == 1,
         tag::SPECIFIER => specifier_right(symbols, x),

@@ -28,6 +28,7 @@ use Rattle.meaning.specs.Charges.{
   defaultExport,
   exportedNames,
   helper,
+  importLine,
   Figures,
   contextCharge,
   lineCharge,
@@ -114,6 +115,7 @@ line-most exportedClass = omega arith
 line-most defaultExport = omega arith
 line-most (exportedNames n) = omega arith
 line-most helper = omega arith
+line-most importLine = omega arith
 
 contexts-most : (ls : List Line) → total ls .contexts ≤ total ls .symbols
 unfolding total

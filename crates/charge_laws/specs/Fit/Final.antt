@@ -32,6 +32,7 @@ use Rattle.meaning.specs.Charges.{
   defaultExport,
   exportedNames,
   helper,
+  importLine,
   Figures,
   figures,
   _⊕_,
@@ -42,6 +43,7 @@ use Rattle.meaning.specs.Charges.{
   figuresIn,
   figuresAt,
   helperLines,
+  walkFigures,
   finalFigures,
 }
 use Rattle.meaning.specs.Due.{isContext, anyContext}
@@ -130,6 +132,7 @@ line-agrees exportedClass = refl
 line-agrees defaultExport = refl
 line-agrees (exportedNames n) = refl
 line-agrees helper = refl
+line-agrees importLine = refl
 
 lines-agree : (ls : List Line) → Agree (anyContext ls) (cost inContexts ls)
 unfolding anyContext cost
@@ -184,9 +187,9 @@ module _ (b : List ℕ) (f : File) (e : readFile b ≡ accepted f) where
       rw (lines-each (treeLines (f .symbols) 0 (f .tree)) .3, ← source-cost w l, ← source-cost inContexts (λ n. linear n .3))
       (helper-added w (eqb (f .mode) 0) (visitsIn (f .symbols) (f .tree) standing))
 
-  -- The charges of all visits and the figures read are the final figures.
-  pub charges-final : figuresIn f ⊕ total (joined (visitCharges f)) ≡ finalFigures f
-  unfolding finalFigures helperLines
+  -- The charges of all visits and the figures read are the figures at the end of the walk.
+  pub charges-final : figuresIn f ⊕ total (joined (visitCharges f)) ≡ walkFigures f
+  unfolding walkFigures helperLines
   charges-final =
       let ls = treeLines (f .symbols) 0 (f .tree) in
       figures-same _ _
@@ -204,9 +207,9 @@ module _ (b : List ℕ) (f : File) (e : readFile b ≡ accepted f) where
 
 -- ---- the walk
 
--- Once the walk of an accepted file is over, its figures are the final figures.
+-- Once the walk of an accepted file is over, it has these figures.
 pub accepted-final : (b : List ℕ) (f : File) (k : ℕ) → readFile b ≡ accepted f → isOver (visits k (start f)) ≡ true
-    → figuresAt (visits k (start f)) ≡ finalFigures f
+    → figuresAt (visits k (start f)) ≡ walkFigures f
 accepted-final b f k e o =
     let all = take-all k (visitCharges f) (leb-true (length (visitCharges f)) k (sym (walk-ends b f k e) ∙ o)) in
     accepted-after b f k e
@@ -226,6 +229,7 @@ first-most w (suc k) (x ∷ xs) = omega (arith, first-most w k xs)
 
 -- After any number of visits no figure of an accepted file is above its final one.
 pub never-above : (b : List ℕ) (f : File) (k : ℕ) → readFile b ≡ accepted f → AtMost (figuresAt (visits k (start f))) (finalFigures f)
+unfolding finalFigures
 never-above b f k e =
     let xs = visitCharges f in
     rw (accepted-after b f k e, ← charges-final b f e)

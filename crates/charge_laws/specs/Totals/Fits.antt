@@ -20,7 +20,7 @@ use Rattle.meaning.specs.declared.Field.{Field}
 use Rattle.meaning.specs.Statements.{isUsing}
 use Rattle.meaning.specs.ForOf.{bindsIdentifier, boundSymbol}
 use Rattle.meaning.specs.Program.{keepsDefault}
-use Rattle.meaning.specs.Charges.{helper, lineCharge, total, recordBytes, helperLines, finalFigures}
+use Rattle.meaning.specs.Charges.{helper, importLine, lineCharge, total, recordBytes, helperLines, importLines, finalFigures}
 use Rattle.figures.specs.declared.tally.Tally.{Tally}
 use Rattle.figures.specs.declared.tally.Role.{Role}
 use Rattle.figures.specs.declared.tally.Role.the-variants.{Plain, Part, Item, Default, Exported, ExportedDeclarator, ExportedName, Held, Body}
@@ -370,10 +370,18 @@ unfolding total lineCharge
 helper-most true = omega arith
 helper-most false = omega arith
 
+-- the settings' bytes pay for the import line
+import-most : (b : Bool)
+    → (total (if b then importLine ∷ [] else []) .records ≤ 2) × (total (if b then importLine ∷ [] else []) .scopes ≡ 0)
+    × (total (if b then importLine ∷ [] else []) .symbols ≡ 0)
+unfolding total lineCharge
+import-most true = omega arith
+import-most false = omega arith
+
 -- THE FIT. The final figures of an accepted file fit 16 bits.
 pub accepted-fits : (b : List ℕ) (f : File) → readFile b ≡ accepted f
     → (finalFigures f .records ≤ 65535) × (finalFigures f .scopes ≤ 65535) × (finalFigures f .symbols ≤ 65535)
-unfolding tallyFigures helperLines owed
+unfolding tallyFigures helperLines importLines owed
 accepted-fits b f e =
     let t : Tally = tallyOf (f .symbols) (λ _. Plain) 0 (f .tree) in
     let a = accepted-is b f e in
@@ -385,4 +393,5 @@ accepted-fits b f e =
       no-debt (f .tree) (λ _. Plain) 0 (λ j l. refl),
       r .bytes,
       helper-most (eqb (f .mode) 0 && not (eqb (tallyFigures t .contexts) 0)),
+      import-most (eqb (f .mode) 0 && eqb (f .isModule) 1 && not (eqb (tallyFigures t .contexts) 0)),
     ))

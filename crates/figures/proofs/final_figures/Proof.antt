@@ -14,12 +14,14 @@ returns c =
     let at-ib = at-cr .before in
     let at-fb = at-ib .before in
     let at-cb = at-fb .before in
-    let at-helper = at-cb .before in
+    let at-import = at-cb .before in
+    let at-helper = at-import .before in
     let at-contexts = at-helper .before in
     final-is _ _
     (record {
       are-contexts = at-contexts .contexts-of .ensures .0;
       is-helper = at-helper .helper-of .ensures .0;
+      is-import = at-import .import-of .ensures .0;
       context-bytes = at-cb .context-bytes .ensures .0;
       for-of-bytes = at-fb .for-of-bytes .ensures .0;
       item-bytes = at-ib .item-bytes .ensures .0;
@@ -39,18 +41,23 @@ final-figures-spec =
     (λ c κs. search needs)
     (λ c κs. search needs)
     (λ c κs. search needs)
-    (λ c. search needs)
-    (λ c κs. search needs)
-    (λ c. search needs)
-    (λ c κs. search needs)
-    (λ c κs. search needs)
-    (λ c. search needs)
     (λ c κs. search needs)
     (λ c. search needs)
     (λ c κs. search needs)
     (λ c. search needs)
     (λ c κs. search needs)
     (λ c κs. search needs)
+    (λ c. search needs)
+    (λ c κs. search needs)
+    (λ c. search needs)
+    (λ c. search needs)
+    (λ c. search needs)
+    (λ c κs. search needs)
+    (λ c. search needs)
+    (λ c κs. search needs)
+    (λ c κs. search needs)
+    (λ c. search needs)
+    (λ c. search needs)
     (λ c. search needs)
     (λ c. search needs)
     (λ c. search needs)

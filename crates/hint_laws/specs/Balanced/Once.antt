@@ -39,6 +39,7 @@ use Rattle.meaning.specs.Charges.{
   defaultExport,
   exportedNames,
   helper,
+  importLine,
   caseWraps,
   wraps,
   contextLines,
@@ -78,6 +79,7 @@ programs exportedClass = 0
 programs defaultExport = 0
 programs (exportedNames n) = 0
 programs helper = 0
+programs importLine = 0
 
 abbrev Free : List Line → Type 0
 Free ls = cost programs ls ≡ 0

@@ -13,3 +13,7 @@ ExportNamed = 2
 
 abbrev pub ExportFrom : ℕ
 ExportFrom = 3
+
+-- the runtime helper's import (02, request 1)
+abbrev pub ImportHelper : ℕ
+ImportHelper = 4

@@ -2,7 +2,7 @@
 use mathlib.Core.List.{List, [], _∷_}
 use Prim.Native.Nat.{ℕ}
 use borrow.Author.Needs.{needs}
-use Rattle.meaning.specs.Grammar.{right, declarationRight, declaratorRight, tryRight, functionRight, classRight}
+use Rattle.meaning.specs.Grammar.{right, declarationRight, declaratorRight, tryRight, functionRight, classRight, moduleLineRight}
 use Rattle.spec_laws.specs.Match.{other}
 use Rattle.rules.proofs.is_right.Statement.{statement}
 use Rattle.rules.proofs.is_right.Tie as tie
@@ -11,10 +11,11 @@ abbrev keys : List ℕ
 keys = 29 ∷ 28 ∷ 27 ∷ 26 ∷ 25 ∷ 24 ∷ 20 ∷ 19 ∷ 18 ∷ 17 ∷ 16 ∷ 15 ∷ 14 ∷ 13 ∷ 12 ∷ 11 ∷ 10 ∷ 9 ∷ 8 ∷ 7 ∷ 6 ∷ 5 ∷ 4 ∷ 3 ∷ 2 ∷ 1 ∷ []
 
 pub is-right-spec : {M : Type 1} → statement M
-unfolding right declarationRight declaratorRight tryRight functionRight classRight
+unfolding right declarationRight declaratorRight tryRight functionRight classRight moduleLineRight
 is-right-spec =
     tie.close
     (tie.spec
+    (λ c κs. search needs)
     (λ c κs. search needs)
     (λ c κs. search needs)
     (λ c κs. search needs)
@@ -47,7 +48,7 @@ is-right-spec =
     (λ c. rw (c .match .keys14))
     (λ c. rw (c .before .match .keys15) (c .class-right .ensures))
     (λ c. rw (c .before .match .keys16))
-    (λ c. rw (c .before .match .keys17))
+    (λ c. rw (c .before .match .keys17) (c .module-line-right .ensures))
     (λ c. rw (c .before .match .keys18))
     (λ c. rw (c .before .match .keys19))
     (λ c. rw (c .before .match .keys20) (c .specifier-right .ensures))
