@@ -8,3 +8,4 @@ pub mod Modes
 pub mod ForOf
 pub mod Sums
 pub mod Final
+pub mod Import

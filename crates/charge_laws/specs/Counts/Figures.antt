@@ -61,7 +61,7 @@ settled-if false h d d₀ r₀ p st i =
     (i .0 ∙ ap (λ (f : Forest). plug f p) (&-assoc d₀ (one h d) r₀ ∙ ap (λ (f : Forest). d₀ & more h f r₀) (sym (&-none d))), i .1)
 
 -- going on changes neither
-settled : (p : List Crumb) (d f : Forest) (st : Store) → (treeAt (settle d f p st) ≡ plug (d & f) p) × (storeAt (settle d f p st) ≡ st)
+pub settled : (p : List Crumb) (d f : Forest) (st : Store) → (treeAt (settle d f p st) ≡ plug (d & f) p) × (storeAt (settle d f p st) ≡ st)
 unfolding settle treeAt plug storeAt
 settled [] d none st = (sym (&-none d), refl)
 settled [] d (more h k r) st = (refl, refl)

@@ -102,7 +102,7 @@ total-each xs =
 -- ---- the helper's line
 
 -- a test and a count agree
-abbrev Agree : Bool → ℕ → Type 0
+abbrev pub Agree : Bool → ℕ → Type 0
 Agree true n = 0 < n
 Agree false n = n ≡ 0
 
@@ -138,6 +138,9 @@ lines-agree : (ls : List Line) → Agree (anyContext ls) (cost inContexts ls)
 unfolding anyContext cost
 lines-agree [] = refl
 lines-agree (l ∷ ls) = agree-or (isContext l) (anyContext ls) (inContexts l) (cost inContexts ls) (line-agrees l) (lines-agree ls)
+
+pub contexts-agree : (ls : List Line) → Agree (anyContext ls) (total ls .contexts)
+contexts-agree ls = rw (lines-each ls .3) (lines-agree ls)
 
 -- with so many contexts, if it is missing
 abbrev helperIf : Bool → ℕ → List Line
