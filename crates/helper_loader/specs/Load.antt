@@ -1,8 +1,9 @@
 -- `helper_load` on tables.
 -- Assumes nothing.
+use mathlib.Core.Bool.{Bool}
 use mathlib.Core.List.{List}
 use Prim.Native.Nat.{ℕ}
-use lib.Dec.{eqb}
+use lib.Dec.{eqb, leb}
 use Rattle.meaning.specs.Numbers.Mode
 use Rattle.meaning.specs.Numbers.SymbolFlag
 use Rattle.meaning.specs.Numbers.KnownName
@@ -33,12 +34,16 @@ makeHelperF q =
 unfoldable pub loadRuntimeF : SymbolRows → SymbolRows
 loadRuntimeF q = if eqb (q .ctx .helper .0) 0 then makeHelperF q else q
 
-abbrev pub loadedF : Ctx → ℕ → ℕ → Loaded
-loadedF x form y = record { ctx = x; form = form; symbol = record { 0 = y } }
+-- the walk's first load: the only context is its own, which is counted already
+abbrev pub isFirstF : Ctx → Bool
+isFirstF x = leb (x .contexts) 1
+
+abbrev pub loadedF : Ctx → ℕ → ℕ → Bool → Loaded
+loadedF x form y first = record { ctx = x; form = form; symbol = record { 0 = y }; first = first }
 
 unfoldable pub helperLoadF : List ℕ → SymbolRows → ℕ → Loading
 helperLoadF ss q cur =
     let r = loadRuntimeF q in
     let y = findBinding (q .ctx .scopes) (storeF ss (q .t) (q .ctx)) cur KnownName.BabelHelpers in
-    if eqb (q .ctx .mode) Mode.Runtime then loading (r .t) (loadedF (r .ctx) Mode.Runtime (r .ctx .helper .0))
-    else loading (q .t) (loadedF (q .ctx) Mode.External y)
+    if eqb (q .ctx .mode) Mode.Runtime then loading (r .t) (loadedF (r .ctx) Mode.Runtime (r .ctx .helper .0) (isFirstF (q .ctx)))
+    else loading (q .t) (loadedF (q .ctx) Mode.External y (isFirstF (q .ctx)))

@@ -7,13 +7,14 @@ use meaning::symbol_flag;
 use scoping::Ctx;
 ghost use mathlib.Core.Path.{_≡_};
 ghost use Rattle.scoping.specs.Changes.{inSymbols};
-ghost use Rattle.helper_loader.specs.Load.{loading, helperFlags, makeHelperF, loadRuntimeF, helperLoadF};
+ghost use Rattle.helper_loader.specs.Load.{loading, helperFlags, makeHelperF, loadRuntimeF, isFirstF, helperLoadF};
 
-// The counters, and the form and the symbol of a Load.
+// The counters, the form and the symbol of a Load, and whether it is the walk's first.
 pub struct Loaded {
     pub ctx: Ctx,
     pub form: u16,
     pub symbol: SymbolId,
+    pub first: bool,
 }
 
 // An import in a module, a var elsewhere.
@@ -54,10 +55,18 @@ fn load_runtime(symbols: &mut [u16], ctx: Ctx) -> Ctx
     }
 }
 
+// The walk made no load before this one: its context, which is counted already, is the only one.
+fn is_first(ctx: Ctx) -> bool
+    ensures { λ r. ⌜ r ≡ isFirstF ctx ⌝ }
+{
+    ctx.contexts <= 1
+}
+
 // The Load of a context. Runtime: the helper's symbol; else: the symbol of `babelHelpers` seen from the current scope, or 0.
 pub fn helper_load(scopes: &[u16], symbols: &mut [u16], ctx: Ctx, cur: ScopeId) -> Loaded
     ensures { λ r. ⌜ loading (now (symbols .exit)) r ≡ helperLoadF (now (scopes .entry)) (inSymbols (now (symbols .entry)) ctx) (cur .0) ⌝ }
 {
+    let first = is_first(ctx);
     if ctx.mode == mode::RUNTIME {
         let loaded = load_runtime(symbols, ctx);
         let symbol = loaded.helper;
@@ -65,6 +74,7 @@ pub fn helper_load(scopes: &[u16], symbols: &mut [u16], ctx: Ctx, cur: ScopeId) 
             ctx: loaded,
             form: mode::RUNTIME,
             symbol,
+            first,
         }
     } else {
         let symbol = scoping::find_binding(scopes, symbols, ctx, cur, known_name::BABEL_HELPERS);
@@ -72,6 +82,7 @@ pub fn helper_load(scopes: &[u16], symbols: &mut [u16], ctx: Ctx, cur: ScopeId) 
             ctx,
             form: mode::EXTERNAL,
             symbol,
+            first,
         }
     }
 }

@@ -10,6 +10,7 @@ ghost use Rattle.meaning.specs.Tree.{oneOf};
 ghost use Rattle.path.specs.Path.{tables};
 ghost use Rattle.walk.specs.Plain.{rewritten, isPlainF, entering, stopsF, enterSomeF, visiting, visitSomeF};
 ghost use Rattle.walk.specs.Visit.{planNextF, rewriteProgramF, rewriteBlockF, rewriteBodyF, rewriteForF, rewriteSwitchF, rewriteTryF, rewriteForOfF, rewriteF, leaveBlockF, leaveF, isLeavingF, isOverF, visitF};
+ghost use Rattle.walk.specs.Call.{visitCallF};
 
 // ---- what entering a record rewrites
 
@@ -309,7 +310,7 @@ pub fn visit_some(
 }
 
 // The next visit; after the last nothing changes.
-pub fn visit(walk: Walk, records: &mut [u16], scopes: &mut [u16], symbols: &mut [u16]) -> Walk
+fn visit(walk: Walk, records: &mut [u16], scopes: &mut [u16], symbols: &mut [u16]) -> Walk
     ensures { λ r. ⌜
         tables (now (records .exit)) (now (scopes .exit)) (now (symbols .exit)) r
         ≡ visitF (tables (now (records .entry)) (now (scopes .entry)) (now (symbols .entry)) walk)
@@ -317,4 +318,27 @@ pub fn visit(walk: Walk, records: &mut [u16], scopes: &mut [u16], symbols: &mut 
 {
     let v = visit_some(walk, 1, records, scopes, symbols);
     v.walk
+}
+
+// A call for the next visit: after the last visit it adds the import line, if that is due; later calls change nothing.
+pub fn visit_call(
+    walk: Walk,
+    records: &mut [u16],
+    scopes: &mut [u16],
+    symbols: &mut [u16],
+) -> Walk
+    ensures { λ r. ⌜
+        tables (now (records .exit)) (now (scopes .exit)) (now (symbols .exit)) r
+        ≡ visitCallF (tables (now (records .entry)) (now (scopes .entry)) (now (symbols .entry)) walk)
+        ⌝ }
+{
+    if is_over(walk, records) {
+        return walk;
+    }
+    let w = visit(walk, records, scopes, symbols);
+    if is_over(w, records) {
+        import_line::complete(records, w)
+    } else {
+        w
+    }
 }

@@ -1,0 +1,2 @@
+-- The import line on tables.
+pub mod Import
