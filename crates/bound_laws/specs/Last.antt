@@ -32,8 +32,9 @@ use Rattle.meaning.specs.Walk.{
   treeAt,
   fileAt,
 }
-use Rattle.meaning.specs.Charges.{figuresIn, figuresAt, finalFigures}
-use Rattle.meaning.specs.Lowering.{lastSpot}
+use Rattle.meaning.specs.ImportLine.{completed, visitCalls}
+use Rattle.meaning.specs.Charges.{figuresIn, figuresAt, walkFigures, finalFigures}
+use Rattle.meaning.specs.Lowering.{lastSpot, finalSpot}
 use Rattle.spec_laws.specs.Tags.{clash}
 use Rattle.charge_laws.specs.Growth.Trees.{more-&}
 use Rattle.charge_laws.specs.Growth.Charged.{counts}
@@ -42,6 +43,8 @@ use Rattle.charge_laws.specs.Counts.Pending.{Pending, pending-start, pending-vi
 use Rattle.charge_laws.specs.Counts.Left.{over-stays}
 use Rattle.charge_laws.specs.Fit.Accepted.{accepted-fit}
 use Rattle.charge_laws.specs.Fit.Final.{accepted-final, never-above}
+use Rattle.charge_laws.specs.Fit.Import.{calls-final}
+use Rattle.spec_laws.specs.Calls.{completed-over, calls-are}
 
 -- The last spot is where twice as many visits lead as there are records in the end.
 pub last-spot : (f : File) → lastSpot f ≡ visits (2 * finalFigures f .records) (start f)
@@ -144,8 +147,8 @@ enough b f e = go (isOver s) refl
 pub last-over : (b : List ℕ) (f : File) → readFile b ≡ accepted f → isOver (lastSpot f) ≡ true
 last-over b f e = ap isOver (last-spot f) ∙ enough b f e
 
--- and has the final figures there.
-pub last-figures : (b : List ℕ) (f : File) → readFile b ≡ accepted f → figuresAt (lastSpot f) ≡ finalFigures f
+-- and has the figures of the walk's end there.
+pub last-figures : (b : List ℕ) (f : File) → readFile b ≡ accepted f → figuresAt (lastSpot f) ≡ walkFigures f
 last-figures b f e = ap figuresAt (last-spot f) ∙ accepted-final b f (2 * finalFigures f .records) e (enough b f e)
 
 -- a walk that is over after m visits stands there after more
@@ -165,3 +168,22 @@ last-is b f k e o = go (leb n k) refl ∙ sym (last-spot f)
     go : (d : Bool) → leb n k ≡ d → visits k (start f) ≡ visits n (start f)
     go true d = more-stays n k (start f) (leb-true n k d) (enough b f e)
     go false d = sym (more-stays k n (start f) (omega (arith, leb-false n k d)) o)
+
+-- ---- with the import line
+
+-- Where the last call leaves the walk it is over,
+pub final-over : (b : List ℕ) (f : File) → readFile b ≡ accepted f → isOver (finalSpot f) ≡ true
+unfolding finalSpot
+final-over b f e = completed-over (lastSpot f) ∙ last-over b f e
+
+-- it has the final figures,
+pub final-figures : (b : List ℕ) (f : File) → readFile b ≡ accepted f → figuresAt (finalSpot f) ≡ finalFigures f
+unfolding finalSpot
+final-figures b f e =
+    ap (λ (s : Spot). figuresAt (completed s)) (last-spot f) ∙ calls-final b f e (2 * finalFigures f .records) (enough b f e)
+
+-- and wherever calls for visits find it over is that spot.
+pub final-is : (b : List ℕ) (f : File) (k : ℕ) → readFile b ≡ accepted f → isOver (visits k (start f)) ≡ true
+    → visitCalls k (start f) ≡ finalSpot f
+unfolding finalSpot
+final-is b f k e o = calls-are k f ∙ ap completed (last-is b f k e o)

@@ -11,6 +11,7 @@ pub mod NumbersContexts
 pub mod NumbersProgram
 pub mod NumbersVisits
 pub mod NumbersFit
+pub mod Completed
 -- The end of the walk, and the walk as a recursion over the tree.
 pub mod Last
 pub mod Through

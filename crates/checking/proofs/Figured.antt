@@ -10,11 +10,11 @@ use lib.ListN.{length}
 use Rattle.meaning.specs.Tree.{if_then_else_}
 use Rattle.meaning.specs.File.{File}
 use Rattle.meaning.specs.Reading.{Outcome, accepted, refused, _>>=_, _>>_, ensure, readFile}
-use Rattle.meaning.specs.Charges.{Figures, figures, _⊕_, lineCharge, total, helperLines, finalFigures}
+use Rattle.meaning.specs.Charges.{Figures, figures, _⊕_, lineCharge, total, helperLines, importLines, finalFigures}
 use Rattle.meaning.specs.Lowering.{checkMode, checkFile, figuresOf}
 use Rattle.figures.specs.Tally.{cap, tallyFigures}
 use Rattle.figures.specs.declared.tally.Tally.{Tally}
-use Rattle.figures.specs.Figures.{helperF, finalF, figuredF, shownFigures, figuredOf}
+use Rattle.figures.specs.Figures.{helperF, importF, finalF, figuredF, shownFigures, figuredOf}
 use Rattle.figures.specs.declared.FinalFigures.{FinalFigures}
 use Rattle.figures.specs.declared.Figured.{Figured}
 use Rattle.figures.specs.declared.Figured.the-variants.{Fine as FineFigures, Refused as RefusedFigures}
@@ -47,7 +47,7 @@ checked-is f w e = ap checkedBy (e ∙ sym (whole-is f)) ∙ checked-whole (read
 -- ---- the figures
 
 abbrev pub surveyedBy : Whole → Surveyed
-surveyedBy (Accepted l t) = withFigures l (figuredF (l .mode) (l .scopes) (l .symbols) t)
+surveyedBy (Accepted l t) = withFigures l (figuredF (l .mode) (l .esm) (l .scopes) (l .symbols) t)
 surveyedBy (RefusedFile c p) = RefusedSurvey c p
 
 figures-eq : (x y : FinalFigures)
@@ -55,28 +55,38 @@ figures-eq : (x y : FinalFigures)
     → x ≡ y
 figures-eq x y e = λ i. record { records = e .0 i; scopes = e .1 i; symbols = e .2 i; contexts = e .3 i; bytes = e .4 i }
 
--- the helper's line, by the test that asks for it
-helper-is : (mode scopes symbols : ℕ) (g : Figures) (b : Bool) → eqb mode 0 && not (eqb (g .contexts) 0) ≡ b
+-- the import is asked for where the helper is, in a module
+in-module : (m i c : Bool) → (m && i && c) ≡ (i && (m && c))
+in-module true true c = refl
+in-module true false c = refl
+in-module false true c = refl
+in-module false false c = refl
+
+-- the helper's line and its import's, by the tests that ask for them
+lines-are : (mode isModule scopes symbols : ℕ) (g : Figures) (b c : Bool) → eqb mode 0 && not (eqb (g .contexts) 0) ≡ b → eqb isModule 1 ≡ c
     → _≡_ {A = FinalFigures}
     (record {
-      records = g .records;
+      records = g .records + 2 * (if c then (if b then 1 else 0) else 0);
       scopes = scopes + g .scopes;
       symbols = symbols + g .symbols + (if b then 1 else 0);
       contexts = g .contexts;
-      bytes = 7 + 7 * scopes + 11 * symbols + g .bytes + 11 * (if b then 1 else 0);
+      bytes = 7 + 7 * scopes + 11 * symbols + g .bytes + 11 * (if b then 1 else 0) + 16 * (if c then (if b then 1 else 0) else 0);
     })
     (shownFigures
     (figures (g .records) (scopes + g .scopes) (symbols + g .symbols) (g .contexts) (7 + (7 * scopes + (11 * symbols + g .bytes)))
-    ⊕ total (helperLines mode g)))
-unfolding helperLines total lineCharge
-helper-is mode scopes symbols g true e = rw e (figures-eq _ _ (omega arith))
-helper-is mode scopes symbols g false e = rw e (figures-eq _ _ (omega arith))
+    ⊕ total (helperLines mode g)
+    ⊕ total (importLines mode isModule g)))
+unfolding helperLines importLines total lineCharge
+lines-are mode isModule scopes symbols g true true e d = rw (in-module (eqb mode 0) (eqb isModule 1) _, e, d) (figures-eq _ _ (omega arith))
+lines-are mode isModule scopes symbols g true false e d = rw (in-module (eqb mode 0) (eqb isModule 1) _, e, d) (figures-eq _ _ (omega arith))
+lines-are mode isModule scopes symbols g false true e d = rw (in-module (eqb mode 0) (eqb isModule 1) _, e, d) (figures-eq _ _ (omega arith))
+lines-are mode isModule scopes symbols g false false e d = rw (in-module (eqb mode 0) (eqb isModule 1) _, e, d) (figures-eq _ _ (omega arith))
 
 final-is : (f : File) (t : Tally) → finalFigures f ≡ figuresFrom f (tallyFigures t)
-    → finalF (f .mode) (length (f .scopes)) (length (f .symbols)) t ≡ shownFigures (finalFigures f)
-unfolding finalF helperF
+    → finalF (f .mode) (f .isModule) (length (f .scopes)) (length (f .symbols)) t ≡ shownFigures (finalFigures f)
+unfolding finalF helperF importF
 final-is f t e =
-    helper-is (f .mode) (length (f .scopes)) (length (f .symbols)) (tallyFigures t) (eqb (f .mode) 0 && not (eqb (tallyFigures t .contexts) 0)) refl
+    lines-are (f .mode) (f .isModule) (length (f .scopes)) (length (f .symbols)) (tallyFigures t) (eqb (f .mode) 0 && not (eqb (tallyFigures t .contexts) 0)) (eqb (f .isModule) 1) refl refl
     ∙ ap shownFigures (sym e)
 
 contexts-are : (f : File) (t : Tally) → finalFigures f ≡ figuresFrom f (tallyFigures t) → tallyFigures t .contexts ≡ finalFigures f .contexts
@@ -97,7 +107,7 @@ accepted-is b f e =
     let l = withRecords (layoutOf f) (t .records) in
     ap (λ (c : ℕ).
     withFigures l
-    (if eqb (f .mode) 2 && leb 1 c then RefusedFigures 8 0 else FineFigures (finalF (f .mode) (length (f .scopes)) (length (f .symbols)) t)))
+    (if eqb (f .mode) 2 && leb 1 c then RefusedFigures 8 0 else FineFigures (finalF (f .mode) (f .isModule) (length (f .scopes)) (length (f .symbols)) t)))
     (contexts-are f t g)
     ∙ by-mode (eqb (f .mode) 2 && leb 1 (finalFigures f .contexts)) f _ l (final-is f t g)
     (ap (λ (n : ℕ). record {

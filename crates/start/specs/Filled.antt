@@ -14,7 +14,7 @@ use Rattle.meaning.specs.File.{File}
 use Rattle.meaning.specs.Scoping.{Store}
 use Rattle.meaning.specs.Reading.{Outcome, accepted, refused, _>>_, ensure, readFile}
 use Rattle.meaning.specs.Walk.{settle, storeAt, storeOf, start}
-use Rattle.meaning.specs.Charges.{figuresIn, finalFigures}
+use Rattle.meaning.specs.Charges.{figuresIn, walkFigures, finalFigures}
 use Rattle.meaning.specs.Lowering.{Lent, checkMode, checkRows, checkFile, admit}
 use Rattle.parsing.specs.Outcomes.{Holds, bind, bind-any}
 use Rattle.parsing.specs.Parsed.{ParsedFile}
@@ -74,7 +74,7 @@ first-held (more h k r) st g z =
 read-most : (f : File)
     → (size (f .tree) ≤ finalFigures f .records) × (length (f .scopes) ≤ finalFigures f .scopes)
     × (length (f .symbols) ≤ finalFigures f .symbols)
-unfolding finalFigures figuresIn
+unfolding finalFigures walkFigures figuresIn
 read-most f = (omega arith, omega arith, omega arith)
 
 -- ---- the tables

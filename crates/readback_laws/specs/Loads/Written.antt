@@ -33,13 +33,15 @@ use Rattle.meaning.specs.Walk.{
   storeAt,
   fileAt,
 }
+use Rattle.meaning.specs.ImportLine.{importDue, withImport, completed}
 use Rattle.meaning.specs.Charges.{Figures, figuresIn, figuresAt, finalFigures}
-use Rattle.meaning.specs.Lowering.{lastSpot}
+use Rattle.meaning.specs.Lowering.{lastSpot, finalSpot}
+use Rattle.spec_laws.specs.Calls.{completed-store}
 use Rattle.charge_laws.specs.Counts.Enter.{proper}
 use Rattle.charge_laws.specs.Counts.Pending.{Pending, pending-start, pending-visit}
 use Rattle.charge_laws.specs.Fit.Accepted.{accepted-fit}
 use Rattle.spec_laws.specs.Trees.{Bytes}
-use Rattle.bound_laws.specs.Last.{last-spot, last-figures}
+use Rattle.bound_laws.specs.Last.{last-spot, final-figures}
 use Rattle.readback_laws.specs.ReadBack.{recordReads, fieldsFor, fieldsOf, read-back, fieldCount, count-++, rows-++, scopes-count, symbols-count}
 use Rattle.readback_laws.specs.Written.{file-written}
 use Rattle.hint_laws.specs.Balanced.Visit.{settled}
@@ -118,18 +120,37 @@ contexts-at : (s : Spot) → figuresAt s .contexts ≡ storeAt s .contexts
 unfolding figuresAt figuresIn fileAt
 contexts-at s = omega arith
 
-last-loads : (bytes : List ℕ) (f : File) → readFile bytes ≡ accepted f
-    → loads (treeAt (lastSpot f)) ≡ loads (f .tree) + finalFigures f .contexts
-last-loads bytes f e =
+-- the import line has no Load
+import-loads : (y : ℕ) (tree : Forest) → loads (withImport y tree) ≡ loads tree
+unfolding withImport loads loadOf _&_
+import-loads y none = refl
+import-loads y (more h k r) = omega arith
+
+completed-if : (b : Bool) (y : ℕ) (tree : Forest) → loads (if b then withImport y tree else tree) ≡ loads tree
+completed-if true y tree = import-loads y tree
+completed-if false y tree = refl
+
+completed-loads : (s : Spot) → loads (treeAt (completed s)) ≡ loads (treeAt s)
+unfolding completed treeAt
+completed-loads (over tree st) = completed-if (importDue st) (st .helper) tree
+completed-loads (at d h k r p st) = refl
+completed-loads (leaving k h d r p st) = refl
+
+final-loads : (bytes : List ℕ) (f : File) → readFile bytes ≡ accepted f
+    → loads (treeAt (finalSpot f)) ≡ loads (f .tree) + finalFigures f .contexts
+unfolding finalSpot
+final-loads bytes f e =
     let n = 2 * finalFigures f .records in
     omega (
       arith,
+      completed-loads (lastSpot f),
+      ap (λ (st : Store). st .contexts) (completed-store (lastSpot f)),
       ap (λ (s : Spot). loads (treeAt s)) (last-spot f),
       ap (λ (s : Spot). storeAt s .contexts) (last-spot f),
       visits-paid n (start f) (pending-start f (accepted-fit bytes f e)),
       start-loads f,
-      contexts-at (lastSpot f),
-      ap (λ (x : Figures). x .contexts) (last-figures bytes f e),
+      contexts-at (finalSpot f),
+      ap (λ (x : Figures). x .contexts) (final-figures bytes f e),
     )
 
 -- ---- the bytes
@@ -156,13 +177,13 @@ loads-back g =
 
 -- THE CONTEXTS ARE COUNTED in the written bytes.
 pub loads-written : (bytes : List ℕ) (f : File) → Bytes bytes → readFile bytes ≡ accepted f
-    → fieldCount isLoad (fieldsOf (written (fileAt (lastSpot f)))) ≡ fieldCount isLoad (fieldsOf bytes) + finalFigures f .contexts
+    → fieldCount isLoad (fieldsOf (written (fileAt (finalSpot f)))) ≡ fieldCount isLoad (fieldsOf bytes) + finalFigures f .contexts
 unfolding fileAt
 loads-written bytes f b e =
     omega (
       arith,
-      loads-back (fileAt (lastSpot f)),
-      last-loads bytes f e,
+      loads-back (fileAt (finalSpot f)),
+      final-loads bytes f e,
       loads-back f,
       ap (λ (bs : List ℕ). fieldCount isLoad (fieldsOf bs)) (file-written bytes f b e),
     )

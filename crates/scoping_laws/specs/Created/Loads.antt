@@ -11,7 +11,7 @@ use Rattle.meaning.specs.Tree.{if_then_else_, Forest}
 use Rattle.meaning.specs.File.{symbolRow}
 use Rattle.meaning.specs.Scoping.{Store, createSymbol, findBinding}
 use Rattle.meaning.specs.Shapes.{load}
-use Rattle.meaning.specs.HelperLoader.{makeHelper, loadRuntime, loadExternal, helperLoad}
+use Rattle.meaning.specs.HelperLoader.{makeHelper, loadRuntime, loadExternal, isFirst, helperLoad}
 use Rattle.meaning.specs.Statements.{makeContext, transformStatements}
 use Rattle.meaning.specs.Due.{missing}
 use Rattle.charge_laws.specs.Growth.Rows.{oneIf}
@@ -51,7 +51,7 @@ loadSymbol cur st =
 -- what is loaded, and the rows of the store then
 abbrev pub loadedAs : ℕ → Store → Store → List ℕ → Loading
 loadedAs cur st st′ zy =
-    loading (symbolCells (st′ .symbols) (st′ .asRead) zy) (loadedF (ctxOf st′) (loadForm st) (loadSymbol cur st))
+    loading (symbolCells (st′ .symbols) (st′ .asRead) zy) (loadedF (ctxOf st′) (loadForm st) (loadSymbol cur st) (isFirst st))
 
 -- the runtime helper is made
 make-law : (st : Store) (zy : List ℕ) → Agreed st → length (makeHelper st .1 .symbols) ≤ 65535
@@ -83,7 +83,7 @@ module _ (st : Store) (cur : ℕ) where
   pub helper-law : (zs zy : List ℕ) → Agreed st → length (helperLoad cur st .1 .symbols) ≤ 65535
       → helperLoadF (scopeCells (st .scopes) zs) (symbolsHeld st (freeSymbols (oneIf (missing st)) zy)) cur
       ≡ loadedAs cur st (helperLoad cur st .1) zy
-  unfolding helperLoadF loadRuntimeF makeHelper createSymbol freeSymbols
+  unfolding helperLoadF loadRuntimeF makeHelper createSymbol freeSymbols isFirst
   helper-law zs zy a =
       load-either
       (λ l.
