@@ -9,3 +9,4 @@ pub mod ForOf
 pub mod Sums
 pub mod Final
 pub mod Import
+pub mod Root

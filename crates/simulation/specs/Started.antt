@@ -12,6 +12,7 @@ use Rattle.meaning.specs.Tree.{none, size, _&_}
 use Rattle.meaning.specs.File.{File}
 use Rattle.meaning.specs.Reading.{accepted}
 use Rattle.meaning.specs.Walk.{storeOf, start, visits, plug, treeAt, storeAt}
+use Rattle.meaning.specs.ImportLine.{completed}
 use Rattle.meaning.specs.Charges.{finalFigures}
 use Rattle.meaning.specs.Lowering.{admit}
 use Rattle.charge_laws.specs.Fit.Final.{never-above}
@@ -23,7 +24,9 @@ use Rattle.start.specs.Start.{lentIn, freeRows, zerosBehind}
 use Rattle.start.specs.Filled.{admitted}
 use Rattle.walk.specs.Visit.{visitF}
 use Rattle.simulation.specs.Rows.{settled-size}
+use Rattle.walk.specs.Call.{visitCallF}
 use Rattle.simulation.specs.Visits.{heldIn, at-spot, visits-hold-tables}
+use Rattle.simulation.specs.Calls.{calls-hold-tables}
 
 -- ---- its free rows
 
@@ -90,3 +93,9 @@ module _ (bytes r s y : List ℕ) (f : File) (e : admit bytes (lentIn r s y) ≡
       → turns k visitF (held (start f) (freeRows f) (zerosBehind f r s y))
       ≡ heldIn (finalFigures f) (zerosAfter f r s y) (visits k (start f))
   visits-after-start k = ap (turns k visitF) started ∙ visits-hold-tables bytes f (admitted bytes r s y f e .0) k (zerosAfter f r s y)
+
+  -- THE CALLS AFTER START: with the import line from the last visit's call on.
+  pub calls-after-start : (k : ℕ)
+      → turns k visitCallF (held (start f) (freeRows f) (zerosBehind f r s y))
+      ≡ heldIn (finalFigures f) (zerosAfter f r s y) (completed (visits k (start f)))
+  calls-after-start k = ap (turns k visitCallF) started ∙ calls-hold-tables bytes f (admitted bytes r s y f e .0) (zerosAfter f r s y) k

@@ -151,17 +151,19 @@ module _ (b : List ℕ) (f : File) (e : readFile b ≡ accepted f) where
   agreed-at zero = rw (store-settled (storeOf f) [] none (f .tree)) (same-rows (f .symbols))
   agreed-at (suc k) = rw (visits-last k (start f)) (visit-kept (spot k) (spot-fits k f (accepted-fit b f e)) (agreed-at k))
 
+  -- each visit, on tables with as many rows as the lowered tree, scopes and symbols take
+  pub visit-holds : (k : ℕ) (z : Rest) → visitF (heldIn (finalFigures f) z (spot k)) ≡ heldIn (finalFigures f) z (spot (suc k))
+  visit-holds k z =
+      let next = visits-last k (start f) in
+      visit-in (finalFigures f) z (spot k) (spot-fits k f (accepted-fit b f e)) (agreed-at k) (rw (← next) (room-at (suc k)))
+      (accepted-fits b f e .0)
+      (rw (← next) (omega (arith, at-spot (spot (suc k)), never-above b f (suc k) e)))
+      ∙ ap (heldIn (finalFigures f) z) (sym next)
+
   -- THE VISITS ON TABLES ARE 01'S. An accepted file's tables, with as many rows as its lowered tree, scopes and symbols take, hold after
   -- any number of visits the tree, the scopes, the symbols and the place of 01's walk after so many.
   pub visits-hold-tables : (k : ℕ) (z : Rest)
       → turns k visitF (heldIn (finalFigures f) z (start f)) ≡ heldIn (finalFigures f) z (visits k (start f))
   unfolding turns visits
   visits-hold-tables zero z = refl
-  visits-hold-tables (suc k) z =
-      let next = visits-last k (start f) in
-      turns-last k visitF _
-      ∙ ap visitF (visits-hold-tables k z)
-      ∙ visit-in (finalFigures f) z (spot k) (spot-fits k f (accepted-fit b f e)) (agreed-at k) (rw (← next) (room-at (suc k)))
-      (accepted-fits b f e .0)
-      (rw (← next) (omega (arith, at-spot (spot (suc k)), never-above b f (suc k) e)))
-      ∙ ap (heldIn (finalFigures f) z) (sym next)
+  visits-hold-tables (suc k) z = turns-last k visitF _ ∙ ap visitF (visits-hold-tables k z) ∙ visit-holds k z

@@ -54,7 +54,7 @@ settled-complete none st e = rw e
 settled-complete (more h k r) st e = refl
 
 -- before the first visit no helper is loaded
-start-complete : (f : File) → completed (start f) ≡ start f
+pub start-complete : (f : File) → completed (start f) ≡ start f
 unfolding start storeOf importDue
 start-complete f = settled-complete (f .tree) (storeOf f) (no-load (eqb (f .mode) Mode.Runtime) (eqb (f .isModule) 1))
 

@@ -161,7 +161,7 @@ none-due (leaving k h d r p st) o = refl
 
 -- ---- what it adds
 
-line-grows : (y : ℕ) (tree : Forest) → 1 ≤ size tree
+pub line-grows : (y : ℕ) (tree : Forest) → 1 ≤ size tree
     → (size (withImport y tree) ≡ size tree + 2) × (recordBytes (withImport y tree) ≡ recordBytes tree + 16)
 unfolding withImport size recordBytes fieldBytes numbersOf _&_
 line-grows y none l = absurd (omega arith)
@@ -190,7 +190,7 @@ module _ (b : List ℕ) (f : File) (e : readFile b ≡ accepted f) (k : ℕ) whe
   spot = visits k (start f)
 
   -- there is a Program
-  some-records : 1 ≤ size (treeAt spot)
+  pub some-records : 1 ≤ size (treeAt spot)
   unfolding figuresIn
   some-records =
       omega (

@@ -1,0 +1,204 @@
+-- Calls for visits on tables are 01's: the import line is put where 01 puts it (02, request 1).
+-- Assumes nothing.
+use mathlib.Core.Path.{_≡_, refl, sym, ap, _∙_}
+use mathlib.Core.Bool.{Bool, true, false}
+use mathlib.Core.List.{List, [], _∷_, _++_, append-assoc, append-nil}
+use Prim.Native.Nat.{ℕ, zero, suc, _+_, _-_, _≤_, _<_}
+use native.Mathlib.Omega.{arith}
+use lib.ListN.{length}
+use Rattle.meaning.specs.Numbers.Tag
+use Rattle.meaning.specs.Numbers.LineForm
+use Rattle.meaning.specs.Numbers.KnownName
+use Rattle.meaning.specs.Tree.{if_then_else_, Head, hd, Forest, none, more, count, size, _&_}
+use Rattle.meaning.specs.File.{File}
+use Rattle.meaning.specs.Scoping.{Store}
+use Rattle.meaning.specs.Reading.{accepted, readFile}
+use Rattle.meaning.specs.Walk.{Spot, at, leaving, over, isOver, visits, start, treeAt, storeAt}
+use Rattle.meaning.specs.ImportLine.{importDue, withImport, completed, visitCalls}
+use Rattle.meaning.specs.Charges.{Figures, figuresAt, finalFigures}
+use Rattle.spec_laws.specs.Tags.{clash}
+use Rattle.spec_laws.specs.Bools.{one-less}
+use Rattle.spec_laws.specs.Trees.{count-size, visits-last}
+use Rattle.spec_laws.specs.Calls.{completed-over, not-yet, start-complete}
+use Rattle.charge_laws.specs.Totals.Fits.{accepted-fits}
+use Rattle.charge_laws.specs.Counts.Left.{over-stays}
+use Rattle.charge_laws.specs.Fit.Import.{line-grows, some-records, calls-above}
+use Rattle.tables.specs.Loops.{turns}
+use Rattle.tables.specs.Table.{capped, cap-one, columnF, setColumnF, closedRowF}
+use Rattle.tables.specs.Stream.{Buf, emitF, takeBackF}
+use Rattle.tables.specs.declared.Row.{Row}
+use Rattle.path.specs.Path.{Tables, tables, onRecords, withCursorF}
+use Rattle.import_line.specs.Import.{importDueF, countChildF, writeImportF, addImportF, completeF, completeIn}
+use Rattle.representation.specs.Gap.Cells.{table, free, line, rowsOf, gapped, length-rows}
+use Rattle.representation.specs.Gap.Rows.{emit-gapped, take-back-gapped, turns-last}
+use Rattle.representation.specs.Spots.Spots.{opensAt, visitedAt, restAt, Rest, walkAt, held}
+use Rattle.representation.specs.Spots.Lengths.{walk-eq}
+use Rattle.table_laws.specs.Lists.Plan.{cap-sum}
+use Rattle.walk.specs.Visit.{visitF}
+use Rattle.walk.specs.Over.{isOverIn}
+use Rattle.walk.specs.Call.{visitCallF, over-unchanged, call-last, call-goes-on}
+use Rattle.simulation.specs.Visit.{over-told}
+use Rattle.simulation.specs.Visits.{heldIn, at-spot, visit-holds}
+
+-- ---- the line on tables
+
+module _ (h : Head) (k r : Forest) (st : Store) (g : ℕ) (z : Rest) where
+  -- the rows behind Program's
+  abbrev behind : List Row
+  behind = rowsOf k ++ rowsOf r
+
+  -- Program's row with a child more, and the line's
+  abbrev first : Row
+  first = line h (suc (count k))
+
+  abbrev import : Row
+  import = line (hd Tag.ModuleLine LineForm.ImportHelper 0 0) 1
+
+  abbrev named : Row
+  named = line (hd Tag.Specifier (st .helper) KnownName.Default 0) 0
+
+  abbrev rest : List ℕ
+  rest = z .records
+
+  count-law : count k < 65535
+      → countChildF (table (rowsOf (more h k r) ++ (free (suc (suc g)) ++ [])) rest) ≡ table (first ∷ (behind ++ (free 2 ++ free g))) rest
+  unfolding countChildF table rowsOf columnF setColumnF free
+  count-law l =
+      let n : capped (count k) 1 ≡ suc (count k) = cap-one (count k) l ∙ omega arith in
+      rw (n, append-nil)
+
+  back-law : takeBackF (suc (length behind) - 1) (record {
+        t = table (first ∷ (behind ++ (free 2 ++ free g))) rest;
+        read = suc (length behind) + 2;
+        written = suc (length behind);
+      })
+      ≡ gapped rest (first ∷ []) 2 (behind ++ free g)
+  unfolding gapped
+  back-law = rw (one-less (length behind)) (take-back-gapped rest (first ∷ []) 2 behind (free g))
+
+  write-law : (v : List Row) → writeImportF (st .helper) (gapped rest (first ∷ []) 2 v) .t ≡ table (first ∷ import ∷ named ∷ v) rest
+  unfolding writeImportF gapped free
+  write-law v =
+      ap (λ (b : Buf). emitF b named .t) (emit-gapped rest (first ∷ []) 1 v import (omega arith))
+      ∙ ap (λ (b : Buf). b .t) (emit-gapped rest (first ∷ import ∷ []) 0 v named (omega arith))
+
+  rows-are : table (first ∷ import ∷ named ∷ (behind ++ free g)) rest ≡ table (rowsOf (withImport (st .helper) (more h k r)) ++ (free g ++ [])) rest
+  unfolding withImport rowsOf count _&_
+  rows-are = rw append-nil
+
+  abbrev before : Tables
+  before = held (over (more h k r) st) (suc (suc g)) z
+
+  abbrev after : Tables
+  after = held (over (withImport (st .helper) (more h k r)) st) g z
+
+  few : size (more h k r) + 2 ≤ 65535 → count k < 65535
+  unfolding size
+  few fits = omega (arith, count-size k)
+
+  streamed : writeImportF (st .helper) (takeBackF (length (rowsOf (more h k r)) - 1) (record {
+        t = table (first ∷ (behind ++ (free 2 ++ free g))) rest;
+        read = length (rowsOf (more h k r)) + 2;
+        written = length (rowsOf (more h k r));
+      })) .t
+      ≡ table (first ∷ import ∷ named ∷ (behind ++ free g)) rest
+  unfolding rowsOf
+  streamed = ap (λ (b : Buf). writeImportF (st .helper) b .t) back-law ∙ write-law (behind ++ free g)
+
+  -- the rows
+  rows-law : size (more h k r) + 2 ≤ 65535 → addImportF (onRecords (before .records) (before .walk)) .records ≡ after .records
+  unfolding addImportF held walkAt visitedAt restAt storeAt
+  rows-law fits =
+      rw (cap-sum (length (rowsOf (more h k r))) 2 (omega (arith, length-rows (more h k r))), count-law (few fits))
+      (streamed ∙ rows-are)
+
+  import-size : size (withImport (st .helper) (more h k r)) ≡ size (more h k r) + 2
+  unfolding size
+  import-size = line-grows (st .helper) (more h k r) (omega arith) .0
+
+  -- and the walk
+  walk-law : size (more h k r) + 2 ≤ 65535 → addImportF (onRecords (before .records) (before .walk)) .walk ≡ after .walk
+  unfolding addImportF held walkAt visitedAt restAt opensAt withCursorF storeAt
+  walk-law fits =
+      let l = length-rows (more h k r) in
+      let m = length-rows (withImport (st .helper) (more h k r)) in
+      walk-eq (cap-sum (length (rowsOf (more h k r))) 2 (omega arith) ∙ omega (arith, import-size))
+      (omega (arith, import-size)) (omega (arith, import-size)) refl refl
+
+  -- THE LINE IS PUT where 01 puts it
+  import-law : size (more h k r) + 2 ≤ 65535 → importDue st ≡ true → completeIn before ≡ after
+  unfolding completeF importDueF importDue held walkAt storeAt
+  import-law fits due = rw due (λ i. tables (rows-law fits i) (after .scopes) (after .symbols) (walk-law fits i))
+
+-- and where it is not due nothing is put
+no-import-law : (tree : Forest) (st : Store) (g : ℕ) (z : Rest) → importDue st ≡ false
+    → completeIn (held (over tree st) g z) ≡ held (over tree st) g z
+unfolding completeF importDueF importDue held walkAt storeAt
+no-import-law tree st g z due = rw due
+
+-- ---- the end of the walk
+
+module _ (x : Figures) (z : Rest) (small : x .records ≤ 65535) where
+  by-due : (b : Bool) (h : Head) (k r : Forest) (st : Store) → importDue st ≡ b
+      → (let after = over (if b then withImport (st .helper) (more h k r) else more h k r) st in
+      size (treeAt after) ≤ x .records → completeIn (heldIn x z (over (more h k r) st)) ≡ heldIn x z after)
+  unfolding treeAt storeAt
+  by-due true h k r st due most =
+      let larger = import-size h k r st 0 z in
+      let e : x .records - size (more h k r) ≡ suc (suc (x .records - size (withImport (st .helper) (more h k r)))) = omega (arith, most) in
+      rw e (import-law h k r st _ _ (omega (arith, most)) due)
+  by-due false h k r st due most = no-import-law (more h k r) st _ _ due
+
+  complete-holds : (s : Spot) → isOver s ≡ true → 1 ≤ size (treeAt s) → size (treeAt (completed s)) ≤ x .records
+      → completeIn (heldIn x z s) ≡ heldIn x z (completed s)
+  unfolding completed isOver treeAt size
+  complete-holds (over none st) o l most = absurd (omega arith)
+  complete-holds (over (more h k r) st) o l most = by-due (importDue st) h k r st refl most
+  complete-holds (at d h k r p st) o l most = absurd (clash refl o)
+  complete-holds (leaving k h d r p st) o l most = absurd (clash refl o)
+
+-- ---- a file
+
+module _ (b : List ℕ) (f : File) (e : readFile b ≡ accepted f) (z : Rest) where
+  abbrev spot : ℕ → Spot
+  spot k = visits k (start f)
+
+  -- the tables after the visits made, with the line from the last one on
+  abbrev holds : ℕ → Tables
+  holds k = heldIn (finalFigures f) z (completed (spot k))
+
+  told : (k : ℕ) → isOverIn (holds k) ≡ isOver (spot k)
+  told k = over-told (completed (spot k)) _ _ ∙ completed-over (spot k)
+
+  visit-told : (k : ℕ) → isOverIn (heldIn (finalFigures f) z (spot k)) ≡ isOver (spot k)
+  visit-told k = over-told (spot k) _ _
+
+  over-next : (k : ℕ) → isOver (spot k) ≡ true → spot (suc k) ≡ spot k
+  unfolding visits
+  over-next k o = visits-last k (start f) ∙ over-stays 1 (spot k) o
+
+  ended : (k : ℕ) → isOver (spot k) ≡ true → visitCallF (holds k) ≡ holds (suc k)
+  ended k o = over-unchanged (holds k) (told k ∙ o) ∙ ap (λ (s : Spot). heldIn (finalFigures f) z (completed s)) (sym (over-next k o))
+
+  goes-on : (k : ℕ) (o : Bool) → isOver (spot k) ≡ false → isOver (spot (suc k)) ≡ o → visitCallF (heldIn (finalFigures f) z (spot k)) ≡ holds (suc k)
+  goes-on k true now next =
+      let s = spot (suc k) in
+      sym (call-last _ _ _ (visit-told k ∙ now) (sym (visit-holds b f e k z)) (visit-told (suc k) ∙ next) refl)
+      ∙ complete-holds (finalFigures f) z (accepted-fits b f e .0) s next (some-records b f e (suc k))
+      (omega (arith, at-spot (completed s), calls-above b f e (suc k)))
+  goes-on k false now next =
+      sym (call-goes-on _ _ (visit-told k ∙ now) (sym (visit-holds b f e k z)) (visit-told (suc k) ∙ next))
+      ∙ ap (heldIn (finalFigures f) z) (sym (not-yet (spot (suc k)) next))
+
+  call-holds : (k : ℕ) → visitCallF (holds k) ≡ holds (suc k)
+  call-holds k = go (isOver (spot k)) refl
+    where
+      go : (o : Bool) → isOver (spot k) ≡ o → visitCallF (holds k) ≡ holds (suc k)
+      go true o = ended k o
+      go false o = ap (λ (s : Spot). visitCallF (heldIn (finalFigures f) z s)) (not-yet (spot k) o) ∙ goes-on k (isOver (spot (suc k))) o refl
+
+  -- THE CALLS ON TABLES ARE 01'S: after any number of them the tables hold what 01 has after so many.
+  pub calls-hold-tables : (k : ℕ) → turns k visitCallF (heldIn (finalFigures f) z (start f)) ≡ holds k
+  unfolding turns visits
+  calls-hold-tables zero = ap (heldIn (finalFigures f) z) (sym (start-complete f))
+  calls-hold-tables (suc k) = turns-last k visitCallF _ ∙ ap visitCallF (calls-hold-tables k) ∙ call-holds k
