@@ -11,6 +11,7 @@ use Rattle.checking.specs.declared.Surveyed.{Surveyed}
 use Rattle.checking.specs.declared.Surveyed.the-variants.{Fine, Refused as RefusedSurvey}
 use Rattle.tables.specs.Loops.{until}
 use Rattle.path.specs.Path.{Tables}
+use Rattle.import_line.specs.Import.{completeIn}
 use Rattle.start.specs.Flat.{fillF}
 use Rattle.walk.specs.Visit.{visitF}
 use Rattle.walk.specs.Over.{isOverIn}
@@ -27,9 +28,9 @@ admitBy (RefusedSurvey c p) o = RefusedSurvey c p
 unfoldable pub runF : ℕ → Tables → Tables
 runF n q = until n isOverIn visitF q
 
--- the file in the tables, at the front of the output
+-- the file in the tables, with the import line if it is due, at the front of the output
 unfoldable pub finishF : Tables → List ℕ → List ℕ
-finishF q o = sets o 0 (fileBytes (q .records) (q .scopes) (q .symbols) (q .walk))
+finishF q o = let c = completeIn q in sets o 0 (fileBytes (c .records) (c .scopes) (c .symbols) (c .walk))
 
 -- by the answer of admission: the tables filled, visited, written and cleared
 unfoldable pub lowerBy : Surveyed → List ℕ → List ℕ → List ℕ → List ℕ → List ℕ → Finished

@@ -7,19 +7,21 @@ use Prim.Native.Nat.{ℕ, _*_, _≤_, min}
 use native.Mathlib.Omega.{arith}
 use lib.Dec.{leb}
 use lib.ListN.{length}
+use lib.Seq.{sets}
 use borrow.Author.Tests.{leb-true, le-leb}
 use Rattle.meaning.specs.Numbers.Tag
 use Rattle.meaning.specs.Tree.{if_then_else_, Forest, none, more}
 use Rattle.meaning.specs.File.{File, written}
-use Rattle.meaning.specs.Reading.{Outcome, accepted, refused, _>>=_, _>>_, ensure}
+use Rattle.meaning.specs.Reading.{Outcome, accepted, refused, _>>=_, _>>_, ensure, readFile}
 use Rattle.meaning.specs.Walk.{Spot, at, leaving, over, isOver, visits, start, treeAt, fileAt}
+use Rattle.meaning.specs.ImportLine.{completed}
 use Rattle.meaning.specs.Charges.{Figures, figuresAt, finalFigures}
-use Rattle.meaning.specs.Lowering.{Lent, checkOutput, admit, admitOutput, lastSpot, Written, lower}
+use Rattle.meaning.specs.Lowering.{Lent, checkOutput, admit, admitOutput, lastSpot, finalSpot, Written, lower}
 use Rattle.spec_laws.specs.Tags.{clash}
 use Rattle.charge_laws.specs.Totals.Fits.{accepted-fits}
 use Rattle.bound_laws.specs.Numbers.{TreeWithin}
 use Rattle.spec_laws.specs.Trees.{Bytes}
-use Rattle.bound_laws.specs.NumbersFit.{numbers-fit}
+use Rattle.bound_laws.specs.Completed.{calls-fit}
 use Rattle.figures.specs.Figures.{shownFigures}
 use Rattle.checking.specs.declared.Surveyed.{Surveyed}
 use Rattle.checking.specs.declared.Surveyed.the-variants.{Fine, Refused as RefusedSurvey}
@@ -28,11 +30,15 @@ use Rattle.representation.specs.Spots.Spots.{Rest, held}
 use Rattle.start.specs.Start.{lentIn}
 use Rattle.start.specs.Flat.{fillF}
 use Rattle.start.specs.Filled.{admitted, fill-law}
-use Rattle.simulation.specs.Visits.{heldIn}
+use Rattle.simulation.specs.Visits.{heldIn, at-spot}
+use Rattle.simulation.specs.Calls.{complete-holds}
 use Rattle.simulation.specs.Started.{zerosAfter, visits-after-start}
 use Rattle.writing.specs.Writing.{fileBytes}
 use Rattle.writing.specs.Stored.{sets-front}
-use Rattle.bound_laws.specs.Last.{last-spot, last-over, last-figures}
+use Rattle.bound_laws.specs.Last.{last-spot, last-over, final-over, final-figures}
+use Rattle.charge_laws.specs.Fit.Import.{some-records}
+use Rattle.path.specs.Path.{Tables}
+use Rattle.import_line.specs.Import.{completeIn}
 use Rattle.readback_laws.specs.ReadBack.{Tagged}
 use Rattle.readback_laws.specs.Length.{tagged-length}
 use Rattle.lowering.specs.Lower.{finished, zerosFor, writtenOver, lowerOf, lowerF}
@@ -59,38 +65,55 @@ module _ (b r s y : List ℕ) (f : File) (bytes : Bytes b) (e : admit b (lentIn 
   abbrev x : Figures
   x = finalFigures f
 
-  pub last-tagged : Tagged (treeAt (lastSpot f))
-  last-tagged =
-      let n = 2 * x .records in
-      rw (last-spot f) (within-tagged (treeAt (visits n (start f))) (numbers-fit b f n bytes (admitted b r s y f e .0) .0))
+  abbrev n : ℕ
+  n = 2 * x .records
+
+  read : readFile b ≡ accepted f
+  read = admitted b r s y f e .0
+
+  pub final-tagged : Tagged (treeAt (finalSpot f))
+  unfolding finalSpot
+  final-tagged = rw (last-spot f) (within-tagged (treeAt (completed (visits n (start f)))) (calls-fit b f n bytes read))
 
   -- THE LENGTH of the file written is the figure.
-  pub last-length : length (written (fileAt (lastSpot f))) ≡ x .bytes
+  pub final-length : length (written (fileAt (finalSpot f))) ≡ x .bytes
   unfolding figuresAt fileAt
-  last-length =
-      tagged-length (fileAt (lastSpot f)) last-tagged
-      ∙ omega (arith, ap (λ (v : Figures). v .bytes) (last-figures b f (admitted b r s y f e .0)))
+  final-length =
+      tagged-length (fileAt (finalSpot f)) final-tagged
+      ∙ omega (arith, ap (λ (v : Figures). v .bytes) (final-figures b f read))
 
   small : min (x .records) 65535 ≡ x .records
-  small = omega (arith, accepted-fits b f (admitted b r s y f e .0))
+  small = omega (arith, accepted-fits b f read)
 
   -- the tables after all visits
-  walked : runF (2 * x .records) (fillF b (layoutOf f) (x .records) r s y) ≡ heldIn x (zerosAfter f r s y) (lastSpot f)
+  walked : runF n (fillF b (layoutOf f) (x .records) r s y) ≡ heldIn x (zerosAfter f r s y) (lastSpot f)
   unfolding runF
   walked =
-      ap (runF (2 * x .records)) (rw small at (fill-law b r s y f e))
-      ∙ until-over (2 * x .records) _
-      ∙ visits-after-start b r s y f e (2 * x .records)
+      ap (runF n) (rw small at (fill-law b r s y f e))
+      ∙ until-over n _
+      ∙ visits-after-start b r s y f e n
       ∙ ap (heldIn x (zerosAfter f r s y)) (sym (last-spot f))
+
+  -- with the import line
+  completed-tables : completeIn (heldIn x (zerosAfter f r s y) (lastSpot f)) ≡ heldIn x (zerosAfter f r s y) (finalSpot f)
+  unfolding finalSpot
+  completed-tables =
+      complete-holds x (zerosAfter f r s y) (accepted-fits b f read .0) (lastSpot f) (last-over b f read)
+      (rw (last-spot f) (some-records b f read n))
+      (omega (arith, at-spot (finalSpot f), ap (λ (v : Figures). v .records) (final-figures b f read)))
 
   -- the file at the front of the output
   finish-is : (o : List ℕ) → x .bytes ≤ length o
       → finishF (runF (2 * min (x .records) 65535) (fillF b (layoutOf f) (min (x .records) 65535) r s y)) o
-      ≡ writtenOver (written (fileAt (lastSpot f))) o
+      ≡ writtenOver (written (fileAt (finalSpot f))) o
   unfolding finishF
   finish-is o fits =
-      rw (small, walked, over-bytes (lastSpot f) _ _ (last-over b f (admitted b r s y f e .0)) last-tagged)
-      (sets-front (written (fileAt (lastSpot f))) o (omega (arith, last-length)))
+      let file : Tables → List ℕ = λ q. fileBytes (q .records) (q .scopes) (q .symbols) (q .walk) in
+      rw small
+      (ap (λ (q : Tables). sets o 0 (file (completeIn q))) walked
+      ∙ ap (λ (q : Tables). sets o 0 (file q)) completed-tables
+      ∙ ap (sets o 0) (over-bytes (finalSpot f) _ _ (final-over b f read) final-tagged)
+      ∙ sets-front (written (fileAt (finalSpot f))) o (omega (arith, final-length)))
 
 -- ---- the answer
 
@@ -115,7 +138,7 @@ admit-output-is b lent o d e = ap (λ (d : Surveyed). admitBy d o) e ∙ by-star
 module _ (b r s y o : List ℕ) (bytes : Bytes b) where
   -- what is written of a file
   abbrev ofFile : Outcome File → Outcome Written
-  ofFile a = a >>= (λ f. accepted (record { file = written (fileAt (lastSpot f)); figures = finalFigures f }))
+  ofFile a = a >>= (λ f. accepted (record { file = written (fileAt (finalSpot f)); figures = finalFigures f }))
 
   by-output : (f : File) (c : Bool) → leb (finalFigures f .bytes) (length o) ≡ c → admit b (lentIn r s y) ≡ accepted f
       → lowerBy (surveyedOf (ensure c 10 (length o) >> accepted f)) b r s y o ≡ lowerOf (ofFile (ensure c 10 (length o) >> accepted f)) r s y o

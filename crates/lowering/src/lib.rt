@@ -71,7 +71,7 @@ pub fn run(
     w
 }
 
-// Writes the file in the tables to the front of the output, and clears the tables.
+// Once the walk is over: the import line, if it is due; the file in the tables, to the front of the output; the tables cleared.
 pub fn finish(
     walk: Walk,
     records: &mut [u16],
@@ -87,7 +87,8 @@ pub fn finish(
         ≡ finishF (tables (now (records .entry)) (now (scopes .entry)) (now (symbols .entry)) walk) (now (out .entry))
         ⌝ }
 {
-    writing::write(walk, records, scopes, symbols, out);
+    let whole = import_line::complete(records, walk);
+    writing::write(whole, records, scopes, symbols, out);
     start::clear(records);
     start::clear(scopes);
     start::clear(symbols);

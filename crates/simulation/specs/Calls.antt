@@ -149,7 +149,7 @@ module _ (x : Figures) (z : Rest) (small : x .records ≤ 65535) where
       rw e (import-law h k r st _ _ (omega (arith, most)) due)
   by-due false h k r st due most = no-import-law (more h k r) st _ _ due
 
-  complete-holds : (s : Spot) → isOver s ≡ true → 1 ≤ size (treeAt s) → size (treeAt (completed s)) ≤ x .records
+  pub complete-holds : (s : Spot) → isOver s ≡ true → 1 ≤ size (treeAt s) → size (treeAt (completed s)) ≤ x .records
       → completeIn (heldIn x z s) ≡ heldIn x z (completed s)
   unfolding completed isOver treeAt size
   complete-holds (over none st) o l most = absurd (omega arith)

@@ -1,5 +1,8 @@
 -- `lowering::finish` meets its contract. Assumes nothing.
 use Rattle.lowering.specs.Flat.{finishF}
+use mathlib.Core.Path.{ap, _∙_}
+use Prim.Native.Nat.{ℕ}
+use lib.ListN.{replicate}
 use borrow.Author.Needs.{needs}
 use Rattle.lowering.proofs.finish.Statement.{statement}
 use Rattle.lowering.proofs.finish.Tie as tie
@@ -11,12 +14,13 @@ returns c =
     let at-clear2 = at-clear3 .before .before .before .before in
     let at-clear = at-clear2 .before .before .before .before in
     let at-write = at-clear .before .before .before .before in
-    (at-clear .clear .ensures, (at-clear2 .clear2 .ensures, (at-clear3 .clear3 .ensures, at-write .write .ensures)))
+    let at-complete = at-write .before .before .before .before .before .before .before in
+    (at-clear .clear .ensures ∙ ap (λ (n : ℕ). replicate n 0) (at-complete .complete .kept .0), (at-clear2 .clear2 .ensures, (at-clear3 .clear3 .ensures, rw (← at-complete .complete .ensures) (at-write .write .ensures))))
 
 pub finish-spec : {M : Type 1} → statement M
 finish-spec =
     tie.close
     (tie.spec
-    (λ c κs. search needs) (λ c κs. search needs) (λ c κs. search needs) (λ c κs. search needs)
+    (λ c κs. search needs) (λ c κs. search needs) (λ c κs. search needs) (λ c κs. search needs) (λ c κs. search needs)
     (λ c. search needs) (λ c. search needs) (λ c. search needs) (λ c. search needs)
     returns)
