@@ -1,4 +1,5 @@
 -- Each visit adds what its lines charge.
+pub mod Names
 pub mod Rows
 pub mod Loading
 pub mod Taken

@@ -6,18 +6,19 @@ use mathlib.Core.List.{List}
 use Prim.Native.Nat.{ℕ, zero, suc}
 use Rattle.meaning.specs.File.{File}
 use Rattle.meaning.specs.Reading.{Outcome, accepted}
-use Rattle.meaning.specs.Walk.{isOver, visits, start}
+use Rattle.meaning.specs.Walk.{isOver, start}
+use Rattle.meaning.specs.ImportLine.{visitCalls}
 use Rattle.meaning.specs.Lowering.{admit}
 use Rattle.tables.specs.Loops.{turns}
 use Rattle.path.specs.Path.{Tables, tables}
 use Rattle.start.specs.Start.{lentIn, startOf, startF}
-use Rattle.walk.specs.Visit.{visitF}
+use Rattle.walk.specs.Call.{visitCallF}
 use Rattle.desk_numbers.specs.Numbers.{walkNumbers, walkIn, numbers-kept, Begins, begunNumbers, Visits, visited, visitedNumbers}
 use Rattle.claims.specs.Calls.{firstTables, afterCalls, calls-over}
 
 -- what a call of `desk_visit` leaves of what the call before it left, as its contract says
 abbrev pub deskVisit : Visits → Visits
-deskVisit v = visitedNumbers (visitF (tables (v .records) (v .scopes) (v .symbols) (walkIn (v .walk))))
+deskVisit v = visitedNumbers (visitCallF (tables (v .records) (v .scopes) (v .symbols) (walkIn (v .walk))))
 
 -- what k calls of it leave of what `desk_start` left
 abbrev pub deskCalls : ℕ → Begins → Visits
@@ -29,15 +30,15 @@ inNumbers over t = visited (cond over 1 0) (walkNumbers (t .walk)) (t .records) 
 
 -- a call on the numbers of tables
 one-call : (o : ℕ) (t : Tables)
-    → deskVisit (visited o (walkNumbers (t .walk)) (t .records) (t .scopes) (t .symbols)) ≡ visitedNumbers (visitF t)
+    → deskVisit (visited o (walkNumbers (t .walk)) (t .records) (t .scopes) (t .symbols)) ≡ visitedNumbers (visitCallF t)
 one-call o t =
-    ap (λ (w : Rattle.path.specs.declared.Walk.Walk). visitedNumbers (visitF (tables (t .records) (t .scopes) (t .symbols) w)))
+    ap (λ (w : Rattle.path.specs.declared.Walk.Walk). visitedNumbers (visitCallF (tables (t .records) (t .scopes) (t .symbols) w)))
     (numbers-kept (t .walk))
 
-more-calls : (k : ℕ) (t : Tables) → turns k deskVisit (visitedNumbers t) ≡ visitedNumbers (turns k visitF t)
+more-calls : (k : ℕ) (t : Tables) → turns k deskVisit (visitedNumbers t) ≡ visitedNumbers (turns k visitCallF t)
 unfolding turns
 more-calls zero t = refl
-more-calls (suc k) t = ap (turns k deskVisit) (one-call 0 t) ∙ more-calls k (visitF t)
+more-calls (suc k) t = ap (turns k deskVisit) (one-call 0 t) ∙ more-calls k (visitCallF t)
 
 module _ (bytes r s y : List ℕ) (f : File) (e : admit bytes (lentIn r s y) ≡ accepted f) (old : List ℕ) where
   begun-is : begunNumbers old (startF bytes r s y) ≡ begunNumbers old (startOf (accepted f) r s y)
@@ -46,10 +47,10 @@ module _ (bytes r s y : List ℕ) (f : File) (e : admit bytes (lentIn r s y) ≡
 
   -- AFTER k + 1 CALLS for C the tables and the walk's numbers are those after as many visits, and the last call answered whether 01's walk is over.
   pub desk-calls : (k : ℕ)
-      → deskCalls (suc k) (begunNumbers old (startF bytes r s y)) ≡ inNumbers (isOver (visits (suc k) (start f))) (afterCalls (suc k) f r s y)
+      → deskCalls (suc k) (begunNumbers old (startF bytes r s y)) ≡ inNumbers (isOver (visitCalls (suc k) (start f))) (afterCalls (suc k) f r s y)
   unfolding turns
   desk-calls k =
       ap (deskCalls (suc k)) begun-is
       ∙ ap (turns k deskVisit) (one-call 0 (firstTables f r s y))
-      ∙ more-calls k (visitF (firstTables f r s y))
+      ∙ more-calls k (visitCallF (firstTables f r s y))
       ∙ ap (λ (b : Bool). inNumbers b (afterCalls (suc k) f r s y)) (calls-over bytes r s y f e (suc k))

@@ -19,7 +19,7 @@ ghost use Rattle.checking.specs.Flat.{checkedOf};
 ghost use Rattle.figures.specs.Figures.{figuredOf};
 ghost use Rattle.start.specs.Start.{startF};
 ghost use Rattle.path.specs.Path.{tables};
-ghost use Rattle.walk.specs.Visit.{visitF};
+ghost use Rattle.walk.specs.Call.{visitCallF};
 ghost use Rattle.lowering.specs.Lower.{lowerF};
 ghost use Rattle.desk_numbers.specs.Answers.{fineNumbers, refusalNumbers, figuresNumbers, checkedNumbers, figuredNumbers};
 ghost use Rattle.desk_numbers.specs.Numbers.{walkIn, walkNumbers, begun, begunNumbers, visited, visitedNumbers};
@@ -137,7 +137,7 @@ pub extern "C" fn desk_start(
     }
 }
 
-// The next visit; 1 if none is left after it.
+// The next visit, and after the last one the import line if it is due; 1 if no visit is left.
 #[no_mangle]
 pub extern "C" fn desk_visit(
     records: &mut [u16],
@@ -147,10 +147,10 @@ pub extern "C" fn desk_visit(
 ) -> u8
     ensures { λ r. ⌜
         visited r (now (walk .exit)) (now (records .exit)) (now (scopes .exit)) (now (symbols .exit))
-        ≡ visitedNumbers (visitF (tables (now (records .entry)) (now (scopes .entry)) (now (symbols .entry)) (walkIn (now (walk .entry)))))
+        ≡ visitedNumbers (visitCallF (tables (now (records .entry)) (now (scopes .entry)) (now (symbols .entry)) (walkIn (now (walk .entry)))))
         ⌝ }
 {
-    let w = walk::visit(walk_in(walk), records, scopes, symbols);
+    let w = walk::visit_call(walk_in(walk), records, scopes, symbols);
     put_walk(walk, w);
     if walk::is_over(w, records) { 1 } else { 0 }
 }

@@ -26,7 +26,7 @@ fn step(
     let agrees = states::holds(told, tree, len, w, records, scopes, symbols);
     let before = s.seen;
     let seen = lines::add(before, agrees);
-    let moved = walk::visit(w, records, scopes, symbols);
+    let moved = walk::visit_call(w, records, scopes, symbols);
     Stand {
         last: at,
         next: lines::plus(end, 1),

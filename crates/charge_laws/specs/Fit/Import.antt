@@ -55,6 +55,7 @@ use Rattle.spec_laws.specs.Figures.{Same, figures-same, total-++}
 use Rattle.spec_laws.specs.Calls.{not-yet}
 use Rattle.parsing.specs.Files.{file-parsed}
 use Rattle.charge_laws.specs.VisitCharges.{visitCharges}
+use Rattle.charge_laws.specs.Growth.Names.{HelperRow}
 use Rattle.charge_laws.specs.Growth.Charged.{counts, helperLine, Visited}
 use Rattle.charge_laws.specs.Growth.Enter.{entered, left}
 use Rattle.charge_laws.specs.Counts.Enter.{proper}
@@ -66,11 +67,12 @@ use Rattle.charge_laws.specs.Fit.Final.{Agree, contexts-agree, AtMost, a
 
 -- ---- in runtime mode a helper is loaded just if a context was made
 
--- the settings are the file's, and the helper is made with the first context
+-- the settings are the file's; the helper is made with the first context, and has a row
 pub record Loaded (f : File) (st : Store) : Type 0 where
   pub mode : st .mode ≡ f .mode
   pub isModule : st .isModule ≡ f .isModule
   pub helper : eqb (st .helper) 0 ≡ not (eqb (f .mode) Mode.Runtime && not (eqb (st .contexts) 0))
+  pub row : HelperRow st
 
 -- some contexts more, u if there are any
 still : (m u : Bool) (c n : ℕ) → Agree u n
@@ -96,6 +98,7 @@ visited-loaded {f} {ls} {st = st} {e = e} v l =
       mode = v .mode ∙ l .mode;
       isModule = v .isModule ∙ l .isModule;
       helper = rw (v .helper, l .helper, l .mode, more) (still (eqb (f .mode) Mode.Runtime) (anyContext ls) (st .contexts) (total ls .contexts) (contexts-agree ls));
+      row = v .row (l .row);
     }
 
 visit-loaded : (f : File) (s : Spot) → Pending s → Loaded f (storeAt s) → Loaded f (storeAt (visit s))
@@ -121,7 +124,7 @@ start-loaded : (f : File) → Loaded f (storeAt (start f))
 unfolding start storeOf
 start-loaded f =
     rw (settled [] none (f .tree) (storeOf f) .1)
-    (record { mode = refl; isModule = refl; helper = none-yet (eqb (f .mode) Mode.Runtime) })
+    (record { mode = refl; isModule = refl; helper = none-yet (eqb (f .mode) Mode.Runtime); row = λ e. absurd (clash e refl) })
 
 -- THE HELPER after any number of visits of an accepted file's walk.
 pub accepted-loaded : (b : List ℕ) (f : File) (k : ℕ) → readFile b ≡ accepted f → Loaded f (storeAt (visits k (start f)))

@@ -12,6 +12,7 @@ use Rattle.meaning.specs.Tree.{if_then_else_, Head, Forest, one, Node, single, 
 use Rattle.meaning.specs.Scoping.{Store}
 use Rattle.meaning.specs.Charges.{Line, helper, Figures, figures, charge, _⊕_, lineCharge, total, recordBytes}
 use Rattle.meaning.specs.Due.{isContext, anyContext, missing}
+use Rattle.charge_laws.specs.Growth.Names.{HelperRow}
 use Rattle.charge_laws.specs.Growth.Rows.{Grown, oneIf, both, counted, unchanged}
 use Rattle.charge_laws.specs.Growth.Trees.{More, more-&}
 use Rattle.spec_laws.specs.Figures.{Same, total-++}
@@ -122,6 +123,7 @@ pub record Visited (ls : List Line) (f : Forest) (st : Store) (e : Node × Store
   pub mode : e .1 .mode ≡ st .mode
   pub isModule : e .1 .isModule ≡ st .isModule
   pub asRead : e .1 .asRead ≡ st .asRead
+  pub row : HelperRow st → HelperRow (e .1)
 
 helper-total : (b : Bool) → Same (total (if b then helper ∷ [] else [])) (charge 0 0 (oneIf b) 0 0)
 unfolding total lineCharge
@@ -137,4 +139,5 @@ visited {ls} {st = st} p =
       mode = p .rows .mode;
       isModule = p .rows .isModule;
       asRead = p .rows .asRead;
+      row = p .rows .row;
     }

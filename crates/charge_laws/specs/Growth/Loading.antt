@@ -1,17 +1,29 @@
 -- The runtime helper is made at its first load.
 -- Assumes nothing.
-use mathlib.Core.Path.{_≡_, refl}
+use mathlib.Core.Path.{_≡_, refl, ap}
 use mathlib.Core.Bool.{Bool, true, false, _&&_}
-use Prim.Native.Nat.{ℕ}
+use Prim.Native.Nat.{ℕ, _≤_}
 use native.Mathlib.Omega.{arith}
 use lib.ListN.{length, length-append}
 use lib.Dec.{eqb, eqb·suc-zero}
+use Rattle.meaning.specs.Numbers.KnownName
+use Rattle.meaning.specs.Numbers.SymbolFlag
 use Rattle.meaning.specs.Tree.{if_then_else_, Forest, size}
-use Rattle.meaning.specs.File.{fieldBytes, numbersOf}
-use Rattle.meaning.specs.Scoping.{Store, createSymbol}
+use Rattle.meaning.specs.File.{Symbol, symbolRow, fieldBytes, numbersOf}
+use Rattle.meaning.specs.Scoping.{Store, symbolIn, createSymbol}
 use Rattle.meaning.specs.HelperLoader.{makeHelper, loadRuntime, loadExternal, helperLoad}
 use Rattle.meaning.specs.Charges.{recordBytes}
+use Rattle.charge_laws.specs.Growth.Names.{getD-last}
 use Rattle.charge_laws.specs.Growth.Rows.{Grown}
+
+-- its row
+made-row : (st : Store)
+    → (let st′ = makeHelper st .1 in
+    (st′ .helper ≤ length (st′ .symbols)) × (symbolIn st′ (st′ .helper) .name ≡ KnownName.UsingCtx) × (symbolIn st′ (st′ .helper) .made ≡ 1))
+unfolding makeHelper createSymbol
+made-row st =
+    let e = getD-last (st .symbols) (symbolRow KnownName.UsingCtx (if eqb (st .isModule) 1 then SymbolFlag.Import else SymbolFlag.FunctionScoped) 1 1) in
+    (simp length-append (omega arith), ap (λ (y : Symbol). y .name) e, ap (λ (y : Symbol). y .made) e)
 
 -- at a Load, by the tests of mode and helper
 runtime-grows : (b : Bool) (st : Store) → eqb (st .mode) 0 ≡ true → eqb (st .helper) 0 ≡ b
@@ -26,6 +38,7 @@ runtime-grows true st m e =
       mode = refl;
       isModule = refl;
       asRead = refl;
+      row = λ r d. made-row st;
     }
 runtime-grows false st m e =
     record {
@@ -36,6 +49,7 @@ runtime-grows false st m e =
       mode = refl;
       isModule = refl;
       asRead = refl;
+      row = λ r. r;
     }
 
 and-true : (h : Bool) → h ≡ (h && true)
@@ -55,6 +69,7 @@ load-if false cur st m =
       mode = refl;
       isModule = refl;
       asRead = refl;
+      row = λ r. r;
     }
 
 pub load-grows : (cur : ℕ) (st : Store) → Grown true 0 0 0 st ((helperLoad cur st) .1)

@@ -34,6 +34,7 @@ use Rattle.meaning.specs.Charges.{
   recordBytes,
 }
 use Rattle.meaning.specs.Due.{isContext, anyContext}
+use Rattle.charge_laws.specs.Growth.Names.{new-names}
 use Rattle.charge_laws.specs.Growth.Rows.{Grown, grown, both, child-scope, symbol-made}
 use Rattle.charge_laws.specs.Growth.Loading.{load-grows, load-sized}
 use Rattle.charge_laws.specs.Growth.Trees.{More, list-taken}
@@ -42,7 +43,7 @@ use Rattle.charge_laws.specs.Growth.Charged.{Pays, pays}
 
 pub context-grows : (scope : ℕ) (st : Store) → Grown false 0 1 1 st ((makeContext scope st) .1)
 unfolding makeContext createSymbol
-context-grows scope st = grown (omega arith, simp length-append, omega arith, refl, refl, refl, refl)
+context-grows scope st = grown (omega arith, simp length-append, omega arith, refl, refl, refl, refl, new-names (st .symbols) _)
 
 -- the context's declaration before a list
 pub declared : (ctx cur : ℕ) (st : Store) (f : Forest) → More 4 28 f (declaration Kind.Var ctx ((helperLoad cur st) .0) & f)

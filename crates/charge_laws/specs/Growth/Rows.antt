@@ -13,6 +13,8 @@ use Rattle.meaning.specs.Grammar.{scopeOf}
 use Rattle.meaning.specs.Scoping.{
   Store,
   Change,
+  inScope,
+  withFlags,
   createChildScope,
   changeScopeParent,
   setScopeFlags,
@@ -27,11 +29,13 @@ use Rattle.meaning.specs.Scoping.{
 }
 use Rattle.spec_laws.specs.Bools.{and-false}
 use Rattle.spec_laws.specs.Trees.{length-setRow}
+use Rattle.charge_laws.specs.Growth.Names.{NamesKept, same-names, new-names, row-names, HelperRow, row-kept}
 
 abbrev pub oneIf : Bool → ℕ
 oneIf b = if b then 1 else 0
 
--- So many scopes, symbols and contexts are added, and the runtime helper if one is `used` and missing; the rest stays.
+-- So many scopes, symbols and contexts are added, and the runtime helper if one is `used` and missing; the rest stays, and the helper's row
+-- keeps its name.
 pub record Grown (used : Bool) (s y c : ℕ) (st st′ : Store) : Type 0 where
   pub scopes : length (st′ .scopes) ≡ length (st .scopes) + s
   pub symbols : length (st′ .symbols) ≡ length (st .symbols) + (y + oneIf (missing st && used))
@@ -40,13 +44,14 @@ pub record Grown (used : Bool) (s y c : ℕ) (st st′ : Store) : Type 0 where
   pub mode : st′ .mode ≡ st .mode
   pub isModule : st′ .isModule ≡ st .isModule
   pub asRead : st′ .asRead ≡ st .asRead
+  pub row : HelperRow st → HelperRow st′
 
 -- a change that uses no helper
 abbrev pub Adds : ℕ → ℕ → ℕ → Store → Store → Type 0
 Adds s y c st st′ =
     (length (st′ .scopes) ≡ length (st .scopes) + s) × (length (st′ .symbols) ≡ length (st .symbols) + y)
     × (st′ .contexts ≡ st .contexts + c) × (st′ .helper ≡ st .helper) × (st′ .mode ≡ st .mode) × (st′ .isModule ≡ st .isModule)
-    × (st′ .asRead ≡ st .asRead)
+    × (st′ .asRead ≡ st .asRead) × NamesKept (st .symbols) (st′ .symbols)
 
 not-used : (m h : Bool) → (h && not (m && false)) ≡ h
 not-used true true = refl
@@ -55,7 +60,7 @@ not-used false true = refl
 not-used false false = refl
 
 pub grown : {s y c : ℕ} {st st′ : Store} → Adds s y c st st′ → Grown false s y c st st′
-grown {st = st} e =
+grown {st = st} {st′ = st′} e =
     record {
       scopes = e .0;
       symbols = rw (and-false (missing st)) (omega (arith, e .1));
@@ -64,6 +69,7 @@ grown {st = st} e =
       mode = e .4;
       isModule = e .5;
       asRead = e .6;
+      row = row-kept st st′ (e .3) (omega (arith, e .1)) (e .7);
     }
 
 -- ---- one after another
@@ -99,6 +105,7 @@ both {u} {v} {a = a} {b = b} p q =
       mode = q .mode ∙ p .mode;
       isModule = q .isModule ∙ p .isModule;
       asRead = q .asRead ∙ p .asRead;
+      row = λ r. q .row (p .row r);
     }
 
 -- the same numbers, counted otherwise
@@ -113,10 +120,11 @@ counted p e =
       mode = p .mode;
       isModule = p .isModule;
       asRead = p .asRead;
+      row = p .row;
     }
 
 pub unchanged : (st : Store) → Grown false 0 0 0 st st
-unchanged st = grown (omega arith, omega arith, omega arith, refl, refl, refl, refl)
+unchanged st = grown (omega arith, omega arith, omega arith, refl, refl, refl, refl, same-names (st .symbols))
 
 -- one of two changes
 pub either : {A : Type 0} {u : Bool} {s y c : ℕ} (b : Bool) (m n : Change A) (st : Store)
@@ -128,15 +136,15 @@ either false m n st p q = q
 
 pub child-scope : (parent flags : ℕ) (st : Store) → Grown false 1 0 0 st ((createChildScope parent flags st) .1)
 unfolding createChildScope
-child-scope parent flags st = grown (simp length-append, omega arith, omega arith, refl, refl, refl, refl)
+child-scope parent flags st = grown (simp length-append, omega arith, omega arith, refl, refl, refl, refl, same-names (st .symbols))
 
 pub scope-parent : (s parent : ℕ) (st : Store) → Grown false 0 0 0 st ((changeScopeParent s parent st) .1)
 unfolding changeScopeParent
-scope-parent s parent st = grown (simp length-setRow (omega arith), omega arith, omega arith, refl, refl, refl, refl)
+scope-parent s parent st = grown (simp length-setRow (omega arith), omega arith, omega arith, refl, refl, refl, refl, same-names (st .symbols))
 
 pub scope-flags : (s flags : ℕ) (st : Store) → Grown false 0 0 0 st ((setScopeFlags s flags st) .1)
 unfolding setScopeFlags
-scope-flags s flags st = grown (simp length-setRow (omega arith), omega arith, omega arith, refl, refl, refl, refl)
+scope-flags s flags st = grown (simp length-setRow (omega arith), omega arith, omega arith, refl, refl, refl, refl, same-names (st .symbols))
 
 pub scope-between : (s flags : ℕ) (st : Store) → Grown false 1 0 0 st ((insertScopeBetween s flags st) .1)
 unfolding insertScopeBetween
@@ -160,15 +168,17 @@ scope-below s f st = both (child-scope s 0 st) (scopes-moved f _ _)
 
 pub symbol-made : (name flags scope made : ℕ) (st : Store) → Grown false 0 1 0 st ((createSymbol name flags scope made st) .1)
 unfolding createSymbol
-symbol-made name flags scope made st = grown (omega arith, simp length-append, omega arith, refl, refl, refl, refl)
+symbol-made name flags scope made st = grown (omega arith, simp length-append, omega arith, refl, refl, refl, refl, new-names (st .symbols) _)
 
 pub binding-moved : (y scope : ℕ) (st : Store) → Grown false 0 0 0 st ((moveBinding y scope st) .1)
 unfolding moveBinding
-binding-moved y scope st = grown (omega arith, simp length-setRow (omega arith), omega arith, refl, refl, refl, refl)
+binding-moved y scope st =
+    grown (omega arith, simp length-setRow (omega arith), omega arith, refl, refl, refl, refl, row-names (λ x. inScope x scope) (λ x. (refl, refl)) (st .symbols) y)
 
 pub symbol-flags : (y flags : ℕ) (st : Store) → Grown false 0 0 0 st ((setSymbolFlags y flags st) .1)
 unfolding setSymbolFlags
-symbol-flags y flags st = grown (omega arith, simp length-setRow (omega arith), omega arith, refl, refl, refl, refl)
+symbol-flags y flags st =
+    grown (omega arith, simp length-setRow (omega arith), omega arith, refl, refl, refl, refl, row-names (λ x. withFlags x flags) (λ x. (refl, refl)) (st .symbols) y)
 
 pub bindings-moved : (ys : List ℕ) (scope : ℕ) (st : Store) → Grown false 0 0 0 st ((moveBindings ys scope st) .1)
 unfolding moveBindings

@@ -9,7 +9,7 @@ returns c =
     let at-put-walk = at-is-over .before .before in
     let at-visit = at-put-walk .before .before .before .before .before .before .before .before in
     let at-walk-in = at-visit .before .before .before .before in
-    rw (← at-walk-in .walk-in .ensures, ← at-visit .visit .ensures, at-put-walk .put-walk .ensures, ← at-is-over .is-over .ensures, c .if1 .taken)
+    rw (← at-walk-in .walk-in .ensures, ← at-visit .visit-call .ensures, at-put-walk .put-walk .ensures, ← at-is-over .is-over .ensures, c .if1 .taken)
 
 returns-2 : tie.Need-returns-2
 returns-2 c =
@@ -17,7 +17,7 @@ returns-2 c =
     let at-put-walk = at-is-over .before .before in
     let at-visit = at-put-walk .before .before .before .before .before .before .before .before in
     let at-walk-in = at-visit .before .before .before .before in
-    rw (← at-walk-in .walk-in .ensures, ← at-visit .visit .ensures, at-put-walk .put-walk .ensures, ← at-is-over .is-over .ensures, c .if1 .left)
+    rw (← at-walk-in .walk-in .ensures, ← at-visit .visit-call .ensures, at-put-walk .put-walk .ensures, ← at-is-over .is-over .ensures, c .if1 .left)
 
 pub desk-visit-spec : {M : Type 1} → statement M
 desk-visit-spec =
