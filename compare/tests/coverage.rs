@@ -297,6 +297,7 @@ fn wanted() -> Vec<String> {
         "program with line of form 1",
         "program with line of form 2",
         "program with line of form 3",
+        "program with line of form 4",
     ];
     let contexts = contexts.into_iter().map(|what| format!("context: {what}"));
     let others = ["for of: pattern", "depth 64", "depth 56"].map(String::from);

@@ -111,6 +111,7 @@ fn lowering() {
     lowerings("lower.txt");
     lowerings("depth.txt");
     lowerings("letters.txt");
+    lowerings("imports.txt");
 }
 
 fn walks(name: &str) {
@@ -159,4 +160,5 @@ fn walks(name: &str) {
 fn visits() {
     walks("visits.txt");
     walks("letter_visits.txt");
+    walks("import_visits.txt");
 }

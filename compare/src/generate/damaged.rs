@@ -238,7 +238,7 @@ fn rules(tag: u8) -> &'static [(usize, Rule)] {
         tag::TRY => &[(0, Rule::UpTo(3))],
         tag::CATCH => &[(2, Rule::Any)],
         tag::FUNCTION | tag::CLASS => &[(0, Rule::UpTo(1)), (2, Rule::SymbolOr0)],
-        tag::MODULE_LINE => &[(0, Rule::UpTo(3)), (1, Rule::Any)],
+        tag::MODULE_LINE => &[(0, Rule::UpTo(4)), (1, Rule::Any)],
         tag::SPECIFIER => &[(0, Rule::Symbol), (1, Rule::Name)],
         tag::READ | tag::NAME => &[(0, Rule::Symbol)],
         tag::CALL => &[(0, Rule::UpTo(1)), (1, Rule::Symbol)],

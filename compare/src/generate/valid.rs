@@ -629,9 +629,10 @@ impl Generator<'_> {
     }
 
     fn module_line(&mut self, at: At) {
-        let (form, token) = (self.rng.between(0, 3), self.token());
+        let (form, token) = (self.rng.between(0, 4), self.token());
         let line = self.builder.open(tag::MODULE_LINE, &[form, token]);
-        let count = self.rng.between(0, 3);
+        // The helper's import has one Specifier.
+        let count = if form == 4 { 1 } else { self.rng.between(0, 3) };
         for _ in 0..count {
             let (symbol, name) = (self.symbol(at), self.name());
             self.builder.leaf(tag::SPECIFIER, &[symbol, name]);

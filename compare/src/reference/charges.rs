@@ -101,6 +101,7 @@ const EXPORTED_VARIABLES: Charge = Charge::new(
 );
 const EXPORTED_NAME: Charge = Charge::new(1, 0, 0, &[tag::SPECIFIER], None);
 const RUNTIME_HELPER: Charge = Charge::new(0, 0, 1, &[], None);
+const IMPORT_LINE: Charge = Charge::new(2, 0, 0, &[tag::MODULE_LINE, tag::SPECIFIER], None);
 
 /// The names that scopes bind in the rows as read.
 #[derive(Default)]
@@ -185,6 +186,9 @@ pub fn figures(tree: &Tree, read: &ReadBindings, length: usize) -> Figures {
     }
     if bill.figures.contexts > 0 && tree.settings.mode == mode::RUNTIME {
         bill.add(RUNTIME_HELPER, 1);
+        if tree.settings.module == 1 {
+            bill.add(IMPORT_LINE, 1);
+        }
     }
     bill.figures
 }

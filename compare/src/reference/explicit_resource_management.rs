@@ -5,7 +5,7 @@ use super::helper_loader::HelperLoader;
 use super::parse::Tree;
 use super::scoping::{name, scope_flags, symbol_flags, Scoping, ROOT_SCOPE};
 use super::tag;
-use super::tree::{kind, List, Mark, NodeId, Nodes};
+use super::tree::{kind, line_form, List, Mark, NodeId, Nodes};
 
 /// Where the walk stands.
 #[derive(Clone, Copy)]
@@ -28,6 +28,8 @@ pub struct ExplicitResourceManagement {
     pub helper_loader: HelperLoader,
     /// How many contexts were made.
     pub contexts: u64,
+    /// The helper is to be imported when the walk is over.
+    imports_helper: bool,
     read: ReadBindings,
 }
 
@@ -38,6 +40,7 @@ impl ExplicitResourceManagement {
             nodes: tree.nodes,
             scoping: tree.scoping,
             contexts: 0,
+            imports_helper: false,
             read,
         }
     }
@@ -416,7 +419,23 @@ impl ExplicitResourceManagement {
     fn context_declaration(&mut self, using_ctx: u16, current_scope: u16) -> NodeId {
         let loader = &mut self.helper_loader;
         let load = loader.helper_load(&mut self.nodes, &mut self.scoping, current_scope);
-        self.variable_declaration(kind::VAR, using_ctx, load)
+        if load.first {
+            self.imports_helper = loader.is_imported();
+        }
+        self.variable_declaration(kind::VAR, using_ctx, load.node)
+    }
+
+    /// `import { default as helper }` before all that stands in Program; how many records were made.
+    pub fn add_import(&mut self) -> usize {
+        if !std::mem::take(&mut self.imports_helper) {
+            return 0;
+        }
+        let numbers = [self.helper_loader.loaded, name::DEFAULT, 0, 0];
+        let specifier = self.nodes.make(tag::SPECIFIER, numbers, &[]);
+        let numbers = [line_form::IMPORT_HELPER, 0, 1, 0];
+        let line = self.nodes.make(tag::MODULE_LINE, numbers, &[specifier]);
+        self.nodes.insert_first(NodeId::PROGRAM, line);
+        2
     }
 
     fn variable_declaration(&mut self, kind: u16, symbol: u16, init: NodeId) -> NodeId {

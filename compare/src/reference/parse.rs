@@ -2,7 +2,7 @@
 
 use super::scoping::{scope_flags, symbol_flags, Scoping};
 use super::tag::{self, Tags};
-use super::tree::{kind, Mark, Node, NodeId, Nodes};
+use super::tree::{kind, line_form, Mark, Node, NodeId, Nodes};
 use super::Refusal;
 
 const MAX_FILE: usize = 65_535;
@@ -314,7 +314,7 @@ impl Parser<'_> {
                 let may_lack_symbol = a == 1 || place == Place::DefaultExport;
                 place.takes_form(a) && self.is_symbol_or_0(c) && (c != 0 || may_lack_symbol)
             }
-            tag::MODULE_LINE => a <= 3,
+            tag::MODULE_LINE => a <= 3 || (a == line_form::IMPORT_HELPER && c == 1),
             tag::DEFAULT_EXPORT | tag::EXPORTED_DECLARATION => a == 1,
             tag::SPECIFIER => self.is_symbol(a) && b >= 1,
             tag::READ | tag::NAME => self.is_symbol(a),

@@ -84,6 +84,11 @@ pub mod kind {
     pub const AWAIT_USING: u16 = 4;
 }
 
+/// The form of a module line that the pass makes at the end.
+pub mod line_form {
+    pub const IMPORT_HELPER: u16 = 4;
+}
+
 #[derive(Default)]
 pub struct Nodes(Vec<Node>);
 

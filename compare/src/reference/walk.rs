@@ -71,12 +71,15 @@ impl Walk {
         })
     }
 
-    /// Makes the next visit, if one is left.
+    /// Makes the next visit, if one is left; after the last one the helper is imported, if it has to be.
     pub fn visit(&mut self) {
         match self.next {
             Next::Enter(id) => self.enter(id),
             Next::Leave => self.leave(),
-            Next::Nothing => {}
+            Next::Nothing => return,
+        }
+        if self.is_over() {
+            self.visited += self.pass.add_import();
         }
     }
 

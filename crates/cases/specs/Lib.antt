@@ -1,4 +1,5 @@
 -- The cases of 01 and of the requests, computed.
 pub mod Table
 pub mod TableDepth
+pub mod TableImport
 pub mod TableVisits

@@ -22,7 +22,7 @@ pub record Case : Type 0 where
 abbrev pub case : Lent → ℕ → List ℕ → Outcome Written → Case
 case rows output input answer = record { rows = rows; output = output; input = input; answer = answer }
 
-abbrev lend : ℕ → ℕ → ℕ → Lent
+abbrev pub lend : ℕ → ℕ → ℕ → Lent
 lend r s y = record { records = r; scopes = s; symbols = y }
 
 -- what `desklower` lends
@@ -30,10 +30,10 @@ abbrev pub desk : Lent
 desk = lend 4096 1024 1024
 
 -- records, scopes, symbols, contexts and length, and the file written
-abbrev gives : ℕ → ℕ → ℕ → ℕ → ℕ → String → Outcome Written
+abbrev pub gives : ℕ → ℕ → ℕ → ℕ → ℕ → String → Outcome Written
 gives r s y c b output = accepted (record { file = bytes output; figures = figures r s y c b })
 
-abbrev unchanged : List ℕ → ℕ → ℕ → ℕ → Outcome Written
+abbrev pub unchanged : List ℕ → ℕ → ℕ → ℕ → Outcome Written
 unchanged input r s y = accepted (record { file = input; figures = figures r s y 0 (length input) })
 
 abbrev wholeCase : List ℕ
@@ -67,11 +67,11 @@ table =
     wholeCase
     (refused 9 0) ∷
     -- ---- `helper_load`.
-    -- two contexts and one helper symbol: runtime, module
+    -- two contexts, one helper symbol and one import: runtime, module
     case desk 65536
     (bytes "40:0,1 41:0,17 41:1,1 41:1,1 42:10,6,2,0 42:11,6,3,0 1:1,2 2:2,1 5:3,1 6:0,1,2 26:1 24:7,0 2:3,1 5:4,1 6:0,1,1 26:2")
-    (gives 33 9 7 2 392
-    "40:0,1 41:0,17 41:1,1 41:1,1 41:1,3 41:4,1 41:1,1 41:1,3 41:7,1 41:1,1 42:10,6,2,0 42:11,6,3,0 42:5,1,1,1 42:5,32,1,1 42:2,17,5,0 42:5,1,1,1 42:2,17,8,0 1:1,2 11:3,3 2:2,2 5:0,1 6:0,1,2 26:3 28:0,4 5:2,1 6:0,1,2 26:1 27:0,3,1 24:7,0 12:4,1,0,2 26:5 2:5,1 29:0,3,5 2:6,1 29:1,3,0 11:3,3 2:3,2 5:0,1 6:0,1,2 26:6 28:0,4 5:2,1 6:0,1,1 26:2 12:7,1,0,2 26:7 2:8,1 29:0,6,7 2:9,1 29:2,6,0") ∷
+    (gives 35 9 7 2 408
+    "40:0,1 41:0,17 41:1,1 41:1,1 41:1,3 41:4,1 41:1,1 41:1,3 41:7,1 41:1,1 42:10,6,2,0 42:11,6,3,0 42:5,1,1,1 42:5,32,1,1 42:2,17,5,0 42:5,1,1,1 42:2,17,8,0 1:1,3 17:4,0,1 20:4,3 11:3,3 2:2,2 5:0,1 6:0,1,2 26:3 28:0,4 5:2,1 6:0,1,2 26:1 27:0,3,1 24:7,0 12:4,1,0,2 26:5 2:5,1 29:0,3,5 2:6,1 29:1,3,0 11:3,3 2:3,2 5:0,1 6:0,1,2 26:6 28:0,4 5:2,1 6:0,1,1 26:2 12:7,1,0,2 26:7 2:8,1 29:0,6,7 2:9,1 29:2,6,0") ∷
     -- the same in a script
     case desk 65536
     (bytes "40:0,0 41:0,16 41:1,0 41:1,0 42:10,6,2,0 42:11,6,3,0 1:1,2 2:2,1 5:3,1 6:0,1,2 26:1 24:7,0 2:3,1 5:4,1 6:0,1,1 26:2")
@@ -241,8 +241,8 @@ table =
     -- runtime: the helper comes with a kept function's context
     case desk 65536
     (bytes "40:0,1 41:0,17 41:1,9 42:10,6,1,0 42:11,64,1,0 42:12,6,2,0 1:1,2 5:3,1 6:0,1,2 26:1 24:7,0 13:0,2,2,2 24:1,0 14:1 5:3,1 6:0,1,2 26:3 24:8,0")
-    (gives 38 10 8 2 449
-    "40:0,1 41:0,17 41:1,9 41:1,1 41:2,1 41:2,3 41:5,1 41:2,1 41:1,3 41:8,1 41:1,1 42:10,1,1,0 42:11,64,1,0 42:12,6,4,0 42:5,1,2,1 42:5,32,1,1 42:2,17,6,0 42:5,1,1,1 42:2,17,9,0 1:1,2 13:0,2,2,2 24:1,0 14:1 11:3,3 2:4,2 5:0,1 6:0,1,2 26:4 28:0,5 5:2,1 6:0,1,2 26:3 27:0,4,1 24:8,0 12:5,1,0,2 26:6 2:6,1 29:0,4,6 2:7,1 29:1,4,0 11:3,3 2:3,2 5:0,1 6:0,1,2 26:7 28:0,5 5:0,1 6:0,1,2 26:1 27:0,7,1 24:7,0 12:8,1,0,2 26:8 2:9,1 29:0,7,8 2:10,1 29:1,7,0") ∷
+    (gives 40 10 8 2 465
+    "40:0,1 41:0,17 41:1,9 41:1,1 41:2,1 41:2,3 41:5,1 41:2,1 41:1,3 41:8,1 41:1,1 42:10,1,1,0 42:11,64,1,0 42:12,6,4,0 42:5,1,2,1 42:5,32,1,1 42:2,17,6,0 42:5,1,1,1 42:2,17,9,0 1:1,3 17:4,0,1 20:5,3 13:0,2,2,2 24:1,0 14:1 11:3,3 2:4,2 5:0,1 6:0,1,2 26:4 28:0,5 5:2,1 6:0,1,2 26:3 27:0,4,1 24:8,0 12:5,1,0,2 26:6 2:6,1 29:0,4,6 2:7,1 29:1,4,0 11:3,3 2:3,2 5:0,1 6:0,1,2 26:7 28:0,5 5:0,1 6:0,1,2 26:1 27:0,7,1 24:7,0 12:8,1,0,2 26:8 2:9,1 29:0,7,8 2:10,1 29:1,7,0") ∷
     -- ---- Bodies, static blocks and try parts.
     -- a Body: what its scope binds block-scoped or as a class moves; of two rows of a name the last is bound
     case desk 65536

@@ -1,42 +1,50 @@
 -- WHAT IS CLAIMED, demand by demand, and then for each request of document 02.
 --
--- The public functions are `checking::check`, `checking::figures`, `start::start`, `walk::visit` (with `walk::is_over` and `walk::visit_some`)
--- and `lowering::lower`; crate desk has the calls for C.
+-- The public functions are `checking::check`, `checking::figures`, `start::start`, `walk::visit_call` (with `walk::is_over` and
+-- `walk::visit_some`) and `lowering::lower`; crate desk has the calls for C.
 -- None has a `requires`, and each ensures an equation for all inputs, the lent memory included:
---   check    answers `checkedOf (readFile file)`,
---   figures  answers `figuredOf (figuresOf file)`,
---   start    answers and leaves `startF file records scopes symbols`,
---   visit    leaves `visitF` of the tables and the walk that it is handed,
---   is_over  answers `isOverF` of them (`isOverIn`), and visit_some answers and leaves `visitSomeF`,
---   lower    answers and leaves `lowerF file records scopes symbols out`.
--- The claims below are about these same definitions. `readFile`, `figuresOf`, `admit`, `visits`, `dues`, `finalFigures`, `lastSpot`, `written`
--- and `lower` are document 01 (crate meaning); `visitCharges` tells the charges without the walk. A list of numbers stands for a lent slice;
--- `lentIn r s y` are the rows of tables.
+--   check       answers `checkedOf (readFile file)`,
+--   figures     answers `figuredOf (figuresOf file)`,
+--   start       answers and leaves `startF file records scopes symbols`,
+--   visit_call  leaves `visitCallF` of the tables and the walk that it is handed: the next visit, and the import line after the last,
+--   is_over     answers `isOverF` of them (`isOverIn`),
+--   visit_some  answers and leaves `visitSomeF`: visits alone (`visitF`), for a loop over many,
+--   lower       answers and leaves `lowerF file records scopes symbols out`.
+-- The claims below are about these same definitions. `readFile`, `figuresOf`, `admit`, `visits`, `visitCalls`, `dues`, `importDues`,
+-- `finalFigures`, `finalSpot`, `written` and `lower` are documents 01 and 02 (crate meaning); `visitCharges` tells the charges without the walk.
+-- A list of numbers stands for a lent slice; `lentIn r s y` are the rows of tables.
 -- Assumes nothing.
-use mathlib.Core.Path.{_≡_, sym, ap, _∙_}
-use mathlib.Core.Bool.{true, false}
-use mathlib.Core.List.{List, map}
+use mathlib.Core.Path.{_≡_, refl, ap, _∙_}
+use mathlib.Core.Bool.{true, false, _||_, _&&_}
+use mathlib.Core.List.{List, [], _++_, map}
 use mathlib.Core.Logic.{_⊎_, ⊎-map}
 use Prim.Native.Nat.{ℕ, suc, _+_, _*_, _≤_, _<_}
 use lib.Dec.{eqb, leb}
 use lib.ListN.{length, take, getD}
 use Rattle.meaning.specs.Numbers.Tag
-use Rattle.meaning.specs.Tree.{size, flatten}
+use Rattle.meaning.specs.Tree.{if_then_else_, Forest, none, size, flatten}
 use Rattle.meaning.specs.File.{File, numbersOf, written}
 use Rattle.meaning.specs.Reading.{Outcome, accepted, refused, readFile}
+use Rattle.meaning.specs.Grammar.{moduleLineRight, right}
+use Rattle.meaning.specs.Scoping.{Store}
+use Rattle.meaning.specs.HelperLoader.{isFirst}
+use Rattle.meaning.specs.Statements.{makeContext}
 use Rattle.meaning.specs.Contexts.{transformSwitchStatement}
+use Rattle.meaning.specs.Program.{programItems}
 use Rattle.meaning.specs.Walk.{isOver, visits, start, treeAt, storeAt, fileAt}
+use Rattle.meaning.specs.ImportLine.{completed, visitCalls}
 use Rattle.meaning.specs.Charges.{_⊕_, total, figuresIn, finalFigures}
-use Rattle.meaning.specs.Due.{dues}
+use Rattle.meaning.specs.Due.{dues, importDues}
+use Rattle.meaning.specs.declared.Place.{Place}
 use Rattle.charge_laws.specs.VisitCharges.{visitCharges}
-use Rattle.meaning.specs.Lowering.{Lent, Written, checkFile, figuresOf, admit, lastSpot, lower}
+use Rattle.meaning.specs.Lowering.{Lent, Written, checkFile, figuresOf, admit, finalSpot, lower}
 use Rattle.cases.specs.Table.{table, table-holds}
 use Rattle.cases.specs.TableDepth.{depthTable, depth-holds}
 use Rattle.charge_laws.specs.Counts.Figures.{joined}
 use Rattle.charge_laws.specs.Fit.Accepted.{accepted-dues}
-use Rattle.charge_laws.specs.Fit.Ends.{walk-ends}
-use Rattle.charge_laws.specs.Fit.Final.{charges-final}
+use Rattle.charge_laws.specs.Fit.Import.{imports-are}
 use Rattle.spec_laws.specs.Trees.{Bytes}
+use Rattle.spec_laws.specs.Calls.{calls-are}
 use Rattle.figures.specs.Figures.{shownFigures, figuredOf}
 use Rattle.checking.specs.Flat.{checkedOf}
 use Rattle.tables.specs.Loops.{turns}
@@ -44,16 +52,19 @@ use Rattle.path.specs.Path.{Tables}
 use Rattle.start.specs.declared.Started.the-variants.{Refused as NotStarted}
 use Rattle.start.specs.Start.{begun, lentIn, ready, startOf, startF}
 use Rattle.start.specs.Filled.{admitted}
+use Rattle.scoping.specs.Changes.{SymbolRows}
+use Rattle.helper_loader.specs.Load.{helperLoadF}
 use Rattle.walk.specs.Visit.{visitF}
-use Rattle.walk.specs.Over.{isOverIn, over-stays}
+use Rattle.walk.specs.Over.{isOverIn}
+use Rattle.walk.specs.Call.{visitCallF, over-unchanged}
 use Rattle.walk.specs.Plain.{visitSomeF, some-visits}
 use Rattle.hint_laws.specs.Hints.{asked, given}
-use Rattle.bound_laws.specs.Last.{last-spot, last-is}
+use Rattle.bound_laws.specs.Last.{last-spot}
 use Rattle.readback_laws.specs.ReadBack.{fieldsOf, fieldCount, isRecord}
 use Rattle.fields.specs.Lengths.{lengths, noTags, lengths-count, lengths-right, lengths-none}
 use Rattle.readback_laws.specs.Decoded.{treeIn}
 use Rattle.readback_laws.specs.Back.{Childless, hints-back}
-use Rattle.readback_laws.specs.Childless.{accepted-childless}
+use Rattle.readback_laws.specs.Childless.{calls-childless}
 use Rattle.readback_laws.specs.Written.{file-written}
 use Rattle.readback_laws.specs.Loads.Written.{isLoad, loads-written}
 use Rattle.representation.specs.Shown.Shown.{recordsIn, scopesIn, symbolsIn}
@@ -64,7 +75,7 @@ use Rattle.claims.specs.Refusals.Small.{Short, firstShort, small-refused
 use Rattle.lowering.specs.declared.Lowered.{Lowered}
 use Rattle.lowering.specs.declared.Lowered.the-variants.{Written as WrittenIn, Refused}
 use Rattle.lowering.specs.Lower.{finished, zerosFor, writtenOver, lowerOf, lowerF}
-use Rattle.lowering.specs.Law.{last-tagged, last-length}
+use Rattle.lowering.specs.Law.{final-tagged, final-length}
 use Rattle.desk_numbers.specs.Answers.{
   checkedNumbers,
   figuredNumbers,
@@ -79,15 +90,20 @@ use Rattle.lowering.specs.Answers.{loweredNumbers, lowered-numbers}
 use Rattle.desk_numbers.specs.Numbers.{walkNumbers, walkIn, numbers-kept, begunNumbers}
 use Rattle.path.specs.declared.Walk.{Walk}
 use Rattle.claims.specs.Desk.{deskCalls, inNumbers, desk-calls}
-use Rattle.claims.specs.Hinting.{last-hints}
+use Rattle.claims.specs.Hinting.{final-hints}
+use Rattle.claims.specs.Import.{ImportLine, import-stands, importsIn, items-imports, load-first, first-context}
 use Rattle.claims.specs.Calls.{
   firstTables,
   afterCalls,
   chargesOf,
+  importCharge,
+  final-charged,
   calls-tree,
   calls-scopes,
   calls-symbols,
   calls-over,
+  calls-end,
+  calls-last,
   calls-count,
   calls-most,
   file-shows,
@@ -167,12 +183,12 @@ read-written = file-written
 pub cases-hold : map (λ c. lower (c .input) (c .rows) (c .output)) table ≡ map (λ c. c .answer) table
 cases-hold = table-holds
 
--- An accepted lowering writes the file that the walk's last visit leaves, answers its figures and length, leaves the tables all 0, and the
+-- An accepted lowering writes the file that the call of the walk's last visit leaves, answers its figures and length, leaves the tables all 0, and the
 -- output behind the file as it was.
 pub lowering-is-01 : (bytes r s y o : List ℕ) (f : File) → admit bytes (lentIn r s y) ≡ accepted f → finalFigures f .bytes ≤ length o
     → lowerF bytes r s y o
     ≡ finished (WrittenIn (shownFigures (finalFigures f))) (zerosFor r) (zerosFor s) (zerosFor y)
-    (writtenOver (written (fileAt (lastSpot f))) o)
+    (writtenOver (written (fileAt (finalSpot f))) o)
 unfolding lowerF
 lowering-is-01 bytes r s y o f e h =
     ap (λ (a : Outcome Written). lowerOf a r s y o) (enough-output bytes (lentIn r s y) (length o) f e h)
@@ -187,14 +203,14 @@ lowering-is-01 bytes r s y o f e h =
 -- (`_default`) either.
 pub hints : (w : List ℕ → List ℕ → ℕ → ℕ) (bytes r s y : List ℕ) (f : File) → Bytes bytes → admit bytes (lentIn r s y) ≡ accepted f
     → let read = length (f .symbols) in
-    given w read (treeIn (written (fileAt (lastSpot f)))) ≡ asked w (f .tree)
-unfolding fileAt
+    given w read (treeIn (written (fileAt (finalSpot f)))) ≡ asked w (f .tree)
+unfolding fileAt finalSpot
 hints w bytes r s y f b e =
     let read = length (f .symbols) in
     let read-is = admitted bytes r s y f e .0 in
-    let childless : Childless (treeAt (lastSpot f)) =
-    rw (last-spot f) (accepted-childless bytes f (2 * finalFigures f .records) read-is) in
-    hints-back w read (fileAt (lastSpot f)) (last-tagged bytes r s y f b e) childless ∙ last-hints w bytes f read-is
+    let childless : Childless (treeAt (finalSpot f)) =
+    rw (last-spot f) (calls-childless bytes f (2 * finalFigures f .records) read-is) in
+    hints-back w read (fileAt (finalSpot f)) (final-tagged bytes r s y f b e) childless ∙ final-hints w bytes f read-is
 
 -- ---- DEMAND 3
 
@@ -202,11 +218,13 @@ hints w bytes r s y f b e =
 pub record Demand3 (bytes r s y : List ℕ) (f : File) (k : ℕ) : Type 0 where
   -- start leaves the first tables, and hands out their walk
   pub started : startF bytes r s y ≡ ready (firstTables f r s y)
-  -- after k calls the tables show 01's tree, scopes and symbols after k visits
-  pub tree : recordsIn (afterCalls k f r s y) ≡ flatten (treeAt (visits k (start f)))
-  pub scopes : scopesIn (afterCalls k f r s y) ≡ storeAt (visits k (start f)) .scopes
-  pub symbols : symbolsIn (afterCalls k f r s y) ≡ storeAt (visits k (start f)) .symbols
-  -- they number those read and what the visits made are charged, each by what it does
+  -- after k calls the tables show the tree, scopes and symbols that 01 and 02 have after so many
+  pub tree : recordsIn (afterCalls k f r s y) ≡ flatten (treeAt (visitCalls k (start f)))
+  pub scopes : scopesIn (afterCalls k f r s y) ≡ storeAt (visitCalls k (start f)) .scopes
+  pub symbols : symbolsIn (afterCalls k f r s y) ≡ storeAt (visitCalls k (start f)) .symbols
+  -- that is what 01's rewrites at the visits made give, and, once the last is made, the import line if it is due (02)
+  pub visitsMade : visitCalls k (start f) ≡ completed (visits k (start f))
+  -- they number those read and what the calls are charged: the visits made, each by what it does, and the line from the last on
   pub recordCount : length (recordsIn (afterCalls k f r s y)) ≡ size (f .tree) + chargesOf k f .records
   pub scopeCount : length (scopesIn (afterCalls k f r s y)) ≡ length (f .scopes) + chargesOf k f .scopes
   pub symbolCount : length (symbolsIn (afterCalls k f r s y)) ≡ length (f .symbols) + chargesOf k f .symbols
@@ -214,27 +232,28 @@ pub record Demand3 (bytes r s y : List ℕ) (f : File) (k : ℕ) : Type 0 where
   pub recordsMost : length (recordsIn (afterCalls k f r s y)) ≤ finalFigures f .records
   pub scopesMost : length (scopesIn (afterCalls k f r s y)) ≤ finalFigures f .scopes
   pub symbolsMost : length (symbolsIn (afterCalls k f r s y)) ≤ finalFigures f .symbols
-  -- these charges, in order, are an account from the source alone
+  -- the charges, in order, are an account from the source alone: of the visits, and of the line after the last of them
   pub charges : dues k (start f) ≡ take k (visitCharges f)
+  pub importCharged : importDues (visits k (start f)) ≡ (if leb (length (visitCharges f)) k then importCharge f else [])
   -- the final figures follow from the source alone: those read and all charges
-  pub final : finalFigures f ≡ figuresIn f ⊕ total (joined (visitCharges f))
-  -- the walk has as many visits as charges, and where it is over is its last spot
-  pub ends : isOver (visits k (start f)) ≡ leb (length (visitCharges f)) k
-  pub last : isOver (visits k (start f)) ≡ true → visits k (start f) ≡ lastSpot f
+  pub final : finalFigures f ≡ figuresIn f ⊕ total (joined (visitCharges f) ++ importCharge f)
+  -- the walk has as many visits as charges, and where it is over is its final spot
+  pub ends : isOver (visitCalls k (start f)) ≡ leb (length (visitCharges f)) k
+  pub last : isOver (visitCalls k (start f)) ≡ true → visitCalls k (start f) ≡ finalSpot f
   -- over is told exactly when 01's walk is over, and then a call leaves every number of the tables and the walk as it is
-  pub overTold : isOverIn (afterCalls k f r s y) ≡ isOver (visits k (start f))
-  pub overStays : isOverIn (afterCalls k f r s y) ≡ true → visitF (afterCalls k f r s y) ≡ afterCalls k f r s y
-  -- an accepted lowering writes what the last visit leaves, and answers the final figures
+  pub overTold : isOverIn (afterCalls k f r s y) ≡ isOver (visitCalls k (start f))
+  pub overStays : isOverIn (afterCalls k f r s y) ≡ true → visitCallF (afterCalls k f r s y) ≡ afterCalls k f r s y
+  -- an accepted lowering writes what the last visit's call leaves, and answers the final figures
   pub writes : (out : ℕ) → finalFigures f .bytes ≤ out
-      → lower bytes (lentIn r s y) out ≡ accepted (record { file = written (fileAt (lastSpot f)); figures = finalFigures f })
+      → lower bytes (lentIn r s y) out ≡ accepted (record { file = written (fileAt (finalSpot f)); figures = finalFigures f })
   -- the written file shows them: reading its fields back counts them, and its length is the answer's
-  pub recordsShown : fieldCount isRecord (fieldsOf (written (fileAt (lastSpot f)))) ≡ finalFigures f .records
-  pub scopesShown : fieldCount (λ t. eqb t Tag.Scope) (fieldsOf (written (fileAt (lastSpot f)))) ≡ finalFigures f .scopes
-  pub symbolsShown : fieldCount (λ t. eqb t Tag.Symbol) (fieldsOf (written (fileAt (lastSpot f)))) ≡ finalFigures f .symbols
-  pub lengthShown : length (written (fileAt (lastSpot f))) ≡ finalFigures f .bytes
+  pub recordsShown : fieldCount isRecord (fieldsOf (written (fileAt (finalSpot f)))) ≡ finalFigures f .records
+  pub scopesShown : fieldCount (λ t. eqb t Tag.Scope) (fieldsOf (written (fileAt (finalSpot f)))) ≡ finalFigures f .scopes
+  pub symbolsShown : fieldCount (λ t. eqb t Tag.Symbol) (fieldsOf (written (fileAt (finalSpot f)))) ≡ finalFigures f .symbols
+  pub lengthShown : length (written (fileAt (finalSpot f))) ≡ finalFigures f .bytes
   -- and the number of contexts is how many the walk made, and how many Loads it added: those written are those read, and one for each
-  pub contextsShown : storeAt (lastSpot f) .contexts ≡ finalFigures f .contexts
-  pub loadsShown : fieldCount isLoad (fieldsOf (written (fileAt (lastSpot f)))) ≡ fieldCount isLoad (fieldsOf bytes) + finalFigures f .contexts
+  pub contextsShown : storeAt (finalSpot f) .contexts ≡ finalFigures f .contexts
+  pub loadsShown : fieldCount isLoad (fieldsOf (written (fileAt (finalSpot f)))) ≡ fieldCount isLoad (fieldsOf bytes) + finalFigures f .contexts
 
 -- DEMAND 3. Each byte is at most 255, as in every `&[u8]`.
 pub demand-3 : (bytes r s y : List ℕ) (f : File) → Bytes bytes → admit bytes (lentIn r s y) ≡ accepted f → (k : ℕ) → Demand3 bytes r s y f k
@@ -249,6 +268,7 @@ demand-3 bytes r s y f b e k =
       tree = calls-tree bytes r s y f e k;
       scopes = calls-scopes bytes r s y f e k;
       symbols = calls-symbols bytes r s y f e k;
+      visitsMade = calls-are k f;
       recordCount = count .0;
       scopeCount = count .1;
       symbolCount = count .2;
@@ -256,16 +276,17 @@ demand-3 bytes r s y f b e k =
       scopesMost = most .1;
       symbolsMost = most .2;
       charges = accepted-dues bytes f k read;
-      final = sym (charges-final bytes f read);
-      ends = walk-ends bytes f k read;
-      last = last-is bytes f k read;
+      importCharged = imports-are bytes f read k;
+      final = final-charged bytes r s y f e;
+      ends = calls-end bytes r s y f e k;
+      last = calls-last bytes r s y f e k;
       overTold = calls-over bytes r s y f e k;
-      overStays = over-stays (afterCalls k f r s y);
+      overStays = over-unchanged (afterCalls k f r s y);
       writes = λ out h. enough-output bytes (lentIn r s y) out f e h;
       recordsShown = shown .0;
       scopesShown = shown .1;
       symbolsShown = shown .2;
-      lengthShown = last-length bytes r s y f b e;
+      lengthShown = final-length bytes r s y f b e;
       contextsShown = shown .3;
       loadsShown = loads-written bytes f b read;
     }
@@ -283,9 +304,9 @@ pub walk-kept : (w : Walk) → walkIn (walkNumbers w) ≡ w
 walk-kept = numbers-kept
 
 -- so demand 3 holds of calls of `desk_visit` too: after `desk_start` and k + 1 of them, each handed what the one before left, the tables and the
--- walk's numbers are those of as many visits, and the last call has answered 1 if 01's walk is over, and else 0.
+-- walk's numbers are those of as many calls of `visit_call`, and the last one has answered 1 if 01's walk is over, and else 0.
 pub desk-visits : (bytes r s y : List ℕ) (f : File) → admit bytes (lentIn r s y) ≡ accepted f → (old : List ℕ) (k : ℕ)
-    → deskCalls (suc k) (begunNumbers old (startF bytes r s y)) ≡ inNumbers (isOver (visits (suc k) (start f))) (afterCalls (suc k) f r s y)
+    → deskCalls (suc k) (begunNumbers old (startF bytes r s y)) ≡ inNumbers (isOver (visitCalls (suc k) (start f))) (afterCalls (suc k) f r s y)
 desk-visits = desk-calls
 
 -- REFUSAL 9 EXACTLY. Whatever file and tables are handed in: if the checks before it are passed and a final figure is above the rows lent,
@@ -298,6 +319,32 @@ small-tables = small-refused
 pub only-small-tables : (bytes : List ℕ) (lent : Lent) (out p : ℕ) → lower bytes lent out ≡ refused 9 p
     → (f : File) × (checkFile bytes ≡ accepted f) × Short lent (finalFigures f) × (p ≡ firstShort lent (finalFigures f))
 only-small-tables = refused-small
+
+-- ---- REQUEST 1 of document 02: the import line
+
+-- When it stands, what it is, and that it stands once, after any number of calls for a visit of an accepted file's walk. What it charges,
+-- and that tables, figures and written file show it, is said by `demand-3`.
+pub import-line : (bytes : List ℕ) (f : File) (k : ℕ) → readFile bytes ≡ accepted f → ImportLine f k
+import-line = import-stands
+
+-- A line of its form that was read stays among the lines of a lowered Program, as it is and in its order.
+pub import-kept : (items : Forest) (st : Store)
+    → (importsIn (programItems items st .0 .kept) ≡ importsIn items) × (importsIn (programItems items st .0 .moved) ≡ none)
+import-kept = items-imports
+
+-- Reading takes a line of form 4 with one Specifier, and of the other forms with any number.
+pub import-read : (p : Place) (syms a b c d next : ℕ)
+    → right p syms (record { tag = Tag.ModuleLine; a = a; b = b; c = c; d = d; next = next }) ≡ (leb a 3 || (eqb a 4 && eqb c 1))
+unfolding right moduleLineRight
+import-read p syms a b c d next = refl
+
+-- `helper_load` tells whether its load is the first: the walk has made at most one context, which is the load's own,
+pub first-told : (scopes : List ℕ) (q : SymbolRows) (cur : ℕ) → helperLoadF scopes q cur .loaded .first ≡ leb (q .ctx .contexts) 1
+first-told = load-first
+
+-- so it is the first if no context was made before that one.
+pub first-load : (scope : ℕ) (st : Store) → isFirst (makeContext scope st .1) ≡ eqb (st .contexts) 0
+first-load = first-context
 
 -- ---- REQUEST 3 of document 02: lengths from a table
 

@@ -8,15 +8,16 @@ use native.Mathlib.Omega.{arith}
 use lib.Dec.{eqb}
 use lib.ListN.{length}
 use Rattle.meaning.specs.Numbers.Tag
-use Rattle.meaning.specs.Tree.{if_then_else_, Head, Forest, none, more}
+use Rattle.meaning.specs.Tree.{if_then_else_, Head, Forest, none, more, _&_}
 use Rattle.meaning.specs.File.{File}
 use Rattle.meaning.specs.Reading.{accepted, readFile}
 use Rattle.meaning.specs.Statements.{isUsing}
 use Rattle.meaning.specs.Walk.{Spot, at, leaving, over, isOver, visits, start, treeAt}
+use Rattle.meaning.specs.ImportLine.{importDue, withImport, completed}
 use Rattle.meaning.specs.Charges.{finalFigures}
-use Rattle.meaning.specs.Lowering.{lastSpot}
+use Rattle.meaning.specs.Lowering.{lastSpot, finalSpot}
 use Rattle.spec_laws.specs.Tags.{clash}
-use Rattle.hint_laws.specs.Hints.{sumOver, overDeclarators, takesUp, ofSource, asked, called, given}
+use Rattle.hint_laws.specs.Hints.{sumOver, overDeclarators, takesUp, ofSource, asked, called, callsIn, given}
 use Rattle.hint_laws.specs.Requested.Asked.{OldCalls, accepted-old, overs-none, calls-in-none, asked-by-kind, asked-of-source}
 use Rattle.hint_laws.specs.Balanced.Balance.{letterIn, waits, doneIn, gives, balanceOf, balance}
 use Rattle.hint_laws.specs.Balanced.Visit.{visits-balance}
@@ -72,6 +73,24 @@ quiet-end b f q k (over tree st) e o = over-quiet k b f tree st q e
 quiet-end b f q k (at d h k₁ r p st) e o = absurd (clash refl o)
 quiet-end b f q k (leaving k₁ h d r p st) e o = absurd (clash refl o)
 
+-- ---- the import line calls nothing
+
+module _ (w : List ℕ → List ℕ → ℕ → ℕ) (read : ℕ) where
+  import-gives : (y : ℕ) (tree : Forest) → given w read (withImport y tree) ≡ given w read tree
+  unfolding withImport given sumOver callsIn _&_
+  import-gives y none = refl
+  import-gives y (more h k r) = omega arith
+
+  gives-if : (b : Bool) (y : ℕ) (tree : Forest) → given w read (if b then withImport y tree else tree) ≡ given w read tree
+  gives-if true y tree = import-gives y tree
+  gives-if false y tree = refl
+
+  completed-gives : (s : Spot) → given w read (treeAt (completed s)) ≡ given w read (treeAt s)
+  unfolding completed treeAt
+  completed-gives (over tree st) = gives-if (importDue st) (st .helper) tree
+  completed-gives (at d h k r p st) = refl
+  completed-gives (leaving k h d r p st) = refl
+
 -- ---- the two agree
 
 module _ (w : List ℕ → List ℕ → ℕ → ℕ) (b : List ℕ) (f : File) (e : readFile b ≡ accepted f) where
@@ -97,9 +116,14 @@ module _ (w : List ℕ → List ℕ → ℕ → ℕ) (b : List ℕ) (f : File) (
   at-end t q =
       both (waits ofFile) (gives ofFile read) t ∙ omega (arith, nothing-asked ofFile letterIn t q, settled-gives ofFile read t (quiet-settled t q))
 
-  -- WHAT THE LOWERED TREE CALLS IS WHAT THE SOURCE ASKS FOR.
-  pub last-hints : given w read (treeAt (lastSpot f)) ≡ asked w (f .tree)
+  -- at the end of the walk
+  last-hints : given w read (treeAt (lastSpot f)) ≡ asked w (f .tree)
   last-hints =
       let n = 2 * finalFigures f .records in
       let q : AllQuiet (treeAt (lastSpot f)) = quiet-end b f e n (lastSpot f) (sym (last-spot f)) (last-over b f e) in
       sym (at-end (treeAt (lastSpot f)) q) ∙ (rw (last-spot f) (visits-balance w b f n e)) ∙ at-source
+
+  -- WHAT THE LOWERED TREE CALLS IS WHAT THE SOURCE ASKS FOR: the import line calls nothing.
+  pub final-hints : given w read (treeAt (finalSpot f)) ≡ asked w (f .tree)
+  unfolding finalSpot
+  final-hints = completed-gives w read (lastSpot f) ∙ last-hints

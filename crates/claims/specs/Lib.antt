@@ -4,6 +4,7 @@ pub mod Calls
 pub mod Desk
 pub mod Depth
 pub mod Letters
+pub mod Import
 pub mod ShutOut
 pub mod Claims
 pub mod Refusals

@@ -136,6 +136,8 @@ fn replay_all(room: &mut [u8]) {
     replay(b"depth.txt", Form::Lowerings, room);
     replay(b"letters.txt", Form::Lowerings, room);
     replay(b"letter_visits.txt", Form::Walks, room);
+    replay(b"imports.txt", Form::Lowerings, room);
+    replay(b"import_visits.txt", Form::Walks, room);
     replay(b"corners.txt", Form::Corners, room);
 }
 

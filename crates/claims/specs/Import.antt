@@ -1,0 +1,260 @@
+-- The import line (02, request 1): when it stands, what it is, that it stands once; and the lines of its form that were read.
+-- Assumes nothing.
+use mathlib.Core.Path.{_≡_, refl, sym, ap, ap₂, _∙_}
+use mathlib.Core.Bool.{Bool, true, false, not, _&&_}
+use mathlib.Core.List.{List}
+use Prim.Native.Nat.{ℕ, zero, suc, _≤_}
+use native.Mathlib.Omega.{arith}
+use lib.Dec.{eqb, leb}
+use lib.ListN.{length}
+use borrow.Author.Tests.{eqb-false, ne-eqb, lt-leb}
+use Rattle.meaning.specs.Numbers.Tag
+use Rattle.meaning.specs.Numbers.LineForm
+use Rattle.meaning.specs.Numbers.KnownName
+use Rattle.meaning.specs.Numbers.Mode
+use Rattle.meaning.specs.Tree.{if_then_else_, Head, hd, Forest, none, more, one, _&_}
+use Rattle.meaning.specs.File.{File}
+use Rattle.meaning.specs.Scoping.{Store, symbolIn, createSymbol}
+use Rattle.meaning.specs.Reading.{accepted, readFile}
+use Rattle.meaning.specs.HelperLoader.{isFirst}
+use Rattle.meaning.specs.Statements.{makeContext}
+use Rattle.meaning.specs.Program.{
+  transformClassDecl,
+  Split,
+  specifiers,
+  topLevelClass,
+  topLevelDeclaration,
+  exportedDeclaration,
+  exportedClass,
+  defaultClass,
+  defaultValue,
+  ItemAct,
+  itemAct,
+  itemAs,
+  programItem,
+  programItems,
+}
+use Rattle.meaning.specs.Walk.{Spot, at, leaving, over, isOver, visits, start, treeAt, storeAt}
+use Rattle.meaning.specs.ImportLine.{importDue, withImport, completed, visitCalls}
+use Rattle.meaning.specs.Charges.{Figures, figuresAt, finalFigures}
+use Rattle.spec_laws.specs.Tags.{clash, and-left, and-right}
+use Rattle.spec_laws.specs.Trees.{visits-last}
+use Rattle.spec_laws.specs.Calls.{completed-store, not-yet, calls-are}
+use Rattle.charge_laws.specs.Counts.Left.{over-stays}
+use Rattle.charge_laws.specs.Growth.Items.{
+  Anything,
+  anything,
+  Staying,
+  function,
+  module-line,
+  no-default,
+  default-function,
+  no-export,
+  export-other,
+  ChosenItem,
+  as-kept,
+  as-moved,
+  as-class,
+  as-declaration,
+  as-exported-declaration,
+  as-exported-class,
+  as-default-class,
+  as-default-value,
+  chosen-item,
+}
+use Rattle.charge_laws.specs.Fit.Import.{Loaded, accepted-loaded, due-if, calls-final}
+use Rattle.charge_laws.specs.Fit.Root.{accepted-program}
+use Rattle.simulation.specs.Visits.{at-spot}
+use Rattle.scoping.specs.Changes.{SymbolRows}
+use Rattle.helper_loader.specs.declared.Loaded.{Loaded as Loaded′}
+use Rattle.helper_loader.specs.Load.{loading, loadedF, helperLoadF}
+
+-- ---- the line
+
+-- a module in runtime mode with a context
+abbrev pub imports : File → Bool
+imports f = eqb (f .mode) Mode.Runtime && eqb (f .isModule) 1 && not (eqb (finalFigures f .contexts) 0)
+
+-- the symbol y is the helper's: it is a row on `usingCtx` with a made name
+abbrev pub IsHelper : Store → ℕ → Type 0
+IsHelper st y =
+    (y ≡ st .helper) × (1 ≤ y) × (y ≤ length (st .symbols)) × (symbolIn st y .name ≡ KnownName.UsingCtx) × (symbolIn st y .made ≡ 1)
+
+pub record ImportLine (f : File) (k : ℕ) : Type 0 where
+  -- as long as a visit is left, k calls leave what k visits leave
+  pub before : isOver (visits k (start f)) ≡ false → visitCalls k (start f) ≡ visits k (start f)
+  -- without such a module they do so to the end
+  pub elsewhere : imports f ≡ false → visitCalls k (start f) ≡ visits k (start f)
+  -- in one, from the call of the last visit on, Program has one child more, before the others: a Module line of form 4 and token 0 with one
+  -- Specifier, which names the helper's symbol and the name 3
+  pub first : imports f ≡ true → isOver (visits k (start f)) ≡ true
+      → (items : Forest) × (y : ℕ) × (treeAt (visits k (start f)) ≡ one (hd Tag.Program 1 0 0) items)
+      × (treeAt (visitCalls k (start f)) ≡ one (hd Tag.Program 1 0 0) (more (hd Tag.ModuleLine 4 0 0) (one (hd Tag.Specifier y 3 0) none) items))
+      × IsHelper (storeAt (visitCalls k (start f))) y
+  -- the rows are those that the visits leave
+  pub rows : storeAt (visitCalls k (start f)) ≡ storeAt (visits k (start f))
+  -- and once the last visit is made a call changes nothing, so the line is put once
+  pub once : isOver (visits k (start f)) ≡ true → visitCalls (suc k) (start f) ≡ visitCalls k (start f)
+
+completed-none : (s : Spot) → importDue (storeAt s) ≡ false → completed s ≡ s
+unfolding completed storeAt
+completed-none (over tree st) e = rw e
+completed-none (at d h k r p st) e = refl
+completed-none (leaving k h d r p st) e = refl
+
+completed-tree : (s : Spot) → isOver s ≡ true → importDue (storeAt s) ≡ true → treeAt (completed s) ≡ withImport (storeAt s .helper) (treeAt s)
+unfolding completed isOver treeAt storeAt
+completed-tree (over tree st) o e = rw e
+completed-tree (at d h k r p st) o e = absurd (clash refl o)
+completed-tree (leaving k h d r p st) o e = absurd (clash refl o)
+
+module _ (b : List ℕ) (f : File) (k : ℕ) (e : readFile b ≡ accepted f) where
+  abbrev spot : Spot
+  spot = visits k (start f)
+
+  stands : visitCalls k (start f) ≡ completed spot
+  stands = calls-are k f
+
+  -- at the end the walk has made all contexts
+  ended-contexts : isOver spot ≡ true → storeAt spot .contexts ≡ finalFigures f .contexts
+  ended-contexts o =
+      omega (
+        arith,
+        at-spot (completed spot),
+        ap (λ (st : Store). st .contexts) (completed-store spot),
+        ap (λ (x : Figures). x .contexts) (calls-final b f e k o),
+      )
+
+  ended-due : isOver spot ≡ true → importDue (storeAt spot) ≡ imports f
+  ended-due o = rw (← ended-contexts o) (due-if (accepted-loaded b f k e))
+
+  the-elsewhere : imports f ≡ false → visitCalls k (start f) ≡ spot
+  the-elsewhere n = stands ∙ go (isOver spot) refl
+    where
+      go : (o : Bool) → isOver spot ≡ o → completed spot ≡ spot
+      go true o = completed-none spot (ended-due o ∙ n)
+      go false o = not-yet spot o
+
+  -- the helper is made
+  loaded : importDue (storeAt spot) ≡ true → eqb (storeAt spot .helper) 0 ≡ false
+  unfolding importDue
+  loaded d =
+      let st = storeAt spot in
+      not-none (eqb (st .helper) 0) (and-right (eqb (st .mode) Mode.Runtime && eqb (st .isModule) 1) _ d)
+    where
+      not-none : (b : Bool) → not b ≡ true → b ≡ false
+      not-none true e = absurd (clash refl e)
+      not-none false e = refl
+
+  is-helper : importDue (storeAt spot) ≡ true → IsHelper (storeAt spot) (storeAt spot .helper)
+  is-helper d =
+      let row = accepted-loaded b f k e .row (loaded d) in
+      (refl, some (storeAt spot .helper) (loaded d), row .0, row .1, row .2)
+    where
+      some : (y : ℕ) → eqb y 0 ≡ false → 1 ≤ y
+      some y n = omega (arith, eqb-false y 0 n)
+
+  the-first : imports f ≡ true → isOver spot ≡ true
+      → (items : Forest) × (y : ℕ) × (treeAt spot ≡ one (hd Tag.Program 1 0 0) items)
+      × (treeAt (visitCalls k (start f)) ≡ one (hd Tag.Program 1 0 0) (more (hd Tag.ModuleLine 4 0 0) (one (hd Tag.Specifier y 3 0) none) items))
+      × IsHelper (storeAt (visitCalls k (start f))) y
+  unfolding withImport _&_
+  the-first i o =
+      let p = accepted-program b f k e in
+      let due = ended-due o ∙ i in
+      let y = storeAt spot .helper in (
+        p .0,
+        y,
+        p .1,
+        ap treeAt stands ∙ completed-tree spot o due ∙ ap (withImport y) (p .1),
+        rw (stands, completed-store spot) (is-helper due),
+      )
+
+  the-once : isOver spot ≡ true → visitCalls (suc k) (start f) ≡ visitCalls k (start f)
+  unfolding visits
+  the-once o = calls-are (suc k) f ∙ ap completed (visits-last k (start f) ∙ over-stays 1 spot o) ∙ sym stands
+
+  -- THE IMPORT LINE of an accepted file.
+  pub import-stands : ImportLine f k
+  import-stands =
+      record {
+        before = λ o. stands ∙ not-yet spot o;
+        elsewhere = the-elsewhere;
+        first = the-first;
+        rows = ap storeAt stands ∙ completed-store spot;
+        once = the-once;
+      }
+
+-- ---- lines of form 4 that were read
+
+-- those that stand directly in a list
+unfoldable pub importsIn : Forest → Forest
+importsIn none = none
+importsIn (more h k r) = if eqb (h .tag) Tag.ModuleLine && eqb (h .a) LineForm.ImportHelper then more h k (importsIn r) else importsIn r
+
+imports-if : (b : Bool) (h : Head) (k r g : Forest) → importsIn (r & g) ≡ importsIn r & importsIn g
+    → (if b then more h k (importsIn (r & g)) else importsIn (r & g)) ≡ (if b then more h k (importsIn r) else importsIn r) & importsIn g
+unfolding _&_
+imports-if true h k r g e = ap (more h k) e
+imports-if false h k r g e = e
+
+imports-& : (f g : Forest) → importsIn (f & g) ≡ importsIn f & importsIn g
+unfolding importsIn _&_
+imports-& none g = refl
+imports-& (more h k r) g = imports-if (eqb (h .tag) Tag.ModuleLine && eqb (h .a) LineForm.ImportHelper) h k r g (imports-& r g)
+
+-- what stays of an item, and what goes into Program's Block
+abbrev KeepsImports : Forest → Split → Type 0
+KeepsImports f s = (importsIn (s .kept) ≡ importsIn f) × (importsIn (s .moved) ≡ none)
+
+item-imports : {x : ItemAct} {h : Head} {k : Forest} (st : Store) → ChosenItem Anything x h k → KeepsImports (one h k) (itemAs x h k st .0)
+unfolding itemAs topLevelClass topLevelDeclaration exportedDeclaration exportedClass defaultClass defaultValue transformClassDecl importsIn
+item-imports st (as-kept s) = (refl, refl)
+item-imports st (as-moved e₁₃ e₁₇ e₁₈ e₁₉ e₁₅ e₅) = (rw e₁₇, rw e₁₇)
+item-imports st as-class = (refl, refl)
+item-imports st as-declaration = (refl, refl)
+item-imports st (as-exported-declaration q) = (refl, refl)
+item-imports st (as-exported-class q) = (refl, refl)
+item-imports st (as-default-class e q) = (refl, refl)
+item-imports st (as-default-value e d q) = (refl, refl)
+
+none-& : {f g : Forest} → f ≡ none → g ≡ none → f & g ≡ none
+unfolding _&_
+none-& e d = rw (e, d)
+
+beside : (h : Head) (k r : Forest) → importsIn (one h k) & importsIn r ≡ importsIn (more h k r)
+unfolding _&_
+beside h k r = sym (imports-& (one h k) r)
+
+-- THEY STAY: of the items of a lowered Program, those of form 4 are among what stays, as they are and in their order, and none is moved.
+pub items-imports : (items : Forest) (st : Store) → KeepsImports items (programItems items st .0)
+unfolding programItems programItem importsIn
+items-imports none st = (refl, refl)
+items-imports (more h k r) st =
+    let item = programItem h k st in
+    let rest = programItems r (item .1) in
+    let i = item-imports st (chosen-item h k) in
+    let j = items-imports r (item .1) in (
+      imports-& (item .0 .kept) (rest .0 .kept) ∙ ap₂ _&_ (i .0) (j .0) ∙ beside h k r,
+      imports-& (item .0 .moved) (rest .0 .moved) ∙ none-& (i .1) (j .1),
+    )
+
+-- ---- the first load
+
+either-first : (b : Bool) (t u : List ℕ) (x y : Loaded′) → x .first ≡ y .first → (if b then loading t x else loading u y) .loaded .first ≡ y .first
+either-first true t u x y e = e
+either-first false t u x y e = refl
+
+-- what is told of a load
+pub load-first : (scopes : List ℕ) (q : SymbolRows) (cur : ℕ) → helperLoadF scopes q cur .loaded .first ≡ leb (q .ctx .contexts) 1
+unfolding helperLoadF
+load-first scopes q cur = either-first (eqb (q .ctx .mode) Mode.Runtime) _ _ (loadedF _ _ _ _) (loadedF _ _ _ _) refl
+
+-- the load of a context is the first if no context was made before it
+pub first-context : (scope : ℕ) (st : Store) → isFirst (makeContext scope st .1) ≡ eqb (st .contexts) 0
+unfolding isFirst makeContext createSymbol
+first-context scope st = only (st .contexts)
+  where
+    only : (n : ℕ) → leb (suc n) 1 ≡ eqb n 0
+    only zero = refl
+    only (suc n) = lt-leb (suc (suc n)) 1 (omega arith) ∙ sym (ne-eqb (suc n) 0 (λ e. omega arith))
