@@ -96,7 +96,8 @@ uint8_t desk_start(const uint8_t *file, size_t file_length,
 
 /*
  * Makes the next visit of a walk. The tables and *walk are to be what desk_start or the last desk_visit left; then the tables hold the tree
- * as rewritten by the visits made so far. After the last visit a call changes nothing.
+ * as rewritten by the visits made so far. In a module in runtime mode with a context, the call that makes the last visit also puts the
+ * helper's import, a Module line of form 4 with one Specifier, as Program's first child: two records more. Later calls change nothing.
  * Answers 1 if no visit is left after this call, else 0.
  * With anything else in the tables or in *walk the call still ends and stays inside them; what it leaves is determined, but means nothing.
  */

@@ -103,7 +103,8 @@ impl<'a> Walk<'a> {
         Ok(Walk { tables, at })
     }
 
-    /// The next visit, and whether none is left after it; after the last nothing changes.
+    /// The next visit, and whether none is left after it. The call that makes the last one also puts the helper's import as Program's first
+    /// child, in a module in runtime mode with a context; later calls change nothing.
     pub fn visit(&mut self) -> bool {
         let t = &mut self.tables;
         // SAFETY: as for `start`.

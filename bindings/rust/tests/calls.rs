@@ -133,3 +133,26 @@ fn the_walk_has_18_visits() {
     assert_eq!(walk.counts(), (5, 3));
     assert_eq!((walk.contexts(), walk.helper()), (1, 0));
 }
+
+#[test]
+fn the_last_visit_imports_the_helper() {
+    let mut module = FILE.to_vec();
+    module[4] = 0;
+    module[6] = 1;
+    let mut memory = Memory::new(20);
+    memory.symbols = vec![9; 4 * desk::SYMBOL_ROW];
+    let mut walk = Walk::start(&module, memory.lend()).expect("enough rows");
+    for _ in 0..17 {
+        assert!(!walk.visit());
+    }
+    assert_eq!(walk.rows(), [17, 19, 20, 1]);
+    assert!(walk.visit());
+    assert_eq!(walk.rows(), [20, 20, 20, 0]);
+    assert_eq!((walk.contexts(), walk.helper()), (1, 3));
+    let left: Vec<u16> = walk.tables().0.to_vec();
+    assert_eq!(left[..7], [1, 1, 0, 0, 2, 0, 0]);
+    assert_eq!(left[7..14], [17, 4, 0, 0, 1, 0, 0]);
+    assert_eq!(left[14..21], [20, 3, 3, 0, 0, 0, 0]);
+    assert!(walk.visit());
+    assert_eq!(walk.tables().0, left);
+}

@@ -759,7 +759,10 @@ pub fn survey(file: &[u8]) -> Surveyed
     let w = check_whole(file);
     match w {
         Whole::Accepted(l, t) => {
-            with_figures(l, figures::figures_of(l.mode, l.esm, l.scopes, l.symbols, t))
+            with_figures(
+                l,
+                figures::figures_of(l.mode, l.esm, l.scopes, l.symbols, t),
+            )
         }
         Whole::Refused(c, p) => Surveyed::Refused(c, p),
     }

@@ -22,7 +22,7 @@ use Prim.Native.Nat.{ℕ, suc, _+_, _*_, _≤_, _<_}
 use lib.Dec.{eqb, leb}
 use lib.ListN.{length, take, getD}
 use Rattle.meaning.specs.Numbers.Tag
-use Rattle.meaning.specs.Tree.{if_then_else_, Forest, none, size, flatten}
+use Rattle.meaning.specs.Tree.{if_then_else_, hd, Forest, none, more, one, size, flatten}
 use Rattle.meaning.specs.File.{File, numbersOf, written}
 use Rattle.meaning.specs.Reading.{Outcome, accepted, refused, readFile}
 use Rattle.meaning.specs.Grammar.{moduleLineRight, right}
@@ -39,6 +39,7 @@ use Rattle.meaning.specs.declared.Place.{Place}
 use Rattle.charge_laws.specs.VisitCharges.{visitCharges}
 use Rattle.meaning.specs.Lowering.{Lent, Written, checkFile, figuresOf, admit, finalSpot, lower}
 use Rattle.cases.specs.Table.{table, table-holds}
+use Rattle.cases.specs.TableImport.{importTable, imports-hold}
 use Rattle.cases.specs.TableDepth.{depthTable, depth-holds}
 use Rattle.charge_laws.specs.Counts.Figures.{joined}
 use Rattle.charge_laws.specs.Fit.Accepted.{accepted-dues}
@@ -91,7 +92,7 @@ use Rattle.desk_numbers.specs.Numbers.{walkNumbers, walkIn, numbers-kept, begun
 use Rattle.path.specs.declared.Walk.{Walk}
 use Rattle.claims.specs.Desk.{deskCalls, inNumbers, desk-calls}
 use Rattle.claims.specs.Hinting.{final-hints}
-use Rattle.claims.specs.Import.{ImportLine, import-stands, importsIn, items-imports, load-first, first-context}
+use Rattle.claims.specs.Import.{imports, IsHelper, ImportLine, calls, import-stands, import-in-bytes, importsIn, items-imports, load-first, first-context}
 use Rattle.claims.specs.Calls.{
   firstTables,
   afterCalls,
@@ -324,8 +325,16 @@ only-small-tables = refused-small
 
 -- When it stands, what it is, and that it stands once, after any number of calls for a visit of an accepted file's walk. What it charges,
 -- and that tables, figures and written file show it, is said by `demand-3`.
-pub import-line : (bytes : List ℕ) (f : File) (k : ℕ) → readFile bytes ≡ accepted f → ImportLine f k
+pub import-line : (bytes : List ℕ) (f : File) (k : ℕ) → readFile bytes ≡ accepted f → ImportLine calls f k
 import-line = import-stands
+
+-- A lowering that is accepted writes it: in the tree that the written bytes say, it is Program's first child.
+pub import-written : (bytes r s y : List ℕ) (f : File) → Bytes bytes → admit bytes (lentIn r s y) ≡ accepted f → imports f ≡ true
+    → (items : Forest) × (helper : ℕ)
+    × (treeIn (written (fileAt (finalSpot f)))
+    ≡ one (hd Tag.Program 1 0 0) (more (hd Tag.ModuleLine 4 0 0) (one (hd Tag.Specifier helper 3 0) none) items))
+    × IsHelper (storeAt (finalSpot f)) helper
+import-written = import-in-bytes
 
 -- A line of its form that was read stays among the lines of a lowered Program, as it is and in its order.
 pub import-kept : (items : Forest) (st : Store)
@@ -345,6 +354,11 @@ first-told = load-first
 -- so it is the first if no context was made before that one.
 pub first-load : (scope : ℕ) (st : Store) → isFirst (makeContext scope st .1) ≡ eqb (st .contexts) 0
 first-load = first-context
+
+-- The cases as a table: a module with rows and bytes just enough and too few, a script, other modes, a lowered Program, a StaticBlock left last, and
+-- lines of form 4 that are read.
+pub import-cases-hold : map (λ c. lower (c .input) (c .rows) (c .output)) importTable ≡ map (λ c. c .answer) importTable
+import-cases-hold = imports-hold
 
 -- ---- REQUEST 3 of document 02: lengths from a table
 

@@ -1,9 +1,9 @@
 -- The import line (02, request 1): when it stands, what it is, that it stands once; and the lines of its form that were read.
 -- Assumes nothing.
-use mathlib.Core.Path.{_≡_, refl, sym, ap, ap₂, _∙_}
+use mathlib.Core.Path.{_≡_, refl, sym, ap, ap₂, subst, _∙_}
 use mathlib.Core.Bool.{Bool, true, false, not, _&&_}
 use mathlib.Core.List.{List}
-use Prim.Native.Nat.{ℕ, zero, suc, _≤_}
+use Prim.Native.Nat.{ℕ, zero, suc, _*_, _≤_}
 use native.Mathlib.Omega.{arith}
 use lib.Dec.{eqb, leb}
 use lib.ListN.{length}
@@ -13,7 +13,7 @@ use Rattle.meaning.specs.Numbers.LineForm
 use Rattle.meaning.specs.Numbers.KnownName
 use Rattle.meaning.specs.Numbers.Mode
 use Rattle.meaning.specs.Tree.{if_then_else_, Head, hd, Forest, none, more, one, _&_}
-use Rattle.meaning.specs.File.{File}
+use Rattle.meaning.specs.File.{File, numbersOf, hasChildren, ownNumbers, written}
 use Rattle.meaning.specs.Scoping.{Store, symbolIn, createSymbol}
 use Rattle.meaning.specs.Reading.{accepted, readFile}
 use Rattle.meaning.specs.HelperLoader.{isFirst}
@@ -21,7 +21,6 @@ use Rattle.meaning.specs.Statements.{makeContext}
 use Rattle.meaning.specs.Program.{
   transformClassDecl,
   Split,
-  specifiers,
   topLevelClass,
   topLevelDeclaration,
   exportedDeclaration,
@@ -29,28 +28,20 @@ use Rattle.meaning.specs.Program.{
   defaultClass,
   defaultValue,
   ItemAct,
-  itemAct,
   itemAs,
   programItem,
   programItems,
 }
-use Rattle.meaning.specs.Walk.{Spot, at, leaving, over, isOver, visits, start, treeAt, storeAt}
+use Rattle.meaning.specs.Walk.{Spot, at, leaving, over, isOver, visits, start, treeAt, storeAt, fileAt}
 use Rattle.meaning.specs.ImportLine.{importDue, withImport, completed, visitCalls}
-use Rattle.meaning.specs.Charges.{Figures, figuresAt, finalFigures}
-use Rattle.spec_laws.specs.Tags.{clash, and-left, and-right}
-use Rattle.spec_laws.specs.Trees.{visits-last}
+use Rattle.meaning.specs.Charges.{Figures, finalFigures}
+use Rattle.meaning.specs.Lowering.{admit, finalSpot}
+use Rattle.spec_laws.specs.Tags.{clash, and-right}
+use Rattle.spec_laws.specs.Trees.{Bytes, visits-last}
 use Rattle.spec_laws.specs.Calls.{completed-store, not-yet, calls-are}
 use Rattle.charge_laws.specs.Counts.Left.{over-stays}
 use Rattle.charge_laws.specs.Growth.Items.{
   Anything,
-  anything,
-  Staying,
-  function,
-  module-line,
-  no-default,
-  default-function,
-  no-export,
-  export-other,
   ChosenItem,
   as-kept,
   as-moved,
@@ -62,11 +53,18 @@ use Rattle.charge_laws.specs.Growth.Items.{
   as-default-value,
   chosen-item,
 }
-use Rattle.charge_laws.specs.Fit.Import.{Loaded, accepted-loaded, due-if, calls-final}
+use Rattle.charge_laws.specs.Fit.Import.{accepted-helper, due-if, calls-final}
 use Rattle.charge_laws.specs.Fit.Root.{accepted-program}
 use Rattle.simulation.specs.Visits.{at-spot}
+use Rattle.start.specs.Start.{lentIn}
+use Rattle.start.specs.Filled.{admitted}
+use Rattle.bound_laws.specs.Last.{last-spot, last-over, final-is}
+use Rattle.readback_laws.specs.Decoded.{treeIn}
+use Rattle.readback_laws.specs.Back.{plainHead, plain, Childless, tree-back}
+use Rattle.readback_laws.specs.Childless.{calls-childless}
+use Rattle.lowering.specs.Law.{final-tagged}
 use Rattle.scoping.specs.Changes.{SymbolRows}
-use Rattle.helper_loader.specs.declared.Loaded.{Loaded as Loaded′}
+use Rattle.helper_loader.specs.declared.Loaded.{Loaded}
 use Rattle.helper_loader.specs.Load.{loading, loadedF, helperLoadF}
 
 -- ---- the line
@@ -80,21 +78,26 @@ abbrev pub IsHelper : Store → ℕ → Type 0
 IsHelper st y =
     (y ≡ st .helper) × (1 ≤ y) × (y ≤ length (st .symbols)) × (symbolIn st y .name ≡ KnownName.UsingCtx) × (symbolIn st y .made ≡ 1)
 
-pub record ImportLine (f : File) (k : ℕ) : Type 0 where
-  -- as long as a visit is left, k calls leave what k visits leave
-  pub before : isOver (visits k (start f)) ≡ false → visitCalls k (start f) ≡ visits k (start f)
+-- What is said of calls for visits, by where k of them lead.
+pub record ImportLine (calls : ℕ → File → Spot) (f : File) (k : ℕ) : Type 0 where
+  -- as long as a visit is left, k calls lead where k visits lead
+  pub before : isOver (visits k (start f)) ≡ false → calls k f ≡ visits k (start f)
   -- without such a module they do so to the end
-  pub elsewhere : imports f ≡ false → visitCalls k (start f) ≡ visits k (start f)
+  pub elsewhere : imports f ≡ false → calls k f ≡ visits k (start f)
   -- in one, from the call of the last visit on, Program has one child more, before the others: a Module line of form 4 and token 0 with one
   -- Specifier, which names the helper's symbol and the name 3
   pub first : imports f ≡ true → isOver (visits k (start f)) ≡ true
       → (items : Forest) × (y : ℕ) × (treeAt (visits k (start f)) ≡ one (hd Tag.Program 1 0 0) items)
-      × (treeAt (visitCalls k (start f)) ≡ one (hd Tag.Program 1 0 0) (more (hd Tag.ModuleLine 4 0 0) (one (hd Tag.Specifier y 3 0) none) items))
-      × IsHelper (storeAt (visitCalls k (start f))) y
+      × (treeAt (calls k f) ≡ one (hd Tag.Program 1 0 0) (more (hd Tag.ModuleLine 4 0 0) (one (hd Tag.Specifier y 3 0) none) items))
+      × IsHelper (storeAt (calls k f)) y
   -- the rows are those that the visits leave
-  pub rows : storeAt (visitCalls k (start f)) ≡ storeAt (visits k (start f))
+  pub rows : storeAt (calls k f) ≡ storeAt (visits k (start f))
   -- and once the last visit is made a call changes nothing, so the line is put once
-  pub once : isOver (visits k (start f)) ≡ true → visitCalls (suc k) (start f) ≡ visitCalls k (start f)
+  pub once : isOver (visits k (start f)) ≡ true → calls (suc k) f ≡ calls k f
+
+-- where k calls lead
+abbrev pub calls : ℕ → File → Spot
+calls k f = visitCalls k (start f)
 
 completed-none : (s : Spot) → importDue (storeAt s) ≡ false → completed s ≡ s
 unfolding completed storeAt
@@ -126,7 +129,7 @@ module _ (b : List ℕ) (f : File) (k : ℕ) (e : readFile b ≡ accepted f) whe
       )
 
   ended-due : isOver spot ≡ true → importDue (storeAt spot) ≡ imports f
-  ended-due o = rw (← ended-contexts o) (due-if (accepted-loaded b f k e))
+  ended-due o = rw (← ended-contexts o) (due-if (accepted-helper b f k e))
 
   the-elsewhere : imports f ≡ false → visitCalls k (start f) ≡ spot
   the-elsewhere n = stands ∙ go (isOver spot) refl
@@ -148,7 +151,7 @@ module _ (b : List ℕ) (f : File) (k : ℕ) (e : readFile b ≡ accepted f) whe
 
   is-helper : importDue (storeAt spot) ≡ true → IsHelper (storeAt spot) (storeAt spot .helper)
   is-helper d =
-      let row = accepted-loaded b f k e .row (loaded d) in
+      let row = accepted-helper b f k e .row (loaded d) in
       (refl, some (storeAt spot .helper) (loaded d), row .0, row .1, row .2)
     where
       some : (y : ℕ) → eqb y 0 ≡ false → 1 ≤ y
@@ -175,7 +178,7 @@ module _ (b : List ℕ) (f : File) (k : ℕ) (e : readFile b ≡ accepted f) whe
   the-once o = calls-are (suc k) f ∙ ap completed (visits-last k (start f) ∙ over-stays 1 spot o) ∙ sym stands
 
   -- THE IMPORT LINE of an accepted file.
-  pub import-stands : ImportLine f k
+  pub import-stands : ImportLine calls f k
   import-stands =
       record {
         before = λ o. stands ∙ not-yet spot o;
@@ -184,6 +187,40 @@ module _ (b : List ℕ) (f : File) (k : ℕ) (e : readFile b ≡ accepted f) whe
         rows = ap storeAt stands ∙ completed-store spot;
         once = the-once;
       }
+
+-- ---- in the written bytes
+
+module _ (bytes r s y : List ℕ) (f : File) (b : Bytes bytes) (e : admit bytes (lentIn r s y) ≡ accepted f) where
+  abbrev n : ℕ
+  n = 2 * finalFigures f .records
+
+  read : readFile bytes ≡ accepted f
+  read = admitted bytes r s y f e .0
+
+  ended : isOver (visits n (start f)) ≡ true
+  ended = ap isOver (sym (last-spot f)) ∙ last-over bytes f read
+
+  final : visitCalls n (start f) ≡ finalSpot f
+  final = final-is bytes f n read ended
+
+  childless : Childless (treeAt (finalSpot f))
+  childless = subst (λ (s : Spot). Childless (treeAt s)) (sym (calls-are n f) ∙ final) (calls-childless bytes f n read)
+
+  -- THE WRITTEN FILE BEGINS ITS PROGRAM WITH THE LINE.
+  pub import-in-bytes : imports f ≡ true
+      → (items : Forest) × (y : ℕ)
+      × (treeIn (written (fileAt (finalSpot f))) ≡ one (hd Tag.Program 1 0 0) (more (hd Tag.ModuleLine 4 0 0) (one (hd Tag.Specifier y 3 0) none) items))
+      × IsHelper (storeAt (finalSpot f)) y
+  unfolding fileAt plain plainHead ownNumbers hasChildren numbersOf
+  import-in-bytes i =
+      let p = the-first bytes f n read i ended in (
+        plain (p .0),
+        p .1,
+        tree-back (fileAt (finalSpot f)) (final-tagged bytes r s y f b e) childless
+            ∙ ap (λ (s : Spot). plain (treeAt s)) (sym final)
+            ∙ ap plain (p .3),
+        subst (λ (s : Spot). IsHelper (storeAt s) (p .1)) final (p .4),
+      )
 
 -- ---- lines of form 4 that were read
 
@@ -241,7 +278,7 @@ items-imports (more h k r) st =
 
 -- ---- the first load
 
-either-first : (b : Bool) (t u : List ℕ) (x y : Loaded′) → x .first ≡ y .first → (if b then loading t x else loading u y) .loaded .first ≡ y .first
+either-first : (b : Bool) (t u : List ℕ) (x y : Loaded) → x .first ≡ y .first → (if b then loading t x else loading u y) .loaded .first ≡ y .first
 either-first true t u x y e = e
 either-first false t u x y e = refl
 

@@ -2,7 +2,7 @@
 -- shut out.
 -- Assumes nothing.
 use mathlib.Core.Path.{_≡_, refl, ap, _∙_}
-use mathlib.Core.Bool.{Bool, true, false, _||_, _&&_}
+use mathlib.Core.Bool.{Bool, true, false, not, _||_, _&&_}
 use mathlib.Core.List.{List, [], _∷_, _++_, map}
 use Prim.Native.Nat.{ℕ, zero, suc, _*_, _-_, _/_}
 use native.Mathlib.Omega.{arith}
@@ -11,15 +11,16 @@ use lib.Dec.{eqb}
 use Rattle.meaning.specs.Numbers.Tag
 use Rattle.meaning.specs.Numbers.KnownName
 use Rattle.meaning.specs.Numbers.Letter
-use Rattle.meaning.specs.Tree.{if_then_else_, Head, hd, Forest, none, more, one, Node, single, _&_}
+use Rattle.meaning.specs.Tree.{if_then_else_, Head, hd, Forest, none, more, one, Node, single, size, _&_}
 use Rattle.meaning.specs.File.{File, Symbol, numbersOf, written}
 use Rattle.meaning.specs.Scoping.{Change}
 use Rattle.meaning.specs.Statements.{wrapInitializer}
 use Rattle.meaning.specs.Contexts.{takeUpCases, transformSwitchStatement}
 use Rattle.meaning.specs.Reading.{Outcome, accepted, refused, _>>=_, _>>_, readForest, mostLevels, readWith, readFile}
-use Rattle.meaning.specs.Walk.{Spot, isOver, visits, storeOf, start, fileAt}
+use Rattle.meaning.specs.Walk.{Spot, over, isOver, visit, visits, storeOf, start, treeAt, storeAt, fileAt}
+use Rattle.meaning.specs.ImportLine.{withImport, completed, visitCalls}
 use Rattle.meaning.specs.Charges.{Figures, figures, figuresAt, finalFigures}
-use Rattle.meaning.specs.Lowering.{Lent, Written, checkOutput, checkFile, admit, lastSpot, lower}
+use Rattle.meaning.specs.Lowering.{Lent, Written, checkOutput, checkFile, admit, lastSpot, finalSpot, lower}
 use Rattle.meaning.specs.Notation.{bytes}
 use Rattle.meaning.specs.Computing.{computing}
 use Rattle.meaning.specs.Examples.{nested, deep}
@@ -35,6 +36,7 @@ use Rattle.readback_laws.specs.ReadBack.{numbersIn, fieldsIn, fieldsOf}
 use Rattle.readback_laws.specs.Decoded.{recordsOf, rowOf, treesFrom, treeIn}
 use Rattle.claims.specs.Depth.{forestWith, readDeep, depthFirst, readBefore}
 use Rattle.claims.specs.Letters.{takeUpBefore, takeUpCasesBefore, switchBy, switchBefore, unlettered, ButLetters}
+use Rattle.claims.specs.Import.{imports, ImportLine}
 use Rattle.claims.specs.Claims.{DepthFirst}
 
 -- ---- two files and what is seen of an answer
@@ -173,13 +175,13 @@ abbrev fileOf : Outcome File → File
 fileOf (accepted f) = f
 fileOf (refused c p) = record { mode = 0; isModule = 0; scopes = []; symbols = []; tree = none }
 
--- where the walk stands after so many visits
+-- where the walk stands after so many calls
 unfoldable pub hasty : ℕ → File → Spot
 hasty zero f = start f
-hasty (suc k) f = lastSpot f
+hasty (suc k) f = finalSpot f
 
 abbrev honest : ℕ → File → Spot
-honest k f = visits k (start f)
+honest k f = visitCalls k (start f)
 
 abbrev recordsAfterOne : (ℕ → File → Spot) → ℕ
 recordsAfterOne walk = figuresAt (walk 1 (fileOf (readFile whole))) .records
@@ -203,7 +205,7 @@ neverOver q = false
 
 -- the end of the walk over the empty Program
 abbrev end : Spot
-end = lastSpot (fileOf (readFile empty))
+end = finalSpot (fileOf (readFile empty))
 
 end-over : isOver end ≡ true
 unfolding computing
@@ -318,7 +320,7 @@ changing change file lent out = do
   checkOutput out (finalFigures f)
   accepted
       (record {
-        file = written (withTree (fileAt (lastSpot f)) (change (fileAt (lastSpot f) .symbols) (fileAt (lastSpot f) .tree)));
+        file = written (withTree (fileAt (finalSpot f)) (change (fileAt (finalSpot f) .symbols) (fileAt (finalSpot f) .tree)));
         figures = finalFigures f;
       })
 
@@ -527,6 +529,89 @@ no-letter-step e =
     let s = firstChildren (bare .tree) in
     let same = e 1 (firstHead s) (firstChildren s) (storeOf bare) .1 in
     omega (arith, steps-before, steps-by-letters, ap steps same)
+
+-- ---- the import line at another time or place (excluded by `import-line`)
+
+-- a block with a using, in a runtime module and in a script
+abbrev importing : File
+importing = fileOf (readFile (bytes "40:0,1 41:0,16 41:1,0 42:10,6,2,0 1:1,1 2:2,1 5:3,1 6:0,1,2 26:1 24:7,0"))
+
+abbrev script : File
+script = fileOf (readFile (bytes "40:0,0 41:0,16 41:1,0 42:10,6,2,0 1:1,1 2:2,1 5:3,1 6:0,1,2 26:1 24:7,0"))
+
+-- how many records there are
+abbrev recordsAt : Spot → ℕ
+recordsAt s = size (treeAt s)
+
+-- the line stands from the first visit on
+unfoldable pub earlyCalls : ℕ → File → Spot
+earlyCalls zero f = start f
+earlyCalls (suc k) f =
+    let s = visits (suc k) (start f) in
+    over (withImport (storeAt (lastSpot f) .helper) (treeAt s)) (storeAt s)
+
+early-records : recordsAt (earlyCalls 1 importing) ≡ 8
+unfolding earlyCalls computing
+early-records = refl
+
+module-records : recordsAt (visits 1 (start importing)) ≡ 6
+unfolding computing
+module-records = refl
+
+one-visit : isOver (visits 1 (start importing)) ≡ false
+unfolding computing
+one-visit = refl
+
+pub no-early-line : ImportLine earlyCalls importing 1 → ⊥
+no-early-line i = omega (arith, early-records, module-records, ap recordsAt (i .before one-visit))
+
+-- each call puts the line once the walk is over
+unfoldable pub againCalls : ℕ → File → Spot
+againCalls zero f = start f
+againCalls (suc k) f = completed (visit (againCalls k f))
+
+again-records : (recordsAt (againCalls 18 importing) ≡ 20) × (recordsAt (againCalls 19 importing) ≡ 22)
+unfolding againCalls computing
+again-records = (refl, refl)
+
+all-visits : isOver (visits 18 (start importing)) ≡ true
+unfolding computing
+all-visits = refl
+
+pub no-second-line : ImportLine againCalls importing 18 → ⊥
+no-second-line i = omega (arith, again-records, ap recordsAt (i .once all-visits))
+
+-- a script gets the line too
+unfoldable pub scriptCalls : ℕ → File → Spot
+scriptCalls k f =
+    let s = visits k (start f) in
+    if isOver s && not (eqb (storeAt s .helper) 0) then over (withImport (storeAt s .helper) (treeAt s)) (storeAt s) else s
+
+script-records : recordsAt (scriptCalls 18 script) ≡ 20
+unfolding scriptCalls computing
+script-records = refl
+
+plain-records : recordsAt (visits 18 (start script)) ≡ 18
+unfolding computing
+plain-records = refl
+
+no-import : imports script ≡ false
+unfolding computing
+no-import = refl
+
+pub no-line-in-scripts : ImportLine scriptCalls script 18 → ⊥
+no-line-in-scripts i = omega (arith, script-records, plain-records, ap recordsAt (i .elsewhere no-import))
+
+-- no line is put at all
+has-import : imports importing ≡ true
+unfolding computing
+has-import = refl
+
+pub no-missing-line : ImportLine (λ k f. visits k (start f)) importing 18 → ⊥
+unfolding size
+no-missing-line i =
+    let p = i .first has-import all-visits in
+    omega (arith, ap size (p .2), ap size (p .3))
 
 -- ---- lengths that are none of 01's (excluded by `lengths-are-01`)
 

@@ -17,9 +17,10 @@ use Rattle.meaning.specs.Scoping.{getBinding, findBinding, blockScopedIn
 use Rattle.meaning.specs.Shapes.{call, load}
 use Rattle.meaning.specs.Statements.{takeUp}
 use Rattle.meaning.specs.Contexts.{anyCaseAwaitUsing}
-use Rattle.meaning.specs.Walk.{storeOf, start}
+use Rattle.meaning.specs.Walk.{storeOf, start, visits}
 use Rattle.meaning.specs.ImportLine.{visitCalls}
-use Rattle.meaning.specs.Charges.{figures, figuresAt}
+use Rattle.meaning.specs.Charges.{Line, importLine, figures, figuresAt}
+use Rattle.meaning.specs.Due.{importDues}
 use Rattle.meaning.specs.Lowering.{Lent, Written, figuresOf, admit, admitOutput, lower}
 use Rattle.meaning.specs.Notation.{bytes}
 use Rattle.meaning.specs.Computing.{computing}
@@ -217,8 +218,9 @@ line-counted = refl
 
 -- in a script there is none
 pub no-line-in-script
-    : figuresOf (bytes "40:0,0 41:0,16 41:1,0 42:10,6,2,0 1:1,1 2:2,1 5:3,1 6:0,1,2 26:1 24:7,0") ≡ accepted (figures 18 5 4 1 220)
-unfolding figuresOf computing
+    : lowered "40:0,0 41:0,16 41:1,0 42:10,6,2,0 1:1,1 2:2,1 5:3,1 6:0,1,2 26:1 24:7,0"
+    ≡ gives 18 5 4 1 220 "40:0,0 41:0,16 41:1,0 41:1,2 41:3,0 41:1,0 42:10,6,2,0 42:5,1,1,1 42:5,1,1,1 42:2,17,4,0 1:1,1 11:3,3 2:2,2 5:0,1 6:0,1,2 26:2 28:0,3 5:2,1 6:0,1,2 26:1 27:0,2,1 24:7,0 12:3,1,0,2 26:4 2:4,1 29:0,2,4 2:5,1 29:1,2,0"
+unfolding computing
 no-line-in-script = refl
 
 -- so many records stand after some calls: the second makes the context, the 18th is the last and puts the line
@@ -231,6 +233,15 @@ pub line-last
     × (recordsAfter 19 (readFile importing) ≡ 20)
 unfolding computing
 line-last = (refl, refl, refl, refl)
+
+-- it is charged then, and not with the first load
+abbrev lineCharged : ℕ → Outcome File → List Line
+lineCharged k (accepted f) = importDues (visits k (start f))
+lineCharged k (refused c p) = []
+
+pub line-charged : (lineCharged 2 (readFile importing) ≡ []) × (lineCharged 18 (readFile importing) ≡ importLine ∷ [])
+unfolding computing
+line-charged = (refl, refl)
 
 -- on reading it has one Specifier, and stays among the lines of a lowered Program
 pub line-alone : readFile (bytes "40:1,0 41:0,16 1:1,1 17:4,0,0") ≡ refused 5 21

@@ -2,7 +2,7 @@
 -- Assumes nothing.
 use mathlib.Core.Path.{_≡_, refl, sym, ap, _∙_}
 use mathlib.Core.Bool.{Bool, true, false}
-use mathlib.Core.List.{List, [], _∷_, _++_, append-assoc, append-nil}
+use mathlib.Core.List.{List, [], _∷_, _++_, append-nil}
 use Prim.Native.Nat.{ℕ, zero, suc, _+_, _-_, _≤_, _<_}
 use native.Mathlib.Omega.{arith}
 use lib.ListN.{length}
@@ -14,8 +14,8 @@ use Rattle.meaning.specs.File.{File}
 use Rattle.meaning.specs.Scoping.{Store}
 use Rattle.meaning.specs.Reading.{accepted, readFile}
 use Rattle.meaning.specs.Walk.{Spot, at, leaving, over, isOver, visits, start, treeAt, storeAt}
-use Rattle.meaning.specs.ImportLine.{importDue, withImport, completed, visitCalls}
-use Rattle.meaning.specs.Charges.{Figures, figuresAt, finalFigures}
+use Rattle.meaning.specs.ImportLine.{importDue, withImport, completed}
+use Rattle.meaning.specs.Charges.{Figures, finalFigures}
 use Rattle.spec_laws.specs.Tags.{clash}
 use Rattle.spec_laws.specs.Bools.{one-less}
 use Rattle.spec_laws.specs.Trees.{count-size, visits-last}
@@ -24,7 +24,7 @@ use Rattle.charge_laws.specs.Totals.Fits.{accepted-fits}
 use Rattle.charge_laws.specs.Counts.Left.{over-stays}
 use Rattle.charge_laws.specs.Fit.Import.{line-grows, some-records, calls-above}
 use Rattle.tables.specs.Loops.{turns}
-use Rattle.tables.specs.Table.{capped, cap-one, columnF, setColumnF, closedRowF}
+use Rattle.tables.specs.Table.{capped, cap-one, columnF, setColumnF}
 use Rattle.tables.specs.Stream.{Buf, emitF, takeBackF}
 use Rattle.tables.specs.declared.Row.{Row}
 use Rattle.path.specs.Path.{Tables, tables, onRecords, withCursorF}
@@ -34,7 +34,6 @@ use Rattle.representation.specs.Gap.Rows.{emit-gapped, take-back-gapped, turns-
 use Rattle.representation.specs.Spots.Spots.{opensAt, visitedAt, restAt, Rest, walkAt, held}
 use Rattle.representation.specs.Spots.Lengths.{walk-eq}
 use Rattle.table_laws.specs.Lists.Plan.{cap-sum}
-use Rattle.walk.specs.Visit.{visitF}
 use Rattle.walk.specs.Over.{isOverIn}
 use Rattle.walk.specs.Call.{visitCallF, over-unchanged, call-last, call-goes-on}
 use Rattle.simulation.specs.Visit.{over-told}
@@ -68,10 +67,10 @@ module _ (h : Head) (k r : Forest) (st : Store) (g : ℕ) (z : Rest) where
       rw (n, append-nil)
 
   back-law : takeBackF (suc (length behind) - 1) (record {
-        t = table (first ∷ (behind ++ (free 2 ++ free g))) rest;
-        read = suc (length behind) + 2;
-        written = suc (length behind);
-      })
+    t = table (first ∷ (behind ++ (free 2 ++ free g))) rest;
+    read = suc (length behind) + 2;
+    written = suc (length behind);
+  })
       ≡ gapped rest (first ∷ []) 2 (behind ++ free g)
   unfolding gapped
   back-law = rw (one-less (length behind)) (take-back-gapped rest (first ∷ []) 2 behind (free g))
@@ -97,10 +96,10 @@ module _ (h : Head) (k r : Forest) (st : Store) (g : ℕ) (z : Rest) where
   few fits = omega (arith, count-size k)
 
   streamed : writeImportF (st .helper) (takeBackF (length (rowsOf (more h k r)) - 1) (record {
-        t = table (first ∷ (behind ++ (free 2 ++ free g))) rest;
-        read = length (rowsOf (more h k r)) + 2;
-        written = length (rowsOf (more h k r));
-      })) .t
+    t = table (first ∷ (behind ++ (free 2 ++ free g))) rest;
+    read = length (rowsOf (more h k r)) + 2;
+    written = length (rowsOf (more h k r));
+  })) .t
       ≡ table (first ∷ import ∷ named ∷ (behind ++ free g)) rest
   unfolding rowsOf
   streamed = ap (λ (b : Buf). writeImportF (st .helper) b .t) back-law ∙ write-law (behind ++ free g)

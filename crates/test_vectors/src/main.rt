@@ -1,5 +1,5 @@
 // Replays vectors, and prints how many agreed. A file of data/ is text, read line by line; its form says what a line is (checks.rt, walks.rt,
-// lowerings.rt, corners.rt). A further file is one line more in `replay_all`.
+// lowerings.rt, corners.rt). A further file is one line more in `replay_scope` or `replay_requests`.
 mod checks;
 mod corners;
 mod lowerings;
@@ -128,16 +128,25 @@ fn replay(name: &[u8], form: Form, room: &mut [u8]) {
     tell_seen(form, replay_pieces(os::open_read(name), form, room));
 }
 
-// Every file of vectors, with its form.
-fn replay_all(room: &mut [u8]) {
+// The files of document 01, with their forms.
+fn replay_scope(room: &mut [u8]) {
     replay(b"check.txt", Form::Checks, room);
     replay(b"visits.txt", Form::Walks, room);
     replay(b"lower.txt", Form::Lowerings, room);
+}
+
+// Those of the requests of document 02.
+fn replay_requests(room: &mut [u8]) {
     replay(b"depth.txt", Form::Lowerings, room);
     replay(b"letters.txt", Form::Lowerings, room);
     replay(b"letter_visits.txt", Form::Walks, room);
     replay(b"imports.txt", Form::Lowerings, room);
     replay(b"import_visits.txt", Form::Walks, room);
+}
+
+fn replay_all(room: &mut [u8]) {
+    replay_scope(room);
+    replay_requests(room);
     replay(b"corners.txt", Form::Corners, room);
 }
 

@@ -278,7 +278,8 @@ fn enter_some(walk: Walk, limit: u32, records: &mut [u16]) -> Visited
     Visited { walk: w, visits }
 }
 
-// The next visit, and those after it that only enter a record, `limit` at most: as `visit` one by one, in less time. None once the walk is over.
+// The next visit, and those after it that only enter a record, `limit` at most: as `visit` one by one, in less time. None once the walk is over;
+// the import line is not added.
 pub fn visit_some(
     walk: Walk,
     limit: u32,
@@ -321,12 +322,7 @@ fn visit(walk: Walk, records: &mut [u16], scopes: &mut [u16], symbols: &mut [u16
 }
 
 // A call for the next visit: after the last visit it adds the import line, if that is due; later calls change nothing.
-pub fn visit_call(
-    walk: Walk,
-    records: &mut [u16],
-    scopes: &mut [u16],
-    symbols: &mut [u16],
-) -> Walk
+pub fn visit_call(walk: Walk, records: &mut [u16], scopes: &mut [u16], symbols: &mut [u16]) -> Walk
     ensures { λ r. ⌜
         tables (now (records .exit)) (now (scopes .exit)) (now (symbols .exit)) r
         ≡ visitCallF (tables (now (records .entry)) (now (scopes .entry)) (now (symbols .entry)) walk)

@@ -1,6 +1,6 @@
 -- The import line of an accepted file's walk: when it is due, and what it adds (02, request 1).
 -- Assumes nothing.
-use mathlib.Core.Path.{_≡_, refl, sym, ap, _∙_}
+use mathlib.Core.Path.{_≡_, refl, ap, _∙_}
 use mathlib.Core.Bool.{Bool, true, false, not, _&&_}
 use mathlib.Core.List.{List, [], _∷_, _++_}
 use Prim.Native.Nat.{ℕ, zero, suc, _+_, _≤_}
@@ -9,7 +9,7 @@ use lib.ListN.{length}
 use lib.Dec.{eqb, leb}
 use borrow.Author.Tests.{ne-eqb}
 use Rattle.meaning.specs.Numbers.Mode
-use Rattle.meaning.specs.Tree.{if_then_else_, Head, Forest, none, more, Node, size, _&_}
+use Rattle.meaning.specs.Tree.{if_then_else_, Forest, none, more, Node, size, _&_}
 use Rattle.meaning.specs.File.{File, fieldBytes, numbersOf}
 use Rattle.meaning.specs.Scoping.{Store}
 use Rattle.meaning.specs.Reading.{accepted, readFile}
@@ -68,7 +68,7 @@ use Rattle.charge_laws.specs.Fit.Final.{Agree, contexts-agree, AtMost, a
 -- ---- in runtime mode a helper is loaded just if a context was made
 
 -- the settings are the file's; the helper is made with the first context, and has a row
-pub record Loaded (f : File) (st : Store) : Type 0 where
+pub record HelperIn (f : File) (st : Store) : Type 0 where
   pub mode : st .mode ≡ f .mode
   pub isModule : st .isModule ≡ f .isModule
   pub helper : eqb (st .helper) 0 ≡ not (eqb (f .mode) Mode.Runtime && not (eqb (st .contexts) 0))
@@ -90,9 +90,9 @@ unfolding total lineCharge
 no-context true = refl
 no-context false = refl
 
-visited-loaded : {f : File} {ls : List Line} {k : Forest} {st : Store} {e : Node × Store} → Visited ls k st e → Loaded f st → Loaded f (e .1)
+visited-helper : {f : File} {ls : List Line} {k : Forest} {st : Store} {e : Node × Store} → Visited ls k st e → HelperIn f st → HelperIn f (e .1)
 unfolding counts helperLine
-visited-loaded {f} {ls} {st = st} {e = e} v l =
+visited-helper {f} {ls} {st = st} {e = e} v l =
     let more : e .1 .contexts ≡ st .contexts + total ls .contexts = omega (arith, v .adds, no-context (missing st && anyContext ls)) in
     record {
       mode = v .mode ∙ l .mode;
@@ -101,34 +101,34 @@ visited-loaded {f} {ls} {st = st} {e = e} v l =
       row = v .row (l .row);
     }
 
-visit-loaded : (f : File) (s : Spot) → Pending s → Loaded f (storeAt s) → Loaded f (storeAt (visit s))
+visit-helper : (f : File) (s : Spot) → Pending s → HelperIn f (storeAt s) → HelperIn f (storeAt (visit s))
 unfolding visit storeAt
-visit-loaded f (over tree st) q l = l
-visit-loaded f (at d h k r p st) q l =
+visit-helper f (over tree st) q l = l
+visit-helper f (at d h k r p st) q l =
     let e = enter (currentScope p) (hoistScope p) h k st in
-    rw (settled _ none (e .0 .children) (e .1) .1) (visited-loaded (entered (currentScope p) (hoistScope p) h k st (proper h k (q .0 .0))) l)
-visit-loaded f (leaving k h d r p st) q l =
+    rw (settled _ none (e .0 .children) (e .1) .1) (visited-helper (entered (currentScope p) (hoistScope p) h k st (proper h k (q .0 .0))) l)
+visit-helper f (leaving k h d r p st) q l =
     let e = leave h k st in
-    rw (settled p _ r (e .1) .1) (visited-loaded (left h k st (q .0)) l)
+    rw (settled p _ r (e .1) .1) (visited-helper (left h k st (q .0)) l)
 
-visits-loaded : (f : File) (k : ℕ) (s : Spot) → Pending s → Loaded f (storeAt s) → Loaded f (storeAt (visits k s))
+visits-helper : (f : File) (k : ℕ) (s : Spot) → Pending s → HelperIn f (storeAt s) → HelperIn f (storeAt (visits k s))
 unfolding visits
-visits-loaded f zero s q l = l
-visits-loaded f (suc k) s q l = visits-loaded f k (visit s) (pending-visit s q) (visit-loaded f s q l)
+visits-helper f zero s q l = l
+visits-helper f (suc k) s q l = visits-helper f k (visit s) (pending-visit s q) (visit-helper f s q l)
 
 none-yet : (m : Bool) → true ≡ not (m && false)
 none-yet true = refl
 none-yet false = refl
 
-start-loaded : (f : File) → Loaded f (storeAt (start f))
+start-helper : (f : File) → HelperIn f (storeAt (start f))
 unfolding start storeOf
-start-loaded f =
+start-helper f =
     rw (settled [] none (f .tree) (storeOf f) .1)
     (record { mode = refl; isModule = refl; helper = none-yet (eqb (f .mode) Mode.Runtime); row = λ e. absurd (clash e refl) })
 
 -- THE HELPER after any number of visits of an accepted file's walk.
-pub accepted-loaded : (b : List ℕ) (f : File) (k : ℕ) → readFile b ≡ accepted f → Loaded f (storeAt (visits k (start f)))
-accepted-loaded b f k e = visits-loaded f k (start f) (pending-start f (accepted-fit b f e)) (start-loaded f)
+pub accepted-helper : (b : List ℕ) (f : File) (k : ℕ) → readFile b ≡ accepted f → HelperIn f (storeAt (visits k (start f)))
+accepted-helper b f k e = visits-helper f k (start f) (pending-start f (accepted-fit b f e)) (start-helper f)
 
 -- ---- when the line is due
 
@@ -139,7 +139,7 @@ module-loads true false c = refl
 module-loads false i c = refl
 
 -- in a runtime module with a context
-pub due-if : {f : File} {st : Store} → Loaded f st
+pub due-if : {f : File} {st : Store} → HelperIn f st
     → importDue st ≡ (eqb (f .mode) Mode.Runtime && eqb (f .isModule) 1 && not (eqb (st .contexts) 0))
 unfolding importDue
 due-if {f} {st} l =
@@ -150,7 +150,7 @@ contexts-at : (s : Spot) → figuresAt s .contexts ≡ storeAt s .contexts
 unfolding figuresAt figuresIn fileAt
 contexts-at s = omega arith
 
-over-due : (f : File) (s : Spot) → Loaded f (storeAt s) → isOver s ≡ true → importDues s ≡ importLines (f .mode) (f .isModule) (figuresAt s)
+over-due : (f : File) (s : Spot) → HelperIn f (storeAt s) → isOver s ≡ true → importDues s ≡ importLines (f .mode) (f .isModule) (figuresAt s)
 unfolding importDues importLines storeAt isOver
 over-due f (over tree st) l o = rw (contexts-at (over tree st), due-if l)
 over-due f (at d h k r p st) l o = absurd (clash refl o)
@@ -227,7 +227,7 @@ module _ (b : List ℕ) (f : File) (e : readFile b ≡ accepted f) (k : ℕ) whe
     where
       go : (o : Bool) → isOver spot ≡ o → importDues spot ≡ (if o then importLines (f .mode) (f .isModule) (walkFigures f) else [])
       go true o =
-          over-due f spot (accepted-loaded b f k e) o ∙ ap (importLines (f .mode) (f .isModule)) (accepted-final b f k e o)
+          over-due f spot (accepted-helper b f k e) o ∙ ap (importLines (f .mode) (f .isModule)) (accepted-final b f k e o)
       go false o = none-due spot o
 
   -- Once the walk is over the figures are the final ones,
@@ -236,7 +236,7 @@ module _ (b : List ℕ) (f : File) (e : readFile b ≡ accepted f) (k : ℕ) whe
   calls-final o =
       let x = accepted-final b f k e o in
       figures-same _ _ (completed-adds spot some-records)
-      ∙ ap (λ (ls : List Line). figuresAt spot ⊕ total ls) (over-due f spot (accepted-loaded b f k e) o)
+      ∙ ap (λ (ls : List Line). figuresAt spot ⊕ total ls) (over-due f spot (accepted-helper b f k e) o)
       ∙ ap (λ (x : Figures). x ⊕ total (importLines (f .mode) (f .isModule) x)) x
 
   -- and before that none is above its final one.
