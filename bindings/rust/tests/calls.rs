@@ -145,7 +145,7 @@ fn the_last_visit_imports_the_helper() {
     for _ in 0..17 {
         assert!(!walk.visit());
     }
-    assert_eq!(walk.rows(), [17, 19, 20, 1]);
+    assert_eq!(walk.rows(), [17, 19, 20, 17]);
     assert!(walk.visit());
     assert_eq!(walk.rows(), [20, 20, 20, 0]);
     assert_eq!((walk.contexts(), walk.helper()), (1, 3));
