@@ -30,10 +30,9 @@ use Rattle.meaning.specs.Walk.{
   start,
   plug,
   treeAt,
-  fileAt,
 }
 use Rattle.meaning.specs.ImportLine.{completed, visitCalls}
-use Rattle.meaning.specs.Charges.{figuresIn, figuresAt, walkFigures, finalFigures}
+use Rattle.meaning.specs.Charges.{figuresAt, walkFigures, finalFigures}
 use Rattle.meaning.specs.Lowering.{lastSpot, finalSpot}
 use Rattle.spec_laws.specs.Tags.{clash}
 use Rattle.charge_laws.specs.Growth.Trees.{more-&}
@@ -41,6 +40,7 @@ use Rattle.charge_laws.specs.Growth.Charged.{counts}
 use Rattle.charge_laws.specs.Growth.Enter.{left}
 use Rattle.charge_laws.specs.Counts.Pending.{Pending, pending-start, pending-visit}
 use Rattle.charge_laws.specs.Counts.Left.{over-stays}
+use Rattle.charge_laws.specs.Counts.Figures.{whole-at}
 use Rattle.charge_laws.specs.Fit.Accepted.{accepted-fit}
 use Rattle.charge_laws.specs.Fit.Final.{accepted-final, never-above}
 use Rattle.charge_laws.specs.Fit.Import.{calls-final}
@@ -119,10 +119,6 @@ tree-used (over tree st) o = absurd (clash o refl)
 tree-used (at d h k r p st) o = omega (arith, plug-used p (d & more h k r), more-& d (more h k r))
 tree-used (leaving k h d r p st) o = omega (arith, plug-used p (d & more h k r), more-& d (more h k r))
 
-records-at : (s : Spot) → figuresAt s .records ≡ size (treeAt s)
-unfolding figuresAt figuresIn fileAt
-records-at s = omega arith
-
 -- ---- a file
 
 enough : (b : List ℕ) (f : File) → readFile b ≡ accepted f → isOver (visits (2 * finalFigures f .records) (start f)) ≡ true
@@ -139,7 +135,7 @@ enough b f e = go (isOver s) refl
           arith,
           visits-used (2 * finalFigures f .records) (start f) (pending-start f (accepted-fit b f e)) o,
           tree-used s o,
-          records-at s,
+          whole-at s,
           never-above b f (2 * finalFigures f .records) e,
         ))
 

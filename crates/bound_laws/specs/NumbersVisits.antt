@@ -1,6 +1,5 @@
 -- After any number of visits the numbers keep to the bound.
 -- Assumes nothing.
-use mathlib.Core.Path.{_≡_, refl}
 use mathlib.Core.Bool.{true, false}
 use mathlib.Core.List.{List, [], _∷_}
 use Prim.Native.Nat.{ℕ, zero, suc, _≤_}
@@ -42,6 +41,7 @@ use Rattle.meaning.specs.Walk.{
   treeAt,
   storeAt,
 }
+use Rattle.charge_laws.specs.Counts.Figures.{settled}
 use Rattle.bound_laws.specs.Numbers.{
   All,
   UpTo,
@@ -70,14 +70,6 @@ SpotWithin B (at done h k r path st) =
     TreeWithin B done × HeadWithin B h × TreeWithin B k × TreeWithin B r × All (CrumbWithin B) path × StoreWithin B st
 SpotWithin B (leaving kids h before after path st) =
     TreeWithin B kids × HeadWithin B h × TreeWithin B before × TreeWithin B after × All (CrumbWithin B) path × StoreWithin B st
-
-settled-store : (path : List Crumb) (done f : Forest) (st : Store) → storeAt (settle done f path st) ≡ st
-unfolding settle storeAt
-settled-store [] done none st = refl
-settled-store [] done (more h k r) st = refl
-settled-store (crumb h before after ∷ path) done none st =
-    either (λ (s : Spot). storeAt s ≡ st) (isStaticBlock h) refl (settled-store path (before & one h done) after st)
-settled-store (crumb h before after ∷ path) done (more h₁ k₁ r₁) st = refl
 
 module _ {B : ℕ} (big : 32 ≤ B) where
   current-most : (path : List Crumb) → All (CrumbWithin B) path → currentScope path ≤ B
@@ -151,12 +143,13 @@ module _ {B : ℕ} (big : 32 ≤ B) where
       let hoist = hoistScope path in
       let e = enter cur hoist h k st in
       let a = act-kept (actOf (st .asRead) h k) cur hoist h k st (current-most path (i .4)) (hoist-most path (i .4)) (i .1) (i .2) in
-      let p = a .kept tt (i .5) (rw settled-store at r) in
+      let p = a .kept tt (i .5) (rw (settled (crumb (e .0 .head) done after ∷ path) none (e .0 .children) (e .1) .1) at r) in
       settled-within (crumb (e .0 .head) done after ∷ path) none (e .0 .children) (e .1) ((p .0 .0, i .0, i .3), i .4) tt (p .0 .1) (p .1)
   visit-within (leaving kids h before after path st) i r =
       let e = leave h kids st in
-      let p = leave-kept h kids st (i .1) (i .0) .kept tt (i .5) (rw settled-store at r) in
-      settled-within path (before & one (e .0 .head) (e .0 .children)) after (e .1) (i .4)
+      let now = before & one (e .0 .head) (e .0 .children) in
+      let p = leave-kept h kids st (i .1) (i .0) .kept tt (i .5) (rw (settled path now after (e .1) .1) at r) in
+      settled-within path now after (e .1) (i .4)
       (within-& big before (one (e .0 .head) (e .0 .children)) (i .2) (p .0 .0, p .0 .1, tt)) (i .3) (p .1)
 
   pub visits-within : (n : ℕ) (s : Spot) → SpotWithin B s → ((k : ℕ) → RowsWithin B (storeAt (visits k s))) → SpotWithin B (visits n s)

@@ -20,7 +20,7 @@ use Rattle.charge_laws.specs.Fit.Placed.{same-tag, Placed, accepted-placed}
 use Rattle.charge_laws.specs.Fit.Accepted.{accepted-fit}
 use Rattle.charge_laws.specs.Fit.Root.{root, accepted-root}
 use Rattle.spec_laws.specs.Tags.{clash}
-use Rattle.hint_laws.specs.Balanced.Visit.{settled}
+use Rattle.charge_laws.specs.Counts.Figures.{settled}
 use Rattle.readback_laws.specs.Back.{Childless}
 use Rattle.readback_laws.specs.Contexts.{leave-childless}
 use Rattle.readback_laws.specs.Entered.{filled, enter-childless}
@@ -78,12 +78,12 @@ unfolding visit treeAt plug _&_
 visit-childless (over tree st) q p = p
 visit-childless (at d h k r path st) q p =
     let e = enter (currentScope path) (hoistScope path) h k st in
-    subst Childless (sym (settled (crumb (e .0 .head) d r ∷ path) none (e .0 .children) (e .1)))
+    subst Childless (sym (settled (crumb (e .0 .head) d r ∷ path) none (e .0 .children) (e .1) .0))
     (plugged path d h (e .0 .head) k (e .0 .children) r (enter-childless (currentScope path) (hoistScope path) h k st (q .0 .0)) p)
 visit-childless (leaving k h d r path st) q p =
     let e = leave h k st in
     subst Childless
-    (sym (settled path (d & single (e .0)) r (e .1) ∙ ap (λ (f : Forest). plug f path) (&-assoc d (single (e .0)) r)))
+    (sym (settled path (d & single (e .0)) r (e .1) .0 ∙ ap (λ (f : Forest). plug f path) (&-assoc d (single (e .0)) r)))
     (plugged path d h (e .0 .head) k (e .0 .children) r (leave-childless h k st) p)
 
 visits-childless : (k : ℕ) (s : Spot) → Pending s → Childless (treeAt s) → Childless (treeAt (visits k s))
@@ -97,7 +97,7 @@ unfolding start plug _&_
 accepted-childless b f k e =
     let q = accepted-placed b f e in
     visits-childless k (start f) (pending-start f (accepted-fit b f e))
-    (subst Childless (sym (settled [] none (f .tree) (storeOf f))) (placed-childless (q .0) (f .tree) (λ _. Program) 0 (q .1)))
+    (subst Childless (sym (settled [] none (f .tree) (storeOf f) .0)) (placed-childless (q .0) (f .tree) (λ _. Program) 0 (q .1)))
 
 -- ---- with the import line
 

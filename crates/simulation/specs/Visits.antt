@@ -8,7 +8,7 @@ use lib.ListN.{length, take}
 use Rattle.meaning.specs.Tree.{none, size}
 use Rattle.meaning.specs.File.{Symbol, File}
 use Rattle.meaning.specs.Reading.{accepted, readFile}
-use Rattle.meaning.specs.Walk.{Spot, visit, visits, storeOf, start, treeAt, storeAt, fileAt}
+use Rattle.meaning.specs.Walk.{Spot, visit, visits, storeOf, start, treeAt, storeAt}
 use Rattle.meaning.specs.Charges.{
   ContextKind,
   ofBlock,
@@ -39,7 +39,7 @@ use Rattle.meaning.specs.Charges.{
 }
 use Rattle.charge_laws.specs.VisitCharges.{visitCharges}
 use Rattle.charge_laws.specs.Totals.Fits.{accepted-fits}
-use Rattle.charge_laws.specs.Counts.Figures.{joined}
+use Rattle.charge_laws.specs.Counts.Figures.{whole-at, joined}
 use Rattle.charge_laws.specs.Counts.Pending.{Pending, spot-fits}
 use Rattle.charge_laws.specs.Fit.Accepted.{accepted-fit, accepted-after}
 use Rattle.charge_laws.specs.Fit.Final.{never-above}
@@ -90,8 +90,7 @@ visit-in x z s p a room small most =
 pub at-spot : (s : Spot)
     → (figuresAt s .records ≡ size (treeAt s)) × (figuresAt s .scopes ≡ length (storeAt s .scopes))
     × (figuresAt s .symbols ≡ length (storeAt s .symbols)) × (figuresAt s .contexts ≡ storeAt s .contexts)
-unfolding figuresAt figuresIn fileAt
-at-spot s = omega arith
+at-spot s = omega (arith, whole-at s)
 
 -- a context makes a symbol
 kind-most : (k : ContextKind) → contextCharge k .contexts ≤ contextCharge k .symbols

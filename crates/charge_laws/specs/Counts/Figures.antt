@@ -79,7 +79,7 @@ plugged [] f = omega arith
 plugged (crumb h d r ∷ p) f = omega (arith, plugged p (d & more h f r), more-& d (more h f r))
 
 -- the figures of a tree and a store
-abbrev whole : Forest → Store → Figures
+abbrev pub whole : Forest → Store → Figures
 whole f st =
     figures
     (size f)
@@ -88,7 +88,7 @@ whole f st =
     (st .contexts)
     (settingsBytes + (scopeBytes * length (st .scopes) + (symbolBytes * length (st .symbols) + recordBytes f)))
 
-whole-at : (s : Spot) → Same (figuresAt s) (whole (treeAt s) (storeAt s))
+pub whole-at : (s : Spot) → Same (figuresAt s) (whole (treeAt s) (storeAt s))
 unfolding figuresAt figuresIn fileAt
 whole-at s = omega arith
 

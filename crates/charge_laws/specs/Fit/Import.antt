@@ -60,7 +60,8 @@ use Rattle.charge_laws.specs.Growth.Charged.{counts, helperLine, Visited
 use Rattle.charge_laws.specs.Growth.Enter.{entered, left}
 use Rattle.charge_laws.specs.Counts.Enter.{proper}
 use Rattle.charge_laws.specs.Counts.Pending.{Pending, pending-start, pending-visit}
-use Rattle.charge_laws.specs.Counts.Figures.{settled, joined}
+use Rattle.charge_laws.specs.Counts.Figures.{settled, whole-at, joined}
+use Rattle.charge_laws.specs.Totals.Total.{helper-contexts}
 use Rattle.charge_laws.specs.Fit.Accepted.{accepted-fit, accepted-charged}
 use Rattle.charge_laws.specs.Fit.Ends.{walk-ends}
 use Rattle.charge_laws.specs.Fit.Final.{Agree, contexts-agree, AtMost, accepted-final, never-above}
@@ -85,15 +86,10 @@ still true false c n a =
     let same : c + n ≡ c = omega arith in
     rw same (and-true (not (not (eqb c 0))))
 
-no-context : (b : Bool) → total (if b then helper ∷ [] else []) .contexts ≡ 0
-unfolding total lineCharge
-no-context true = refl
-no-context false = refl
-
 visited-helper : {f : File} {ls : List Line} {k : Forest} {st : Store} {e : Node × Store} → Visited ls k st e → HelperIn f st → HelperIn f (e .1)
 unfolding counts helperLine
 visited-helper {f} {ls} {st = st} {e = e} v l =
-    let more : e .1 .contexts ≡ st .contexts + total ls .contexts = omega (arith, v .adds, no-context (missing st && anyContext ls)) in
+    let more : e .1 .contexts ≡ st .contexts + total ls .contexts = omega (arith, v .adds, helper-contexts (missing st && anyContext ls)) in
     record {
       mode = v .mode ∙ l .mode;
       isModule = v .isModule ∙ l .isModule;
@@ -146,13 +142,9 @@ due-if {f} {st} l =
     rw (l .mode, l .isModule, l .helper)
     (module-loads (eqb (f .mode) Mode.Runtime) (eqb (f .isModule) 1) (not (eqb (st .contexts) 0)))
 
-contexts-at : (s : Spot) → figuresAt s .contexts ≡ storeAt s .contexts
-unfolding figuresAt figuresIn fileAt
-contexts-at s = omega arith
-
 over-due : (f : File) (s : Spot) → HelperIn f (storeAt s) → isOver s ≡ true → importDues s ≡ importLines (f .mode) (f .isModule) (figuresAt s)
 unfolding importDues importLines storeAt isOver
-over-due f (over tree st) l o = rw (contexts-at (over tree st), due-if l)
+over-due f (over tree st) l o = rw (whole-at (over tree st) .3, due-if l)
 over-due f (at d h k r p st) l o = absurd (clash refl o)
 over-due f (leaving k h d r p st) l o = absurd (clash refl o)
 
@@ -182,10 +174,6 @@ completed-adds (over tree st) l = completed-if (importDue st) tree st l
 completed-adds (at d h k r p st) l = omega arith
 completed-adds (leaving k h d r p st) l = omega arith
 
-records-at : (s : Spot) → figuresAt s .records ≡ size (treeAt s)
-unfolding figuresAt figuresIn fileAt
-records-at s = omega arith
-
 -- ---- an accepted file
 
 module _ (b : List ℕ) (f : File) (e : readFile b ≡ accepted f) (k : ℕ) where
@@ -200,7 +188,7 @@ module _ (b : List ℕ) (f : File) (e : readFile b ≡ accepted f) (k : ℕ) whe
         arith,
         file-parsed b f e .one-program,
         count-size (f .tree),
-        records-at spot,
+        whole-at spot,
         ap (λ (x : Figures). x .records) (accepted-charged b f k e),
       )
 

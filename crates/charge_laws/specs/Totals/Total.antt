@@ -52,7 +52,7 @@ helper-same : (mode : ℕ) (x y : Figures) → x .contexts ≡ y .contexts → h
 unfolding helperLines
 helper-same mode x y e = rw e
 
-helper-contexts : (b : Bool) → total (if b then helper ∷ [] else []) .contexts ≡ 0
+pub helper-contexts : (b : Bool) → total (if b then helper ∷ [] else []) .contexts ≡ 0
 unfolding total lineCharge
 helper-contexts true = refl
 helper-contexts false = refl

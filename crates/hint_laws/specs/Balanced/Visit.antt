@@ -1,18 +1,16 @@
 -- Each visit keeps what a tree gives and still asks for.
 -- Assumes nothing.
 use mathlib.Core.Path.{_≡_, refl, sym, ap, _∙_}
-use mathlib.Core.Bool.{Bool, true, false}
 use mathlib.Core.List.{List, [], _∷_}
 use Prim.Native.Nat.{ℕ, zero, suc, _≤_}
 use native.Mathlib.Omega.{arith}
 use lib.ListN.{length}
 use borrow.Author.Tests.{lt-ltb}
-use Rattle.meaning.specs.Tree.{if_then_else_, Head, Forest, none, more, one, Node, count, _&_}
+use Rattle.meaning.specs.Tree.{Head, Forest, none, more, one, Node, count, _&_}
 use Rattle.meaning.specs.File.{File}
 use Rattle.meaning.specs.Scoping.{Store}
 use Rattle.meaning.specs.Reading.{accepted, readFile}
 use Rattle.meaning.specs.Walk.{
-  isStaticBlock,
   enter,
   leave,
   Crumb,
@@ -23,7 +21,6 @@ use Rattle.meaning.specs.Walk.{
   over,
   currentScope,
   hoistScope,
-  settle,
   visit,
   visits,
   storeOf,
@@ -34,7 +31,8 @@ use Rattle.meaning.specs.Walk.{
   fileAt,
 }
 use Rattle.meaning.specs.Charges.{Figures, figuresIn, figuresAt}
-use Rattle.charge_laws.specs.Counts.Visits.{&-none, &-assoc}
+use Rattle.charge_laws.specs.Counts.Visits.{&-assoc}
+use Rattle.charge_laws.specs.Counts.Figures.{settled}
 use Rattle.charge_laws.specs.Counts.Pending.{Pending, spot-fits}
 use Rattle.charge_laws.specs.Fit.Accepted.{accepted-fit, accepted-after}
 use Rattle.meaning.specs.File.{numbersOf, hasChildren, ownNumbers, recordNumbers}
@@ -47,24 +45,6 @@ use Rattle.hint_laws.specs.Balanced.ForOf.{Unseen}
 use Rattle.hint_laws.specs.Balanced.Entered.{Opens, enter-keeps, leave-keeps}
 use Rattle.hint_laws.specs.Balanced.Once.{SourceAt, visits-source}
 use Rattle.spec_laws.specs.Trees.{visits-last as more-visits}
-
--- ---- the tree at a spot
-
-settled-if : (b : Bool) (h : Head) (d d₀ r₀ : Forest) (p : List Crumb) (st : Store)
-    → treeAt (settle (d₀ & one h d) r₀ p st) ≡ plug ((d₀ & one h d) & r₀) p
-    → treeAt (if b then leaving d h d₀ r₀ p st else settle (d₀ & one h d) r₀ p st) ≡ plug (d₀ & more h (d & none) r₀) p
-unfolding treeAt _&_
-settled-if true h d d₀ r₀ p st i = ap (λ (f : Forest). plug (d₀ & more h f r₀) p) (sym (&-none d))
-settled-if false h d d₀ r₀ p st i =
-    i ∙ ap (λ (f : Forest). plug f p) (&-assoc d₀ (one h d) r₀ ∙ ap (λ (f : Forest). d₀ & more h f r₀) (sym (&-none d)))
-
--- going on leaves the tree as it is
-pub settled : (p : List Crumb) (d f : Forest) (st : Store) → treeAt (settle d f p st) ≡ plug (d & f) p
-unfolding settle treeAt plug
-settled [] d none st = sym (&-none d)
-settled [] d (more h k r) st = refl
-settled (crumb h d₀ r₀ ∷ p) d none st = settled-if (isStaticBlock h) h d d₀ r₀ p st (settled p (d₀ & one h d) r₀ st)
-settled (c ∷ p) d (more h k r) st = refl
 
 -- ---- one visit
 
@@ -90,12 +70,12 @@ module _ (w : List ℕ → List ℕ → ℕ → ℕ) (read : ℕ) where
   kept-at unseen (over tree st) src q new = refl
   kept-at unseen (at d h k r p st) src q new =
       let e = enter (currentScope p) (hoistScope p) h k st in
-      ap (balanceOf w read) (settled (crumb (e .0 .head) d r ∷ p) none (e .0 .children) (e .1))
+      ap (balanceOf w read) (settled (crumb (e .0 .head) d r ∷ p) none (e .0 .children) (e .1) .0)
       ∙ replaced d h k r p e (enter-keeps w read unseen (currentScope p) (hoistScope p) h k st new src (q .0 .0))
   kept-at unseen (leaving k h d r p st) src q new =
       let e = leave h k st in
       let single = one (e .0 .head) (e .0 .children) in
-      ap (balanceOf w read) (settled p (d & single) r (e .1) ∙ ap (λ (f : Forest). plug f p) (&-assoc d single r))
+      ap (balanceOf w read) (settled p (d & single) r (e .1) .0 ∙ ap (λ (f : Forest). plug f p) (&-assoc d single r))
       ∙ replaced d h k r p e (leave-keeps w read h k st new (q .0))
 
   -- a Read of a new symbol is taken for no initializer
@@ -120,7 +100,7 @@ symbols-grow b f k e = omega (arith, ap (λ (x : Figures). x .symbols) (accepted
 pub visits-balance : (w : List ℕ → List ℕ → ℕ → ℕ) (b : List ℕ) (f : File) (k : ℕ) → readFile b ≡ accepted f
     → balance w (length (f .symbols)) (treeAt (visits k (start f))) ≡ balance w (length (f .symbols)) (f .tree)
 unfolding visits start plug _&_
-visits-balance w b f zero e = ap (balance w (length (f .symbols))) (settled [] none (f .tree) (storeOf f))
+visits-balance w b f zero e = ap (balance w (length (f .symbols))) (settled [] none (f .tree) (storeOf f) .0)
 visits-balance w b f (suc k) e =
     let read = length (f .symbols) in
     let s = visits k (start f) in

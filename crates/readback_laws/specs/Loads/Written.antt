@@ -7,12 +7,11 @@ use Prim.Native.Nat.{ℕ, zero, suc, _+_, _*_}
 use native.Mathlib.Omega.{arith}
 use lib.Dec.{eqb}
 use Rattle.meaning.specs.Numbers.Tag
-use Rattle.meaning.specs.Tree.{if_then_else_, Head, Forest, none, more, one, single, flatten, _&_}
+use Rattle.meaning.specs.Tree.{if_then_else_, Forest, none, more, one, single, flatten, _&_}
 use Rattle.meaning.specs.File.{File, written}
 use Rattle.meaning.specs.Scoping.{Store}
 use Rattle.meaning.specs.Reading.{accepted, readFile}
 use Rattle.meaning.specs.Walk.{
-  isStaticBlock,
   enter,
   leave,
   Crumb,
@@ -34,7 +33,7 @@ use Rattle.meaning.specs.Walk.{
   fileAt,
 }
 use Rattle.meaning.specs.ImportLine.{importDue, withImport, completed}
-use Rattle.meaning.specs.Charges.{Figures, figuresIn, figuresAt, finalFigures}
+use Rattle.meaning.specs.Charges.{Figures, finalFigures}
 use Rattle.meaning.specs.Lowering.{lastSpot, finalSpot}
 use Rattle.spec_laws.specs.Calls.{completed-store}
 use Rattle.charge_laws.specs.Counts.Enter.{proper}
@@ -44,7 +43,7 @@ use Rattle.spec_laws.specs.Trees.{Bytes}
 use Rattle.bound_laws.specs.Last.{last-spot, final-figures}
 use Rattle.readback_laws.specs.ReadBack.{recordReads, fieldsFor, fieldsOf, read-back, fieldCount, count-++, rows-++, scopes-count, symbols-count}
 use Rattle.readback_laws.specs.Written.{file-written}
-use Rattle.hint_laws.specs.Balanced.Visit.{settled}
+use Rattle.charge_laws.specs.Counts.Figures.{settled, whole-at}
 use Rattle.readback_laws.specs.Loads.Contexts.{loadOf, loads, loads-&}
 use Rattle.readback_laws.specs.Loads.Entered.{enter-loads, leave-loads}
 
@@ -56,25 +55,12 @@ plug-loads [] f g = omega arith
 plug-loads (crumb h d r ∷ p) f g =
     omega (arith, plug-loads p (d & more h f r) (d & more h g r), loads-& d (more h f r), loads-& d (more h g r))
 
-store-if : (b : Bool) (h : Head) (d d₀ r₀ : Forest) (p : List Crumb) (st : Store) → storeAt (settle (d₀ & one h d) r₀ p st) ≡ st
-    → storeAt (if b then leaving d h d₀ r₀ p st else settle (d₀ & one h d) r₀ p st) ≡ st
-unfolding storeAt
-store-if true h d d₀ r₀ p st e = refl
-store-if false h d d₀ r₀ p st e = e
-
-settled-store : (p : List Crumb) (d f : Forest) (st : Store) → storeAt (settle d f p st) ≡ st
-unfolding settle storeAt
-settled-store [] d none st = refl
-settled-store [] d (more h k r) st = refl
-settled-store (crumb h d₀ r₀ ∷ p) d none st = store-if (isStaticBlock h) h d d₀ r₀ p st (settled-store p (d₀ & one h d) r₀ st)
-settled-store (c ∷ p) d (more h k r) st = refl
-
 -- between two spots as many Loads are added as contexts are made
 abbrev Paid : Spot → Spot → Type 0
 Paid s t = loads (treeAt t) + storeAt s .contexts ≡ loads (treeAt s) + storeAt t .contexts
 
 contexts-settled : (p : List Crumb) (d f : Forest) (st : Store) → storeAt (settle d f p st) .contexts ≡ st .contexts
-contexts-settled p d f st = ap (λ (s : Store). s .contexts) (settled-store p d f st)
+contexts-settled p d f st = ap (λ (s : Store). s .contexts) (settled p d f st .1)
 
 visit-paid : (s : Spot) → Pending s → Paid s (visit s)
 unfolding visit treeAt storeAt plug loads _&_
@@ -84,7 +70,7 @@ visit-paid (at d h k r p st) q =
     let now = more (e .0 .head) (e .0 .children) r in
     omega (
       arith,
-      ap loads (settled (crumb (e .0 .head) d r ∷ p) none (e .0 .children) (e .1)),
+      ap loads (settled (crumb (e .0 .head) d r ∷ p) none (e .0 .children) (e .1) .0),
       contexts-settled (crumb (e .0 .head) d r ∷ p) none (e .0 .children) (e .1),
       plug-loads p (d & now) (d & more h k r),
       loads-& d now,
@@ -96,7 +82,7 @@ visit-paid (leaving k h d r p st) q =
     let now = single (e .0) in
     omega (
       arith,
-      ap loads (settled p (d & now) r (e .1)),
+      ap loads (settled p (d & now) r (e .1) .0),
       contexts-settled p (d & now) r (e .1),
       plug-loads p ((d & now) & r) (d & more h k r),
       loads-& (d & now) r,
@@ -114,11 +100,7 @@ visits-paid (suc k) s q = omega (arith, visit-paid s q, visits-paid k (visit s) 
 
 start-loads : (f : File) → (loads (treeAt (start f)) ≡ loads (f .tree)) × (storeAt (start f) .contexts ≡ 0)
 unfolding start plug storeOf _&_
-start-loads f = (ap loads (settled [] none (f .tree) (storeOf f)), contexts-settled [] none (f .tree) (storeOf f))
-
-contexts-at : (s : Spot) → figuresAt s .contexts ≡ storeAt s .contexts
-unfolding figuresAt figuresIn fileAt
-contexts-at s = omega arith
+start-loads f = (ap loads (settled [] none (f .tree) (storeOf f) .0), contexts-settled [] none (f .tree) (storeOf f))
 
 -- the import line has no Load
 import-loads : (y : ℕ) (tree : Forest) → loads (withImport y tree) ≡ loads tree
@@ -149,7 +131,7 @@ final-loads bytes f e =
       ap (λ (s : Spot). storeAt s .contexts) (last-spot f),
       visits-paid n (start f) (pending-start f (accepted-fit bytes f e)),
       start-loads f,
-      contexts-at (finalSpot f),
+      whole-at (finalSpot f),
       ap (λ (x : Figures). x .contexts) (final-figures bytes f e),
     )
 
