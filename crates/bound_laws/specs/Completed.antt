@@ -7,10 +7,11 @@ use native.Mathlib.Omega.{arith}
 use Rattle.meaning.specs.Tree.{Forest, none, more, _&_}
 use Rattle.meaning.specs.File.{File}
 use Rattle.meaning.specs.Reading.{accepted, readFile}
-use Rattle.meaning.specs.Walk.{Spot, at, leaving, over, start, visits, treeAt, storeAt}
-use Rattle.meaning.specs.ImportLine.{importDue, withImport, completed}
+use Rattle.meaning.specs.Walk.{start, visits, treeAt}
+use Rattle.meaning.specs.ImportLine.{withImport, completed}
 use Rattle.spec_laws.specs.Trees.{Bytes}
-use Rattle.bound_laws.specs.Numbers.{TreeWithin, StoreWithin, either}
+use Rattle.spec_laws.specs.Calls.{completed-keeps}
+use Rattle.bound_laws.specs.Numbers.{TreeWithin}
 use Rattle.bound_laws.specs.NumbersFit.{numbers-fit}
 
 within-import : (B y : ℕ) (tree : Forest) → 20 ≤ B → y ≤ B → TreeWithin B tree → TreeWithin B (withImport y tree)
@@ -26,13 +27,8 @@ within-import B y (more h k r) big l t = (
   t .2,
 )
 
-completed-within : (s : Spot) → TreeWithin 65535 (treeAt s) → StoreWithin 65535 (storeAt s) → TreeWithin 65535 (treeAt (completed s))
-unfolding completed treeAt storeAt
-completed-within (over tree st) t m =
-    either (TreeWithin 65535) (importDue st) (within-import 65535 (st .helper) tree (omega arith) (m .helper) t) t
-completed-within (at d h k r p st) t m = t
-completed-within (leaving k h d r p st) t m = t
-
 -- The numbers fit where calls for visits lead, too.
 pub calls-fit : (b : List ℕ) (f : File) (k : ℕ) → Bytes b → readFile b ≡ accepted f → TreeWithin 65535 (treeAt (completed (visits k (start f))))
-calls-fit b f k bytes e = let n = numbers-fit b f k bytes e in completed-within (visits k (start f)) (n .0) (n .1)
+calls-fit b f k bytes e =
+    let n = numbers-fit b f k bytes e in
+    completed-keeps (TreeWithin 65535) (visits k (start f)) (n .0) (within-import 65535 _ _ (omega arith) (n .1 .helper) (n .0))

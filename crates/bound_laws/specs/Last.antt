@@ -32,7 +32,7 @@ use Rattle.meaning.specs.Walk.{
   treeAt,
 }
 use Rattle.meaning.specs.ImportLine.{completed, visitCalls}
-use Rattle.meaning.specs.Charges.{figuresAt, walkFigures, finalFigures}
+use Rattle.meaning.specs.Charges.{figuresAt, finalFigures}
 use Rattle.meaning.specs.Lowering.{lastSpot, finalSpot}
 use Rattle.spec_laws.specs.Tags.{clash}
 use Rattle.charge_laws.specs.Growth.Trees.{more-&}
@@ -42,7 +42,7 @@ use Rattle.charge_laws.specs.Counts.Pending.{Pending, pending-start, pending-vi
 use Rattle.charge_laws.specs.Counts.Left.{over-stays}
 use Rattle.charge_laws.specs.Counts.Figures.{whole-at}
 use Rattle.charge_laws.specs.Fit.Accepted.{accepted-fit}
-use Rattle.charge_laws.specs.Fit.Final.{accepted-final, never-above}
+use Rattle.charge_laws.specs.Fit.Final.{never-above}
 use Rattle.charge_laws.specs.Fit.Import.{calls-final}
 use Rattle.spec_laws.specs.Calls.{completed-over, calls-are}
 
@@ -139,13 +139,9 @@ enough b f e = go (isOver s) refl
           never-above b f (2 * finalFigures f .records) e,
         ))
 
--- The walk of an accepted file is over at its last spot,
+-- The walk of an accepted file is over at its last spot.
 pub last-over : (b : List ℕ) (f : File) → readFile b ≡ accepted f → isOver (lastSpot f) ≡ true
 last-over b f e = ap isOver (last-spot f) ∙ enough b f e
-
--- and has the figures of the walk's end there.
-pub last-figures : (b : List ℕ) (f : File) → readFile b ≡ accepted f → figuresAt (lastSpot f) ≡ walkFigures f
-last-figures b f e = ap figuresAt (last-spot f) ∙ accepted-final b f (2 * finalFigures f .records) e (enough b f e)
 
 -- a walk that is over after m visits stands there after more
 more-stays : (m k : ℕ) (s : Spot) → m ≤ k → isOver (visits m s) ≡ true → visits k s ≡ visits m s

@@ -27,7 +27,6 @@ use Rattle.meaning.specs.File.{File, numbersOf, written}
 use Rattle.meaning.specs.Reading.{Outcome, accepted, refused, readFile}
 use Rattle.meaning.specs.Grammar.{moduleLineRight, right}
 use Rattle.meaning.specs.Scoping.{Store}
-use Rattle.meaning.specs.HelperLoader.{isFirst}
 use Rattle.meaning.specs.Statements.{makeContext}
 use Rattle.meaning.specs.Contexts.{transformSwitchStatement}
 use Rattle.meaning.specs.Program.{programItems}
@@ -53,7 +52,8 @@ use Rattle.path.specs.Path.{Tables}
 use Rattle.start.specs.declared.Started.the-variants.{Refused as NotStarted}
 use Rattle.start.specs.Start.{begun, lentIn, ready, startOf, startF}
 use Rattle.start.specs.Filled.{admitted}
-use Rattle.scoping.specs.Changes.{SymbolRows}
+use Rattle.scoping.specs.Changes.{inSymbols}
+use Rattle.representation.specs.Store.Held.{ctxOf}
 use Rattle.helper_loader.specs.Load.{helperLoadF}
 use Rattle.walk.specs.Visit.{visitF}
 use Rattle.walk.specs.Over.{isOverIn}
@@ -92,7 +92,7 @@ use Rattle.desk_numbers.specs.Numbers.{walkNumbers, walkIn, numbers-kept, begun
 use Rattle.path.specs.declared.Walk.{Walk}
 use Rattle.claims.specs.Desk.{deskCalls, inNumbers, desk-calls}
 use Rattle.claims.specs.Hinting.{final-hints}
-use Rattle.claims.specs.Import.{imports, IsHelper, ImportLine, calls, import-stands, import-in-bytes, importsIn, items-imports, load-first, first-context}
+use Rattle.claims.specs.Import.{imports, IsHelper, ImportLine, calls, import-stands, import-in-bytes, importsIn, LinesRead, accepted-lines, items-imports, load-told}
 use Rattle.claims.specs.Calls.{
   firstTables,
   afterCalls,
@@ -341,19 +341,21 @@ pub import-kept : (items : Forest) (st : Store)
     → (importsIn (programItems items st .0 .kept) ≡ importsIn items) × (importsIn (programItems items st .0 .moved) ≡ none)
 import-kept = items-imports
 
--- Reading takes a line of form 4 with one Specifier, and of the other forms with any number.
-pub import-read : (p : Place) (syms a b c d next : ℕ)
+-- Reading asks of a Module line a form up to 3, or form 4 and n = 1; where that is not so it refuses the line with 5 (`readList`).
+pub import-rule : (p : Place) (syms a b c d next : ℕ)
     → right p syms (record { tag = Tag.ModuleLine; a = a; b = b; c = c; d = d; next = next }) ≡ (leb a 3 || (eqb a 4 && eqb c 1))
 unfolding right moduleLineRight
-import-read p syms a b c d next = refl
+import-rule p syms a b c d next = refl
 
--- `helper_load` tells whether its load is the first: the walk has made at most one context, which is the load's own,
-pub first-told : (scopes : List ℕ) (q : SymbolRows) (cur : ℕ) → helperLoadF scopes q cur .loaded .first ≡ leb (q .ctx .contexts) 1
-first-told = load-first
+-- So in every accepted file a line of form 4 has exactly one child.
+pub import-read : (bytes : List ℕ) (f : File) → readFile bytes ≡ accepted f → LinesRead (f .tree)
+import-read = accepted-lines
 
--- so it is the first if no context was made before that one.
-pub first-load : (scope : ℕ) (st : Store) → isFirst (makeContext scope st .1) ≡ eqb (st .contexts) 0
-first-load = first-context
+-- `helper_load` tells whether its load is the first of the walk: it equals `helperLoadF`, and that tells so just if no context was made before
+-- the one that loads, in whatever mode.
+pub first-load : (scopes t : List ℕ) (scope cur : ℕ) (st : Store)
+    → helperLoadF scopes (inSymbols t (ctxOf (makeContext scope st .1))) cur .loaded .first ≡ eqb (st .contexts) 0
+first-load = load-told
 
 -- The cases as a table: a module with rows and bytes just enough and too few, a script, other modes, a lowered Program, a StaticBlock left last, and
 -- lines of form 4 that are read.

@@ -12,11 +12,12 @@ use Rattle.meaning.specs.Tree.{if_then_else_, Head, Forest, none, more, _&_}
 use Rattle.meaning.specs.File.{File}
 use Rattle.meaning.specs.Reading.{accepted, readFile}
 use Rattle.meaning.specs.Statements.{isUsing}
-use Rattle.meaning.specs.Walk.{Spot, at, leaving, over, isOver, visits, start, treeAt}
-use Rattle.meaning.specs.ImportLine.{importDue, withImport, completed}
+use Rattle.meaning.specs.Walk.{Spot, at, leaving, over, isOver, visits, start, treeAt, storeAt}
+use Rattle.meaning.specs.ImportLine.{withImport, completed}
 use Rattle.meaning.specs.Charges.{finalFigures}
 use Rattle.meaning.specs.Lowering.{lastSpot, finalSpot}
 use Rattle.spec_laws.specs.Tags.{clash}
+use Rattle.spec_laws.specs.Calls.{completed-keeps}
 use Rattle.hint_laws.specs.Hints.{sumOver, overDeclarators, takesUp, ofSource, asked, called, callsIn, given}
 use Rattle.hint_laws.specs.Requested.Asked.{OldCalls, accepted-old, overs-none, calls-in-none, asked-by-kind, asked-of-source}
 use Rattle.hint_laws.specs.Balanced.Balance.{letterIn, waits, doneIn, gives, balanceOf, balance}
@@ -81,15 +82,9 @@ module _ (w : List ℕ → List ℕ → ℕ → ℕ) (read : ℕ) where
   import-gives y none = refl
   import-gives y (more h k r) = omega arith
 
-  gives-if : (b : Bool) (y : ℕ) (tree : Forest) → given w read (if b then withImport y tree else tree) ≡ given w read tree
-  gives-if true y tree = import-gives y tree
-  gives-if false y tree = refl
-
   completed-gives : (s : Spot) → given w read (treeAt (completed s)) ≡ given w read (treeAt s)
-  unfolding completed treeAt
-  completed-gives (over tree st) = gives-if (importDue st) (st .helper) tree
-  completed-gives (at d h k r p st) = refl
-  completed-gives (leaving k h d r p st) = refl
+  completed-gives s =
+      completed-keeps (λ (t : Forest). given w read t ≡ given w read (treeAt s)) s refl (import-gives (storeAt s .helper) (treeAt s))
 
 -- ---- the two agree
 

@@ -1,7 +1,7 @@
 -- The import line (02, request 1): when it stands, what it is, that it stands once; and the lines of its form that were read.
 -- Assumes nothing.
 use mathlib.Core.Path.{_≡_, refl, sym, ap, ap₂, subst, _∙_}
-use mathlib.Core.Bool.{Bool, true, false, not, _&&_}
+use mathlib.Core.Bool.{Bool, true, false, not, _||_, _&&_}
 use mathlib.Core.List.{List}
 use Prim.Native.Nat.{ℕ, zero, suc, _*_, _≤_}
 use native.Mathlib.Omega.{arith}
@@ -12,9 +12,13 @@ use Rattle.meaning.specs.Numbers.Tag
 use Rattle.meaning.specs.Numbers.LineForm
 use Rattle.meaning.specs.Numbers.KnownName
 use Rattle.meaning.specs.Numbers.Mode
-use Rattle.meaning.specs.Tree.{if_then_else_, Head, hd, Forest, none, more, one, _&_}
+use Rattle.meaning.specs.Tree.{if_then_else_, Head, hd, Forest, none, more, one, count, _&_}
 use Rattle.meaning.specs.File.{File, numbersOf, hasChildren, ownNumbers, written}
 use Rattle.meaning.specs.Scoping.{Store, symbolIn, createSymbol}
+use Rattle.meaning.specs.Grammar.{moduleLineRight, right, childrenOf, placeOf, headOf}
+use Rattle.meaning.specs.declared.Place.{Place}
+use Rattle.meaning.specs.declared.Place.the-variants.{Program}
+use Rattle.meaning.specs.declared.Field.{Field}
 use Rattle.meaning.specs.Reading.{accepted, readFile}
 use Rattle.meaning.specs.HelperLoader.{isFirst}
 use Rattle.meaning.specs.Statements.{makeContext}
@@ -54,6 +58,7 @@ use Rattle.charge_laws.specs.Growth.Items.{
   chosen-item,
 }
 use Rattle.charge_laws.specs.Fit.Import.{accepted-helper, due-if, calls-final}
+use Rattle.charge_laws.specs.Fit.Placed.{ReadAs, same-tag, Placed, accepted-placed}
 use Rattle.charge_laws.specs.Fit.Root.{accepted-program}
 use Rattle.simulation.specs.Visits.{at-spot}
 use Rattle.start.specs.Start.{lentIn}
@@ -63,7 +68,8 @@ use Rattle.readback_laws.specs.Decoded.{treeIn}
 use Rattle.readback_laws.specs.Back.{plainHead, plain, Childless, tree-back}
 use Rattle.readback_laws.specs.Childless.{calls-childless}
 use Rattle.lowering.specs.Law.{final-tagged}
-use Rattle.scoping.specs.Changes.{SymbolRows}
+use Rattle.scoping.specs.Changes.{SymbolRows, inSymbols}
+use Rattle.representation.specs.Store.Held.{ctxOf}
 use Rattle.helper_loader.specs.declared.Loaded.{Loaded}
 use Rattle.helper_loader.specs.Load.{loading, loadedF, helperLoadF}
 
@@ -224,6 +230,34 @@ module _ (bytes r s y : List ℕ) (f : File) (b : Bytes bytes) (e : admit bytes 
 
 -- ---- lines of form 4 that were read
 
+-- a Module line has one of the forms up to 3, or form 4 and one child; so has each of a tree
+abbrev pub LineRead : Head → Forest → Type 0
+LineRead h k = h .tag ≡ Tag.ModuleLine → (leb (h .a) 3 || (eqb (h .a) 4 && eqb (count k) 1)) ≡ true
+
+abbrev pub LinesRead : Forest → Type 0
+LinesRead none = Unit {0}
+LinesRead (more h k r) = LineRead h k × LinesRead k × LinesRead r
+
+line-read : (syms : ℕ) (p : Place) (x : Field) (h : Head) (k : Forest) → ReadAs syms p x h k → LineRead h k
+unfolding right moduleLineRight headOf childrenOf ownNumbers hasChildren numbersOf
+line-read syms p x h k q e =
+    let t : x .tag ≡ Tag.ModuleLine = sym (same-tag q) ∙ e in
+    let form : h .a ≡ x .a = ap (λ (v : Head). v .a) (q .head) ∙ rw t in
+    let children : count k ≡ x .c = q .children ∙ rw t in
+    rw (form, children) (rw t at (q .numbers))
+
+placed-lines : (syms : ℕ) (f : Forest) (place : ℕ → Place) (i : ℕ) → Placed syms place i f → LinesRead f
+placed-lines syms none place i q = tt
+placed-lines syms (more h k r) place i q = (
+  line-read syms (place i) (q .0) h k (q .1),
+  placed-lines syms k (placeOf (place i) (q .0)) 0 (q .2),
+  placed-lines syms r place (suc i) (q .3),
+)
+
+-- EVERY LINE OF AN ACCEPTED FILE is such a line.
+pub accepted-lines : (b : List ℕ) (f : File) → readFile b ≡ accepted f → LinesRead (f .tree)
+accepted-lines b f e = let q = accepted-placed b f e in placed-lines (q .0) (f .tree) (λ _. Program) 0 (q .1)
+
 -- those that stand directly in a list
 unfoldable pub importsIn : Forest → Forest
 importsIn none = none
@@ -283,15 +317,20 @@ either-first true t u x y e = e
 either-first false t u x y e = refl
 
 -- what is told of a load
-pub load-first : (scopes : List ℕ) (q : SymbolRows) (cur : ℕ) → helperLoadF scopes q cur .loaded .first ≡ leb (q .ctx .contexts) 1
+load-first : (scopes : List ℕ) (q : SymbolRows) (cur : ℕ) → helperLoadF scopes q cur .loaded .first ≡ leb (q .ctx .contexts) 1
 unfolding helperLoadF
 load-first scopes q cur = either-first (eqb (q .ctx .mode) Mode.Runtime) _ _ (loadedF _ _ _ _) (loadedF _ _ _ _) refl
 
--- the load of a context is the first if no context was made before it
-pub first-context : (scope : ℕ) (st : Store) → isFirst (makeContext scope st .1) ≡ eqb (st .contexts) 0
+first-context : (scope : ℕ) (st : Store) → isFirst (makeContext scope st .1) ≡ eqb (st .contexts) 0
 unfolding isFirst makeContext createSymbol
 first-context scope st = only (st .contexts)
   where
     only : (n : ℕ) → leb (suc n) 1 ≡ eqb n 0
     only zero = refl
     only (suc n) = lt-leb (suc (suc n)) 1 (omega arith) ∙ sym (ne-eqb (suc n) 0 (λ e. omega arith))
+
+-- THE LOAD of a context is told to be the first just if no context was made before it, on tables with the counters of the store.
+pub load-told : (scopes t : List ℕ) (scope cur : ℕ) (st : Store)
+    → helperLoadF scopes (inSymbols t (ctxOf (makeContext scope st .1))) cur .loaded .first ≡ eqb (st .contexts) 0
+unfolding isFirst
+load-told scopes t scope cur st = load-first scopes (inSymbols t (ctxOf (makeContext scope st .1))) cur ∙ first-context scope st

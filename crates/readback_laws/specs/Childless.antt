@@ -1,16 +1,16 @@
 -- At every spot of an accepted file's walk, records without n have no children.
 -- Assumes nothing.
 use mathlib.Core.Path.{_≡_, refl, sym, ap, subst, _∙_}
-use mathlib.Core.Bool.{Bool, true, false}
+use mathlib.Core.Bool.{true, false}
 use mathlib.Core.List.{List, [], _∷_}
 use Prim.Native.Nat.{ℕ, zero, suc}
 use native.Mathlib.Omega.{arith}
-use Rattle.meaning.specs.Tree.{if_then_else_, Head, Forest, none, more, one, count, single, _&_}
+use Rattle.meaning.specs.Tree.{Head, Forest, none, more, one, count, single, _&_}
 use Rattle.meaning.specs.File.{File, hasChildren}
 use Rattle.meaning.specs.Grammar.{childrenOf, placeOf}
 use Rattle.meaning.specs.Reading.{accepted, readFile}
 use Rattle.meaning.specs.Walk.{enter, leave, Crumb, crumb, Spot, at, leaving, over, currentScope, hoistScope, visit, visits, storeOf, start, plug, treeAt}
-use Rattle.meaning.specs.ImportLine.{importDue, withImport, completed}
+use Rattle.meaning.specs.ImportLine.{withImport, completed}
 use Rattle.meaning.specs.declared.Place.{Place}
 use Rattle.meaning.specs.declared.Place.the-variants.{Program}
 use Rattle.meaning.specs.declared.Field.{Field}
@@ -20,6 +20,7 @@ use Rattle.charge_laws.specs.Fit.Placed.{same-tag, Placed, accepted-placed}
 use Rattle.charge_laws.specs.Fit.Accepted.{accepted-fit}
 use Rattle.charge_laws.specs.Fit.Root.{root, accepted-root}
 use Rattle.spec_laws.specs.Tags.{clash}
+use Rattle.spec_laws.specs.Calls.{completed-keeps}
 use Rattle.charge_laws.specs.Counts.Figures.{settled}
 use Rattle.readback_laws.specs.Back.{Childless}
 use Rattle.readback_laws.specs.Contexts.{leave-childless}
@@ -110,18 +111,10 @@ import-childless y (more h k r) e q = (
   q .2,
 )
 
-completed-childless : (s : Spot) → hasChildren (root (treeAt s) .tag) ≡ true → Childless (treeAt s) → Childless (treeAt (completed s))
-unfolding completed treeAt
-completed-childless (over tree st) e q = by-due (importDue st)
-  where
-    by-due : (b : Bool) → Childless (if b then withImport (st .helper) tree else tree)
-    by-due true = import-childless (st .helper) tree e q
-    by-due false = q
-completed-childless (at d h k r path st) e q = q
-completed-childless (leaving k h d r path st) e q = q
-
 -- The same where calls for visits lead.
 pub calls-childless : (b : List ℕ) (f : File) (k : ℕ) → readFile b ≡ accepted f → Childless (treeAt (completed (visits k (start f))))
 unfolding hasChildren
 calls-childless b f k e =
-    completed-childless (visits k (start f)) (ap (λ (h : Head). hasChildren (h .tag)) (accepted-root b f k e)) (accepted-childless b f k e)
+    let q = accepted-childless b f k e in
+    completed-keeps Childless (visits k (start f)) q
+    (import-childless _ _ (ap (λ (h : Head). hasChildren (h .tag)) (accepted-root b f k e)) q)

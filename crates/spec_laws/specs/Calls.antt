@@ -6,11 +6,11 @@ use mathlib.Core.List.{[]}
 use Prim.Native.Nat.{ℕ, zero, suc}
 use lib.Dec.{eqb}
 use Rattle.meaning.specs.Numbers.Mode
-use Rattle.meaning.specs.Tree.{Forest, none, more}
+use Rattle.meaning.specs.Tree.{if_then_else_, Forest, none, more}
 use Rattle.meaning.specs.File.{File}
 use Rattle.meaning.specs.Scoping.{Store}
-use Rattle.meaning.specs.Walk.{Spot, at, leaving, over, isOver, visit, visits, settle, storeOf, start, storeAt}
-use Rattle.meaning.specs.ImportLine.{importDue, completed, visitCall, visitCalls}
+use Rattle.meaning.specs.Walk.{Spot, at, leaving, over, isOver, visit, visits, settle, storeOf, start, treeAt, storeAt}
+use Rattle.meaning.specs.ImportLine.{importDue, withImport, completed, visitCall, visitCalls}
 use Rattle.spec_laws.specs.Tags.{clash}
 
 -- ---- the line changes neither the store nor whether the walk is over
@@ -26,6 +26,17 @@ unfolding completed isOver
 completed-over (over tree st) = refl
 completed-over (at d h k r p st) = refl
 completed-over (leaving k h d r p st) = refl
+
+-- what holds of the tree, and of the tree with the line, holds where the line is put if it is due
+pub completed-keeps : (P : Forest → Type 0) (s : Spot) → P (treeAt s) → P (withImport (storeAt s .helper) (treeAt s)) → P (treeAt (completed s))
+unfolding completed treeAt storeAt
+completed-keeps P (over tree st) p q = either (importDue st)
+  where
+    either : (b : Bool) → P (if b then withImport (st .helper) tree else tree)
+    either true = q
+    either false = p
+completed-keeps P (at d h k r path st) p q = p
+completed-keeps P (leaving k h d r path st) p q = p
 
 -- before the end nothing is put
 pub not-yet : (s : Spot) → isOver s ≡ false → completed s ≡ s

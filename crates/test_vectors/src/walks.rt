@@ -1,4 +1,4 @@
-// A walk is a line `file FILE` in the notation of 01, and a line for what `start` leaves and for each `visit` after it: `K R,S,Y TREE`, the
+// A walk is a line `file FILE` in the notation of 01, and a line for what `start` leaves and for each `visit_call` after it: `K R,S,Y TREE`, the
 // visits made, how many records, scopes and symbols there are, and the scope rows, symbol rows and records in the notation, or `same`.
 use test_lines::lines;
 use test_lines::lines::Seen;

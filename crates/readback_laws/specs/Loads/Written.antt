@@ -1,13 +1,13 @@
 -- The Loads in the written bytes are those in the bytes read, and one for each context.
 -- Assumes nothing.
 use mathlib.Core.Path.{_≡_, refl, ap}
-use mathlib.Core.Bool.{Bool, true, false}
+use mathlib.Core.Bool.{Bool, false}
 use mathlib.Core.List.{List, [], _∷_}
 use Prim.Native.Nat.{ℕ, zero, suc, _+_, _*_}
 use native.Mathlib.Omega.{arith}
 use lib.Dec.{eqb}
 use Rattle.meaning.specs.Numbers.Tag
-use Rattle.meaning.specs.Tree.{if_then_else_, Forest, none, more, one, single, flatten, _&_}
+use Rattle.meaning.specs.Tree.{Forest, none, more, one, single, flatten, _&_}
 use Rattle.meaning.specs.File.{File, written}
 use Rattle.meaning.specs.Scoping.{Store}
 use Rattle.meaning.specs.Reading.{accepted, readFile}
@@ -32,10 +32,10 @@ use Rattle.meaning.specs.Walk.{
   storeAt,
   fileAt,
 }
-use Rattle.meaning.specs.ImportLine.{importDue, withImport, completed}
+use Rattle.meaning.specs.ImportLine.{withImport, completed}
 use Rattle.meaning.specs.Charges.{Figures, finalFigures}
 use Rattle.meaning.specs.Lowering.{lastSpot, finalSpot}
-use Rattle.spec_laws.specs.Calls.{completed-store}
+use Rattle.spec_laws.specs.Calls.{completed-store, completed-keeps}
 use Rattle.charge_laws.specs.Counts.Enter.{proper}
 use Rattle.charge_laws.specs.Counts.Pending.{Pending, pending-start, pending-visit}
 use Rattle.charge_laws.specs.Fit.Accepted.{accepted-fit}
@@ -108,15 +108,8 @@ unfolding withImport loads loadOf _&_
 import-loads y none = refl
 import-loads y (more h k r) = omega arith
 
-completed-if : (b : Bool) (y : ℕ) (tree : Forest) → loads (if b then withImport y tree else tree) ≡ loads tree
-completed-if true y tree = import-loads y tree
-completed-if false y tree = refl
-
 completed-loads : (s : Spot) → loads (treeAt (completed s)) ≡ loads (treeAt s)
-unfolding completed treeAt
-completed-loads (over tree st) = completed-if (importDue st) (st .helper) tree
-completed-loads (at d h k r p st) = refl
-completed-loads (leaving k h d r p st) = refl
+completed-loads s = completed-keeps (λ (t : Forest). loads t ≡ loads (treeAt s)) s refl (import-loads (storeAt s .helper) (treeAt s))
 
 final-loads : (bytes : List ℕ) (f : File) → readFile bytes ≡ accepted f
     → loads (treeAt (finalSpot f)) ≡ loads (f .tree) + finalFigures f .contexts
