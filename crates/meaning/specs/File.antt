@@ -3,11 +3,12 @@
 use mathlib.Core.Path.{_≡_, refl}
 use mathlib.Core.List.{List, [], _∷_, _++_}
 use mathlib.Core.Bool.{Bool, _||_, _&&_}
-use Prim.Native.Nat.{ℕ, _+_, _*_, _-_, _/_, _%_}
-use lib.Dec.{leb}
+use Prim.Native.Nat.{ℕ, suc, _+_, _*_, _-_, _/_, _%_}
+use lib.Dec.{eqb, leb}
 use lib.ListN.{length, take}
 use Rattle.meaning.specs.Numbers.Tag
 use Rattle.meaning.specs.Tree.{if_then_else_, oneOf, Forest, Row, flatten}
+use Rattle.meaning.specs.Mentions.{mentions}
 
 -- 41: a scope row
 pub record Scope : Type 0 where
@@ -17,7 +18,7 @@ pub record Scope : Type 0 where
 abbrev pub scopeRow : ℕ → ℕ → Scope
 scopeRow p f = record { parent = p; flags = f }
 
--- 42: a symbol row
+-- 42: a symbol row; its fifth number, how often records name it, is the tree's (02, request 7)
 pub record Symbol : Type 0 where
   pub name : ℕ
   pub flags : ℕ
@@ -46,7 +47,8 @@ numbersOf t =
     t
     then 2
     else if oneOf (Tag.Plain ∷ Tag.Declarator ∷ Tag.ForOf ∷ Tag.ModuleLine ∷ Tag.Call ∷ Tag.Step ∷ []) t then 3
-    else if oneOf (Tag.Catch ∷ Tag.Function ∷ Tag.Class ∷ Tag.Symbol ∷ []) t then 4
+    else if oneOf (Tag.Catch ∷ Tag.Function ∷ Tag.Class ∷ []) t then 4
+    else if eqb t Tag.Symbol then 5
     else 0
 
 -- the records whose last number is n, and how many numbers stand before it
@@ -71,7 +73,7 @@ abbrev pub scopeBytes : ℕ
 scopeBytes = 7
 
 abbrev pub symbolBytes : ℕ
-symbolBytes = 11
+symbolBytes = 13
 
 pub row-bytes
     : (fieldBytes Tag.Settings ≡ settingsBytes) × (fieldBytes Tag.Scope ≡ scopeBytes) × (fieldBytes Tag.Symbol ≡ symbolBytes)
@@ -94,9 +96,11 @@ unfoldable pub scopeFields : List Scope → List ℕ
 scopeFields [] = []
 scopeFields (s ∷ ss) = field Tag.Scope (s .parent ∷ s .flags ∷ []) ++ scopeFields ss
 
-unfoldable pub symbolFields : List Symbol → List ℕ
-symbolFields [] = []
-symbolFields (y ∷ ys) = field Tag.Symbol (y .name ∷ y .flags ∷ y .scope ∷ y .made ∷ []) ++ symbolFields ys
+-- from row k on, each with its count
+unfoldable pub symbolFields : (ℕ → ℕ) → ℕ → List Symbol → List ℕ
+symbolFields count k [] = []
+symbolFields count k (y ∷ ys) =
+    field Tag.Symbol (y .name ∷ y .flags ∷ y .scope ∷ y .made ∷ count k ∷ []) ++ symbolFields count (suc k) ys
 
 unfoldable pub recordFields : List Row → List ℕ
 recordFields [] = []
@@ -106,4 +110,4 @@ recordFields (r ∷ rs) = field (r .head .tag) (recordNumbers r) ++ recordFields
 unfoldable pub written : File → List ℕ
 written f =
     field Tag.Settings (f .mode ∷ f .isModule ∷ [])
-    ++ (scopeFields (f .scopes) ++ (symbolFields (f .symbols) ++ recordFields (flatten (f .tree))))
+    ++ (scopeFields (f .scopes) ++ (symbolFields (λ y. mentions y (f .tree)) 1 (f .symbols) ++ recordFields (flatten (f .tree))))

@@ -1,6 +1,7 @@
 -- What document 01 means, in its order.
 pub mod Numbers
 pub mod Tree
+pub mod Mentions
 pub mod File
 pub mod Grammar
 pub mod Reading

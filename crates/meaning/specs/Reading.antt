@@ -9,6 +9,7 @@ use Rattle.meaning.specs.Numbers.Tag
 use Rattle.meaning.specs.Numbers.Mode
 use Rattle.meaning.specs.Numbers.Refusal
 use Rattle.meaning.specs.Tree.{if_then_else_, Forest, none, more}
+use Rattle.meaning.specs.Mentions.{mentions}
 use Rattle.meaning.specs.File.{Scope, scopeRow, Symbol, symbolRow, File, headBytes, settingsBytes, scopeBytes, symbolBytes}
 use Rattle.meaning.specs.Grammar.{
   fieldAt,
@@ -140,6 +141,17 @@ symbolsIn f zero at = []
 symbolsIn f (suc n) at =
     symbolRow (two f (at + 3)) (two f (at + 5)) (two f (at + 7)) (two f (at + 9)) ∷ symbolsIn f n (at + symbolBytes)
 
+-- The lowest of n symbol rows, of which the first is row y at an offset, whose fifth number is not its count; counted from 0, or n (02, request 7).
+unfoldable pub wrongCount : List ℕ → (ℕ → ℕ) → ℕ → ℕ → ℕ → ℕ
+wrongCount f count zero y at = 0
+wrongCount f count (suc n) y at =
+    if eqb (two f (at + 11)) (count y) then 1 + wrongCount f count n (suc y) (at + symbolBytes) else 0
+
+abbrev pub checkCounts : List ℕ → (ℕ → ℕ) → ℕ → ℕ → Outcome (Unit {0})
+checkCounts f count n at =
+    let wrong = wrongCount f count n 1 at in
+    ensure (leb n wrong) Refusal.WrongNumber (at + symbolBytes * wrong)
+
 -- ---- the file
 
 -- a file holds so many bytes at most, and its records so many levels
@@ -158,7 +170,7 @@ abbrev pub rows : Rows → Outcome Counted
 rows (Read k at) = accepted (record { number = k; next = at })
 rows (RefusedRows c p) = refused c p
 
--- The checks in their order: 1; field by field; 7; 5 for the lowest unnamed row. The tree is read by `forest`.
+-- The checks in their order: 1; field by field; 7; 5 for the lowest unnamed row; 5 for the lowest wrong count. The tree is read by `forest`.
 abbrev pub readWith : (List ℕ → ℕ → (ℕ → Place) → ℕ → ℕ → ℕ → ℕ → List ℕ → Outcome Records) → List ℕ → Outcome File
 readWith forest f = do
   ensure (leb (length f) mostBytes) Refusal.TooLong mostBytes
@@ -169,6 +181,7 @@ readWith forest f = do
   program ← forest f (symbols .number) (λ _. Program) 0 0 1 (symbols .next) (replicate (scopes .number) 0)
   ensure (leb (length f) (program .next)) Refusal.BytesBehind (program .next)
   ensure (leb (scopes .number) (unnamed (program .marks))) Refusal.WrongNumber (settingsBytes + scopeBytes * unnamed (program .marks))
+  checkCounts f (λ y. mentions y (program .forest)) (symbols .number) (scopes .next)
   accepted
       (record {
         mode = settings .a;
