@@ -120,16 +120,19 @@ readRows again one zero k at = Read k at
 readRows again one (suc n) k at =
     if again k at then andRows (one k at) (λ x. readRows again one n (k + 1) (x .next)) else Read k at
 
--- more rows than a file of 65,535 bytes holds
+-- more scope rows, and more symbol rows, than a file of 65,535 bytes holds
 abbrev pub mostRows : ℕ
 mostRows = 9362
+
+abbrev pub mostSymbols : ℕ
+mostSymbols = 5042
 
 -- one scope row, then more while the next tag is 41; symbol rows while it is 42
 unfoldable pub readScopes : List ℕ → ℕ → Rows
 readScopes f from = readRows (λ k at. eqb k 0 || eqb (getD f at 0) Tag.Scope) (scopeAt f) mostRows 0 from
 
 unfoldable pub readSymbols : List ℕ → ℕ → ℕ → Rows
-readSymbols f scopes from = readRows (λ k at. eqb (getD f at 0) Tag.Symbol) (λ k at. symbolAt f scopes at) mostRows 0 from
+readSymbols f scopes from = readRows (λ k at. eqb (getD f at 0) Tag.Symbol) (λ k at. symbolAt f scopes at) mostSymbols 0 from
 
 -- n scope rows from row s on; n symbol rows from an offset on
 unfoldable pub scopesIn : List ℕ → ℕ → ℕ → List Scope

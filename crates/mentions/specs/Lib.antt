@@ -1,0 +1,2 @@
+-- Counters of mentions, for any numbers in them.
+pub mod Counters
