@@ -5,6 +5,7 @@ use mathlib.Core.List.{List, [], _∷_, map}
 use Prim.Native.Nat.{ℕ, _*_, _/_, _≤_}
 use native.Mathlib.Omega.{arith}
 use lib.ListN.{getD, length}
+use borrow.Author.Tests.{ne-eqb}
 use Rattle.meaning.specs.Numbers.Tag
 use Rattle.meaning.specs.File.{numbersOf}
 use Rattle.fields.specs.Ranges.{values, values-entry, values-behind, above, below-or-not}
@@ -16,7 +17,7 @@ lengths =
     ∷ 4 ∷ 4 ∷ 8 ∷ 8 ∷ 2 ∷ 8 ∷ 4 ∷ 6 ∷ 2 ∷ 2
     ∷ 4 ∷ 0 ∷ 0 ∷ 0 ∷ 4 ∷ 2 ∷ 2 ∷ 6 ∷ 4 ∷ 6
     ∷ 0 ∷ 0 ∷ 0 ∷ 0 ∷ 0 ∷ 0 ∷ 0 ∷ 0 ∷ 0 ∷ 0
-    ∷ 4 ∷ 4 ∷ 8 ∷ []
+    ∷ 4 ∷ 4 ∷ 10 ∷ []
 
 -- the tags below 43 that do not exist
 abbrev pub noTags : List ℕ
@@ -46,7 +47,8 @@ none-behind t h =
           ∷ Tag.Expression ∷ Tag.Load ∷ Tag.Settings ∷ Tag.Scope ∷ [])
           43 t refl h,
       above (Tag.Plain ∷ Tag.Declarator ∷ Tag.ForOf ∷ Tag.ModuleLine ∷ Tag.Call ∷ Tag.Step ∷ []) 43 t refl h,
-      above (Tag.Catch ∷ Tag.Function ∷ Tag.Class ∷ Tag.Symbol ∷ []) 43 t refl h,
+      above (Tag.Catch ∷ Tag.Function ∷ Tag.Class ∷ []) 43 t refl h,
+      ne-eqb t Tag.Symbol (λ e. omega arith),
     )
 
 pub lengths-behind : (t : ℕ) → 43 ≤ t → getD lengths t 0 ≡ 0

@@ -79,7 +79,7 @@ pub const LENGTHS: [u8; 43] = [
     0, // 39
     4, // 40 Settings
     4, // 41 Scope
-    8, // 42 Symbol
+    10, // 42 Symbol
 ];
 
 // Whole fields by their tags; an export is a DefaultExport or an ExportedDeclaration, and a mention a Read or a Name.

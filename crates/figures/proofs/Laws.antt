@@ -15,9 +15,9 @@ pub record Parts (mode esm : ℕ) (t : Tally) (contexts helper import cb fb ib c
   pub are-contexts : contexts ≡ t .blocks + t .parts
   pub is-helper : helper ≡ helperF mode contexts
   pub is-import : import ≡ importF mode esm contexts
-  pub context-bytes : cb ≡ t .bytes + 126 * t .blocks + 140 * t .parts + 9 * t .wrapped
-  pub for-of-bytes : fb ≡ 37 * t .«for_ofs» + 51 * t .«for_of_blocks» + 14 * t .programs
-  pub item-bytes : ib ≡ 32 * t .classes + 43 * t .exports + 4 * t .declarations + 7 * t .names
+  pub context-bytes : cb ≡ t .bytes + 130 * t .blocks + 144 * t .parts + 9 * t .wrapped
+  pub for-of-bytes : fb ≡ 39 * t .«for_ofs» + 53 * t .«for_of_blocks» + 14 * t .programs
+  pub item-bytes : ib ≡ 34 * t .classes + 45 * t .exports + 4 * t .declarations + 7 * t .names
   pub context-records : cr ≡ t .records + 11 * t .blocks + 12 * t .parts + t .wrapped
   pub for-of-records : fr ≡ 4 * t .«for_ofs» + 5 * t .«for_of_blocks» + t .programs
   pub item-records : ir ≡ 3 * t .classes + 4 * t .exports + t .names

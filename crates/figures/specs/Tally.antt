@@ -340,25 +340,25 @@ contextSymbols = 2
 
 -- the bytes that each line adds, with those of its scopes and symbols
 abbrev pub blockCost : ℕ
-blockCost = 126
+blockCost = 130
 
 abbrev pub partCost : ℕ
-partCost = 140
+partCost = 144
 
 abbrev pub forOfCost : ℕ
-forOfCost = 37
+forOfCost = 39
 
 abbrev pub forOfBlockCost : ℕ
-forOfBlockCost = 51
+forOfBlockCost = 53
 
 abbrev pub programCost : ℕ
 programCost = 14
 
 abbrev pub classCost : ℕ
-classCost = 32
+classCost = 34
 
 abbrev pub exportCost : ℕ
-exportCost = 43
+exportCost = 45
 
 -- THEY ARE what 01 charges.
 pub rows-charged

@@ -48,17 +48,25 @@ length-setRow xs (suc i) x = length-set xs i x
 abbrev pub Bytes : List ℕ → Type 0
 Bytes f = (i : ℕ) → getD f i 0 ≤ 255
 
-most : (b : Bool) (x y : ℕ) → x ≤ 4 → y ≤ 4 → (if b then x else y) ≤ 4
-most true x y p q = p
-most false x y p q = q
+most : (m : ℕ) (b : Bool) (x y : ℕ) → x ≤ m → y ≤ m → (if b then x else y) ≤ m
+most m true x y p q = p
+most m false x y p q = q
 
-pub numbers-most : (t : ℕ) → numbersOf t ≤ 4
-unfolding numbersOf
-numbers-most t =
-    most (oneOf (Tag.Body ∷ Tag.DefaultExport ∷ Tag.ExportedDeclaration ∷ Tag.Read ∷ Tag.Name ∷ []) t) 1 _ (omega arith)
-    (most (oneOf (Tag.Program ∷ Tag.Block ∷ Tag.Label ∷ Tag.Declaration ∷ Tag.For ∷ Tag.Switch ∷ Tag.Case ∷ Tag.Try ∷ Tag.StaticBlock ∷ Tag.Specifier ∷ Tag.Expression ∷ Tag.Load ∷ Tag.Settings ∷ Tag.Scope ∷ []) t) 2 _ (omega arith)
-    (most (oneOf (Tag.Plain ∷ Tag.Declarator ∷ Tag.ForOf ∷ Tag.ModuleLine ∷ Tag.Call ∷ Tag.Step ∷ []) t) 3 _ (omega arith)
-    (most (oneOf (Tag.Catch ∷ Tag.Function ∷ Tag.Class ∷ Tag.Symbol ∷ []) t) 4 0 (omega arith) (omega arith))))
+module _ (m : ℕ) (four : 4 ≤ m) (t : ℕ) (symbol : (if eqb t Tag.Symbol then 5 else 0) ≤ m) where
+  numbers-up-to : numbersOf t ≤ m
+  unfolding numbersOf
+  numbers-up-to =
+      most m (oneOf (Tag.Body ∷ Tag.DefaultExport ∷ Tag.ExportedDeclaration ∷ Tag.Read ∷ Tag.Name ∷ []) t) 1 _ (omega arith)
+      (most m (oneOf (Tag.Program ∷ Tag.Block ∷ Tag.Label ∷ Tag.Declaration ∷ Tag.For ∷ Tag.Switch ∷ Tag.Case ∷ Tag.Try ∷ Tag.StaticBlock ∷ Tag.Specifier ∷ Tag.Expression ∷ Tag.Load ∷ Tag.Settings ∷ Tag.Scope ∷ []) t) 2 _ (omega arith)
+      (most m (oneOf (Tag.Plain ∷ Tag.Declarator ∷ Tag.ForOf ∷ Tag.ModuleLine ∷ Tag.Call ∷ Tag.Step ∷ []) t) 3 _ (omega arith)
+      (most m (oneOf (Tag.Catch ∷ Tag.Function ∷ Tag.Class ∷ []) t) 4 _ four symbol)))
+
+-- a symbol row has five numbers, and every other field at most four
+pub numbers-most : (t : ℕ) → numbersOf t ≤ 5
+numbers-most t = numbers-up-to 5 (omega arith) t (most 5 (eqb t Tag.Symbol) 5 0 (omega arith) (omega arith))
+
+pub numbers-few : (t : ℕ) → eqb t Tag.Symbol ≡ false → numbersOf t ≤ 4
+numbers-few t e = numbers-up-to 4 (omega arith) t (rw e (omega arith))
 
 pub two-length : (ns : List ℕ) → length (twoBytes ns) ≡ 2 * length ns
 unfolding twoBytes

@@ -49,7 +49,7 @@ kept-most t usings n = go (eqb t Tag.Program && eqb usings 0)
 
 -- ---- a field has at most eleven bytes
 
-bytes-most : (t : ℕ) → fieldBytes t ≤ 11
+bytes-most : (t : ℕ) → fieldBytes t ≤ 13
 unfolding fieldBytes
 bytes-most t = omega (arith, numbers-most t)
 
@@ -58,7 +58,7 @@ bytes-most t = omega (arith, numbers-most t)
 -- An initializer is counted once: by its Declaration, by its Case, or by the context that wraps it.
 pub record Small (n : ℕ) (t : Tally) : Type 0 where
   pub records : t .records ≤ n
-  pub bytes : t .bytes ≤ 11 * n
+  pub bytes : t .bytes ≤ 13 * n
   pub blocks : t .blocks ≤ 2 * n
   pub parts : t .parts ≤ 2 * n
   pub wrapped : t .wrapped + t .wraps + t .«case_wraps» ≤ 2 * n

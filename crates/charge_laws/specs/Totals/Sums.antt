@@ -22,15 +22,15 @@ total-three xs ys zs = omega (arith, total-++ xs (ys ++ zs), total-++ ys zs)
 -- contexts of Block statements, and others; wrapped initializers; lowered Programs
 abbrev pub contextFigures : ℕ → ℕ → ℕ → ℕ → Figures
 contextFigures x y w p =
-    figures (11 * x + 12 * y + w + p) (3 * x + 4 * y + p) (2 * x + 2 * y) (x + y) (126 * x + 140 * y + 9 * w + 14 * p)
+    figures (11 * x + 12 * y + w + p) (3 * x + 4 * y + p) (2 * x + 2 * y) (x + y) (130 * x + 144 * y + 9 * w + 14 * p)
 
 -- ForOfs whose using goes into the body, and those whose body is wrapped
 abbrev pub forOfFigures : ℕ → ℕ → Figures
-forOfFigures x y = figures (4 * x + 5 * y) y (x + y) 0 (37 * x + 51 * y)
+forOfFigures x y = figures (4 * x + 5 * y) y (x + y) 0 (39 * x + 53 * y)
 
 -- Program's items: classes, exports, exported declarations and their names
 abbrev pub itemFigures : ℕ → ℕ → ℕ → ℕ → Figures
-itemFigures c e d n = figures (3 * c + 4 * e + n) 0 (c + e) 0 (32 * c + 43 * e + 4 * d + 7 * n)
+itemFigures c e d n = figures (3 * c + 4 * e + n) 0 (c + e) 0 (34 * c + 45 * e + 4 * d + 7 * n)
 
 -- all but those items
 abbrev pub statementFigures : Tally → Figures

@@ -45,7 +45,7 @@ module _ (f : List ℕ) (g : Symbol → ℕ) where
   row-from (suc n) at zero = let e : at + symbolBytes * 0 ≡ at = omega arith in rw (le-leb 1 (suc n) (omega arith), e)
   row-from (suc n) at (suc i) =
       let e : at + symbolBytes * suc i ≡ at + symbolBytes + symbolBytes * i = omega arith in
-      rw (compare·suc-suc (suc i) n, e) (row-from n (at + 11) i)
+      rw (compare·suc-suc (suc i) n, e) (row-from n (at + symbolBytes) i)
 
   pub row-number : (n at y : ℕ) → g (rowAt noSymbol (symbolsIn f n at) y) ≡ (if isRow n y then g (symbolInRow f at (y - 1)) else g noSymbol)
   row-number n at zero = refl
