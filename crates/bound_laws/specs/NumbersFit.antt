@@ -10,7 +10,7 @@ use lib.Dec.{eqb, leb, ltb}
 use borrow.Author.Tests.{leb-true, leb-false, ne-eqb}
 use Rattle.meaning.specs.Numbers.Tag
 use Rattle.meaning.specs.Tree.{Forest, none}
-use Rattle.meaning.specs.File.{scopeBytes, File, numbersOf, ownNumbers}
+use Rattle.meaning.specs.File.{scopeBytes, symbolBytes, File, numbersOf, ownNumbers}
 use Rattle.meaning.specs.Grammar.{two, number, fieldOf, right, headOf, parentIn}
 use Rattle.meaning.specs.Reading.{accepted, scopesIn, symbolsIn, readFile}
 use Rattle.meaning.specs.declared.Place.{Place}
@@ -88,7 +88,7 @@ module _ (f : List ℕ) (bytes : Bytes f) where
   symbols-within zero at = tt
   symbols-within (suc n) at = (
     (two-most (at + 3), two-most (at + 5), two-most (at + 7), two-most (at + 9)),
-    symbols-within n (at + 11),
+    symbols-within n (at + symbolBytes),
   )
 
   -- ---- the file

@@ -10,6 +10,7 @@ use lib.Dec.{eqb, leb, ltb}
 use borrow.Author.Tests.{eqb-true, leb-true, lt-ltb}
 use Rattle.meaning.specs.Numbers.Tag
 use Rattle.meaning.specs.Tree.{if_then_else_, Head, hd, Forest, none, more, count, size, Row, row, flatten}
+use Rattle.meaning.specs.Mentions.{mentions}
 use Rattle.meaning.specs.File.{Scope, Symbol, File, numbersOf, hasChildren, ownNumbers, recordNumbers, written}
 use Rattle.spec_laws.specs.Tags.{and-left}
 use Rattle.hint_laws.specs.Hints.{sumOver, namesOf, ofInitializer, overDeclarators, isExpression, shown, ofSource, called, callsIn, given}
@@ -106,19 +107,20 @@ unfolding recordsOf scopeReads
 scopes-skipped [] rest = refl
 scopes-skipped (s ∷ ss) rest = scopes-skipped ss rest
 
-symbols-skipped : (ys : List Symbol) (rest : List Read) → recordsOf (symbolReads ys ++ rest) ≡ recordsOf rest
+symbols-skipped : (count : ℕ → ℕ) (k : ℕ) (ys : List Symbol) (rest : List Read) → recordsOf (symbolReads count k ys ++ rest) ≡ recordsOf rest
 unfolding recordsOf symbolReads
-symbols-skipped [] rest = refl
-symbols-skipped (y ∷ ys) rest = symbols-skipped ys rest
+symbols-skipped count k [] rest = refl
+symbols-skipped count k (y ∷ ys) rest = symbols-skipped count (suc k) ys rest
 
 rows-back : (g : File) → Tagged (g .tree) → Childless (g .tree) → recordsOf (fieldsOf (written g)) ≡ flatten (plain (g .tree))
 unfolding recordsOf fieldsFor recordReads
 rows-back g q c =
     let tree = g .tree in
     let rows = recordReads (flatten tree) in
+    let counts : ℕ → ℕ = λ y. mentions y tree in
     ap recordsOf (read-back g)
-    ∙ scopes-skipped (g .scopes) (symbolReads (g .symbols) ++ rows)
-    ∙ symbols-skipped (g .symbols) rows
+    ∙ scopes-skipped (g .scopes) (symbolReads counts 1 (g .symbols) ++ rows)
+    ∙ symbols-skipped counts 1 (g .symbols) rows
     ∙ ap (λ (rs : List Row). recordsOf (recordReads rs)) (sym (append-nil (flatten tree)))
     ∙ records-back tree [] q c
     ∙ append-nil (flatten (plain tree))

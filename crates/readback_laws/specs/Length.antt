@@ -10,6 +10,7 @@ use lib.Seq.{length-take-le}
 use lib.Dec.{eqb, leb}
 use borrow.Author.Tests.{eqb-true, eqb-false, leb-true}
 use Rattle.meaning.specs.Tree.{if_then_else_, Forest, none, more, Row, row, count, flatten}
+use Rattle.meaning.specs.Mentions.{mentions}
 use Rattle.meaning.specs.File.{
   scopeBytes,
   symbolBytes,
@@ -83,12 +84,12 @@ scopes-length (s ∷ ss) =
     let ns = s .parent ∷ s .flags ∷ [] in
     omega (arith, length-append (field 41 ns) (scopeFields ss), field-length 41 ns, scopes-length ss)
 
-symbols-length : (ys : List Symbol) → length (symbolFields ys) ≡ symbolBytes * length ys
+symbols-length : (count : ℕ → ℕ) (k : ℕ) (ys : List Symbol) → length (symbolFields count k ys) ≡ symbolBytes * length ys
 unfolding symbolFields
-symbols-length [] = refl
-symbols-length (y ∷ ys) =
-    let ns = y .name ∷ y .flags ∷ y .scope ∷ y .made ∷ [] in
-    omega (arith, length-append (field 42 ns) (symbolFields ys), field-length 42 ns, symbols-length ys)
+symbols-length count k [] = refl
+symbols-length count k (y ∷ ys) =
+    let ns = y .name ∷ y .flags ∷ y .scope ∷ y .made ∷ count k ∷ [] in
+    omega (arith, length-append (field 42 ns) (symbolFields count (suc k) ys), field-length 42 ns, symbols-length count (suc k) ys)
 
 records-++ : (rs qs : List Row) → length (recordFields (rs ++ qs)) ≡ length (recordFields rs) + length (recordFields qs)
 unfolding recordFields
@@ -113,13 +114,14 @@ records-length (more h k r) q =
     )
 
 -- A file whose records have the tags of records is written with the bytes of its figures. (A record keeps three numbers besides n, and the figures
--- count four for the tag of a symbol row, 42: a record with that tag would be written shorter than counted.)
+-- count five for the tag of a symbol row, 42: a record with that tag would be written shorter than counted.)
 pub tagged-length : (g : File) → Tagged (g .tree) → length (written g) ≡ figuresIn g .bytes
 unfolding written figuresIn
 tagged-length g q =
     let ns = g .mode ∷ g .isModule ∷ [] in
     let s = scopeFields (g .scopes) in
-    let y = symbolFields (g .symbols) in
+    let count : ℕ → ℕ = λ n. mentions n (g .tree) in
+    let y = symbolFields count 1 (g .symbols) in
     let r = recordFields (flatten (g .tree)) in
     omega (
       arith,
@@ -128,6 +130,6 @@ tagged-length g q =
       length-append s (y ++ r),
       length-append y r,
       scopes-length (g .scopes),
-      symbols-length (g .symbols),
+      symbols-length count 1 (g .symbols),
       records-length (g .tree) q,
     )

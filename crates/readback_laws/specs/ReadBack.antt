@@ -11,6 +11,7 @@ use lib.Dec.{eqb, leb}
 use borrow.Author.Tests.{leb-true, ne-eqb}
 use Rattle.meaning.specs.Numbers.Tag
 use Rattle.meaning.specs.Tree.{if_then_else_, Forest, none, more, size, Row, flatten}
+use Rattle.meaning.specs.Mentions.{mentions}
 use Rattle.meaning.specs.File.{
   Scope,
   Symbol,
@@ -59,9 +60,10 @@ unfoldable pub scopeReads : List Scope → List Read
 scopeReads [] = []
 scopeReads (s ∷ ss) = readAs 41 (s .parent ∷ s .flags ∷ []) ∷ scopeReads ss
 
-unfoldable pub symbolReads : List Symbol → List Read
-symbolReads [] = []
-symbolReads (y ∷ ys) = readAs 42 (y .name ∷ y .flags ∷ y .scope ∷ y .made ∷ []) ∷ symbolReads ys
+unfoldable pub symbolReads : (ℕ → ℕ) → ℕ → List Symbol → List Read
+symbolReads count k [] = []
+symbolReads count k (y ∷ ys) =
+    readAs 42 (y .name ∷ y .flags ∷ y .scope ∷ y .made ∷ count k ∷ []) ∷ symbolReads count (suc k) ys
 
 unfoldable pub recordReads : List Row → List Read
 recordReads [] = []
@@ -71,7 +73,7 @@ recordReads (r ∷ rs) = readAs (r .head .tag) (recordNumbers r) ∷ recordReads
 unfoldable pub fieldsFor : File → List Read
 fieldsFor g =
     readAs 40 (g .mode ∷ g .isModule ∷ [])
-    ∷ (scopeReads (g .scopes) ++ (symbolReads (g .symbols) ++ recordReads (flatten (g .tree))))
+    ∷ (scopeReads (g .scopes) ++ (symbolReads (λ y. mentions y (g .tree)) 1 (g .symbols) ++ recordReads (flatten (g .tree))))
 
 -- ---- one field
 
@@ -131,10 +133,11 @@ unfolding scopeFields scopeReads put
 scopes-put [] = refl
 scopes-put (s ∷ ss) = ap (λ (bs : List ℕ). field 41 (s .parent ∷ s .flags ∷ []) ++ bs) (scopes-put ss)
 
-symbols-put : (ys : List Symbol) → symbolFields ys ≡ put (symbolReads ys)
+symbols-put : (count : ℕ → ℕ) (k : ℕ) (ys : List Symbol) → symbolFields count k ys ≡ put (symbolReads count k ys)
 unfolding symbolFields symbolReads put
-symbols-put [] = refl
-symbols-put (y ∷ ys) = ap (λ (bs : List ℕ). field 42 (y .name ∷ y .flags ∷ y .scope ∷ y .made ∷ []) ++ bs) (symbols-put ys)
+symbols-put count k [] = refl
+symbols-put count k (y ∷ ys) =
+    ap (λ (bs : List ℕ). field 42 (y .name ∷ y .flags ∷ y .scope ∷ y .made ∷ count k ∷ []) ++ bs) (symbols-put count (suc k) ys)
 
 records-put : (rs : List Row) → recordFields rs ≡ put (recordReads rs)
 unfolding recordFields recordReads put
@@ -144,7 +147,7 @@ records-put (r ∷ rs) = ap (λ (bs : List ℕ). field (r .head .tag) (recordNum
 written-put : (g : File) → written g ≡ put (fieldsFor g)
 unfolding written fieldsFor put
 written-put g =
-    rw (scopes-put (g .scopes), symbols-put (g .symbols), records-put (flatten (g .tree)), put-++, put-++)
+    rw (scopes-put (g .scopes), symbols-put (λ y. mentions y (g .tree)) 1 (g .symbols), records-put (flatten (g .tree)), put-++, put-++)
 
 -- The written bytes of a file have its fields.
 pub read-back : (g : File) → fieldsOf (written g) ≡ fieldsFor g
@@ -185,12 +188,13 @@ module _ (p : ℕ → Bool) where
   scopes-count true (s ∷ ss) e = rw e (omega (arith, scopes-count true ss e))
   scopes-count false (s ∷ ss) e = rw e (omega (arith, scopes-count false ss e))
 
-  pub symbols-count : (b : Bool) (ys : List Symbol) → p 42 ≡ b → fieldCount p (symbolReads ys) ≡ (if b then length ys else 0)
+  pub symbols-count : (b : Bool) (count : ℕ → ℕ) (k : ℕ) (ys : List Symbol) → p 42 ≡ b
+      → fieldCount p (symbolReads count k ys) ≡ (if b then length ys else 0)
   unfolding fieldCount symbolReads
-  symbols-count true [] e = refl
-  symbols-count false [] e = refl
-  symbols-count true (y ∷ ys) e = rw e (omega (arith, symbols-count true ys e))
-  symbols-count false (y ∷ ys) e = rw e (omega (arith, symbols-count false ys e))
+  symbols-count true count k [] e = refl
+  symbols-count false count k [] e = refl
+  symbols-count true count k (y ∷ ys) e = rw e (omega (arith, symbols-count true count (suc k) ys e))
+  symbols-count false count k (y ∷ ys) e = rw e (omega (arith, symbols-count false count (suc k) ys e))
 
   records-count : (b : Bool) (f : Forest) → ((t : ℕ) → isRecord t ≡ true → p t ≡ b) → Tagged f
       → fieldCount p (recordReads (flatten f)) ≡ (if b then size f else 0)
@@ -211,7 +215,7 @@ module _ (p : ℕ → Bool) where
   unfolding fieldCount fieldsFor
   file-count g a b c z e d i q =
       rw (read-back g, z, count-++, count-++)
-      (omega (arith, scopes-count a (g .scopes) e, symbols-count b (g .symbols) d, records-count c (g .tree) i q))
+      (omega (arith, scopes-count a (g .scopes) e, symbols-count b (λ y. mentions y (g .tree)) 1 (g .symbols) d, records-count c (g .tree) i q))
 
 no-scope : (t : ℕ) → isRecord t ≡ true → eqb t Tag.Scope ≡ false
 no-scope t e = ne-eqb t Tag.Scope (λ d. omega (arith, leb-true t 29 e))

@@ -8,7 +8,7 @@ use native.Mathlib.Omega.{arith}
 use lib.ListN.{length, getD, take, drop}
 use lib.Seq.{drop-cons}
 use lib.Dec.{eqb, leb, ltb}
-use borrow.Author.Tests.{eqb-true, leb-true, le-leb}
+use borrow.Author.Tests.{eqb-true, ne-eqb, leb-true, le-leb}
 use Rattle.meaning.specs.Numbers.Tag
 use Rattle.meaning.specs.Tree.{if_then_else_, Head, Forest, count, Row, row, flatten}
 use Rattle.meaning.specs.File.{
@@ -28,12 +28,13 @@ use Rattle.meaning.specs.File.{
   written,
 }
 use Rattle.meaning.specs.Grammar.{tagsOf, two, number, fieldOf, childrenOf, headOf, parentIn}
-use Rattle.meaning.specs.Reading.{accepted, scopesIn, symbolsIn, readFile}
+use Rattle.meaning.specs.Mentions.{mentions}
+use Rattle.meaning.specs.Reading.{accepted, scopesIn, symbolsIn, wrongCount, readFile}
 use Rattle.meaning.specs.declared.Place.{Place}
 use Rattle.meaning.specs.declared.Place.the-variants.{Settings, ScopeRow, SymbolRow}
 use Rattle.meaning.specs.declared.Field.{Field}
 use Rattle.spec_laws.specs.Tags.{and-left, and-right}
-use Rattle.spec_laws.specs.Trees.{Bytes, numbers-most}
+use Rattle.spec_laws.specs.Trees.{Bytes, numbers-few}
 use Rattle.parsing.specs.Parsed.{FieldAt, Parsed, parsed-none, parsed-more, ParsedFile}
 use Rattle.parsing.specs.Fields.{only-tag}
 use Rattle.parsing.specs.Files.{file-parsed}
@@ -105,8 +106,14 @@ module _ (f : List ℕ) (bytes : Bytes f) where
   from-length zero at = refl
   from-length (suc n) at = ap suc (from-length n (at + 2))
 
+  -- those of a record
+  few-numbers : (at : ℕ) → fieldOf f at .tag ≤ 29 → numbersIn (fieldOf f at) ≡ numbersFrom f (at + 3) (numbersOf (fieldOf f at .tag))
+  unfolding fieldOf
+  few-numbers at l = let t = getD f at 0 in four at (numbersOf t) (numbers-few t (ne-eqb t Tag.Symbol (λ e. omega arith)))
+
   -- A FIELD THAT IS READ is tag, length and numbers as they are written.
-  field-cut : {p : Place} {at : ℕ} → FieldAt f p at → let x = fieldOf f at in Cut f at (field (x .tag) (numbersIn x)) (x .next)
+  field-cut : {p : Place} {at : ℕ} → FieldAt f p at
+      → let x = fieldOf f at in Cut f at (field (x .tag) (numbersFrom f (at + 3) (numbersOf (x .tag)))) (x .next)
   unfolding fieldOf fieldBytes field twoBytes
   field-cut {p} {at} y =
       let t = getD f at 0 in
@@ -118,7 +125,7 @@ module _ (f : List ℕ) (bytes : Bytes f) where
       let head = drop-cons f at 0 (omega arith) ∙ ap (λ (n : ℕ). t ∷ drop n f) a₁ in
       let size = rw (y .sized, a₃) at (two-cut (at + 1) (omega arith)) in
       let rest = numbers-cut len (at + 3) (omega arith) in
-      rw (four at len (numbers-most t), from-length len (at + 3), ← next)
+      rw (from-length len (at + 3), ← next)
       (head ∙ ap (λ (xs : List ℕ). t ∷ xs) (size ∙ ap (λ (xs : List ℕ). 2 * len / 256 ∷ 2 * len % 256 ∷ xs) rest))
 
 -- ---- records
@@ -168,57 +175,56 @@ module _ (f : List ℕ) (bytes : Bytes f) (syms : ℕ) where
   records-cut parsed-none = refl
   records-cut (parsed-more {place} {i} {cur} {at} {mid} {next} {m} {n} {o} {h} {k} {r} y ks rs) =
       let x = fieldOf f at in
-      let own = record-of x h (count k) (y .head) (y .children) (tag-most (leb (x .tag) Tag.Step) (place i) syms x refl (y .numbers)) in
-      rw (own, fields-++ (flatten k) (flatten r))
-      (cut-then f at (x .next) next (field (x .tag) (numbersIn x)) _ (field-cut f bytes (y .field))
+      let low = tag-most (leb (x .tag) Tag.Step) (place i) syms x refl (y .numbers) in
+      let own = record-of x h (count k) (y .head) (y .children) low in
+      let ns = numbersFrom f (at + 3) (numbersOf (x .tag)) in
+      rw (own, few-numbers f bytes at low, fields-++ (flatten k) (flatten r))
+      (cut-then f at (x .next) next (field (x .tag) ns) _ (field-cut f bytes (y .field))
       (cut-then f (x .next) mid next (recordFields (flatten k)) _ (records-cut ks) (records-cut rs)))
 
 -- ---- rows
 
-two-numbers : (f : List ℕ) (at t : ℕ) → fieldOf f at .tag ≡ t → numbersOf t ≡ 2
-    → numbersIn (fieldOf f at) ≡ two f (at + 3) ∷ two f (at + 5) ∷ []
-unfolding fieldOf number
-two-numbers f at t e n =
-    let e₀ : at + 3 + 0 ≡ at + 3 = omega arith in
-    let e₂ : at + 3 + 2 ≡ at + 5 = omega arith in
-    rw (e, n, e₀, e₂)
+two-numbers : (f : List ℕ) (at : ℕ) → numbersFrom f (at + 3) 2 ≡ two f (at + 3) ∷ two f (at + 5) ∷ []
+unfolding numbersFrom
+two-numbers f at = let e₂ : at + 3 + 2 ≡ at + 5 = omega arith in rw e₂
 
-four-numbers : (f : List ℕ) (at t : ℕ) → fieldOf f at .tag ≡ t → numbersOf t ≡ 4
-    → numbersIn (fieldOf f at) ≡ two f (at + 3) ∷ two f (at + 5) ∷ two f (at + 7) ∷ two f (at + 9) ∷ []
-unfolding fieldOf number
-four-numbers f at t e n =
-    let e₀ : at + 3 + 0 ≡ at + 3 = omega arith in
+five-numbers : (f : List ℕ) (at : ℕ)
+    → numbersFrom f (at + 3) 5 ≡ two f (at + 3) ∷ two f (at + 5) ∷ two f (at + 7) ∷ two f (at + 9) ∷ two f (at + 11) ∷ []
+unfolding numbersFrom
+five-numbers f at =
+    let e₈ : at + 3 + 2 + 2 + 2 + 2 ≡ at + 11 = omega arith in
+    let e₆ : at + 3 + 2 + 2 + 2 ≡ at + 9 = omega arith in
+    let e₄ : at + 3 + 2 + 2 ≡ at + 7 = omega arith in
     let e₂ : at + 3 + 2 ≡ at + 5 = omega arith in
-    let e₄ : at + 3 + 4 ≡ at + 7 = omega arith in
-    let e₆ : at + 3 + 6 ≡ at + 9 = omega arith in
-    rw (e, n, e₀, e₂, e₄, e₆)
+    rw (e₈, e₆, e₄, e₂)
 
 module _ (f : List ℕ) (bytes : Bytes f) where
   -- a field of a known tag, by its numbers
-  known-cut : {p : Place} (at t : ℕ) (ns : List ℕ) → FieldAt f p at → fieldOf f at .tag ≡ t → numbersIn (fieldOf f at) ≡ ns
+  known-cut : {p : Place} (at t : ℕ) (ns : List ℕ) → FieldAt f p at → fieldOf f at .tag ≡ t → numbersFrom f (at + 3) (numbersOf t) ≡ ns
       → Cut f at (field t ns) (at + fieldBytes t)
   known-cut at t ns y e n =
       subst (λ (i : ℕ). Cut f at (field t ns) i) (y .bytes ∙ ap (λ (u : ℕ). at + fieldBytes u) e)
-      (subst (λ (bs : List ℕ). Cut f at bs (fieldOf f at .next)) (ap₂ field e n) (field-cut f bytes y))
+      (subst (λ (bs : List ℕ). Cut f at bs (fieldOf f at .next))
+      (ap₂ field e (ap (λ (u : ℕ). numbersFrom f (at + 3) (numbersOf u)) e ∙ n)) (field-cut f bytes y))
 
   settings-cut : FieldAt f Settings 0 → Cut f 0 (field Tag.Settings (two f 3 ∷ two f 5 ∷ [])) 7
   unfolding tagsOf fieldBytes numbersOf
   settings-cut y =
       let t = only-tag Tag.Settings refl y in
-      known-cut 0 Tag.Settings _ y t (two-numbers f 0 Tag.Settings t refl)
+      known-cut 0 Tag.Settings _ y t (two-numbers f 0)
 
   scope-cut : (at : ℕ) → FieldAt f ScopeRow at → Cut f at (field Tag.Scope (two f (at + 3) ∷ two f (at + 5) ∷ [])) (at + 7)
   unfolding tagsOf fieldBytes numbersOf
   scope-cut at y =
       let t = only-tag Tag.Scope refl y in
-      known-cut at Tag.Scope _ y t (two-numbers f at Tag.Scope t refl)
+      known-cut at Tag.Scope _ y t (two-numbers f at)
 
   symbol-cut : (at : ℕ) → FieldAt f SymbolRow at
-      → Cut f at (field Tag.Symbol (two f (at + 3) ∷ two f (at + 5) ∷ two f (at + 7) ∷ two f (at + 9) ∷ [])) (at + 11)
+      → Cut f at (field Tag.Symbol (two f (at + 3) ∷ two f (at + 5) ∷ two f (at + 7) ∷ two f (at + 9) ∷ two f (at + 11) ∷ [])) (at + symbolBytes)
   unfolding tagsOf fieldBytes numbersOf
   symbol-cut at y =
       let t = only-tag Tag.Symbol refl y in
-      known-cut at Tag.Symbol _ y t (four-numbers f at Tag.Symbol t refl)
+      known-cut at Tag.Symbol _ y t (five-numbers f at)
 
   -- the rows behind the first
   behind : {p : Place} (width from n : ℕ) → ((j : ℕ) → j < suc n → FieldAt f p (from + width * j))
@@ -245,16 +251,27 @@ module _ (f : List ℕ) (bytes : Bytes f) where
       (subst (λ (i : ℕ). Cut f (scopeBytes * s) row i) e (scope-cut (scopeBytes * s) (first scopeBytes (scopeBytes * s) n rows)))
       (subst (λ (i : ℕ). Cut f (scopeBytes * suc s) (scopeFields (scopesIn f n (suc s))) i) d rest)
 
-  symbols-cut : (n from : ℕ) → ((j : ℕ) → j < n → FieldAt f SymbolRow (from + symbolBytes * j))
-      → Cut f from (symbolFields (symbolsIn f n from)) (from + symbolBytes * n)
-  unfolding symbolsIn symbolFields
-  symbols-cut zero from rows = let e : from ≡ from + 0 = omega arith in ap (λ (i : ℕ). drop i f) e
-  symbols-cut (suc n) from rows =
+  -- no count is wrong: the first is right, and so are those behind it
+  right-counts : (b : Bool) (count : ℕ → ℕ) (n y at : ℕ) → eqb (two f (at + 11)) (count y) ≡ b
+      → suc n ≤ (if b then 1 + wrongCount f count n (suc y) (at + symbolBytes) else 0)
+      → (two f (at + 11) ≡ count y) × (n ≤ wrongCount f count n (suc y) (at + symbolBytes))
+  right-counts true count n y at e l = (eqb-true _ _ e, omega arith)
+  right-counts false count n y at e l = absurd (omega arith)
+
+  symbols-cut : (count : ℕ → ℕ) (n y from : ℕ) → ((j : ℕ) → j < n → FieldAt f SymbolRow (from + symbolBytes * j))
+      → n ≤ wrongCount f count n y from
+      → Cut f from (symbolFields count y (symbolsIn f n from)) (from + symbolBytes * n)
+  unfolding symbolsIn symbolFields wrongCount
+  symbols-cut count zero y from rows right = let e : from ≡ from + 0 = omega arith in ap (λ (i : ℕ). drop i f) e
+  symbols-cut count (suc n) y from rows right =
       let d : from + symbolBytes + symbolBytes * n ≡ from + symbolBytes * suc n = omega arith in
-      let row = field Tag.Symbol (two f (from + 3) ∷ two f (from + 5) ∷ two f (from + 7) ∷ two f (from + 9) ∷ []) in
-      cut-then f from (from + symbolBytes) (from + symbolBytes * suc n) row (symbolFields (symbolsIn f n (from + symbolBytes)))
-      (symbol-cut from (first 11 from n rows))
-      (subst (λ (i : ℕ). Cut f (from + symbolBytes) (symbolFields (symbolsIn f n (from + symbolBytes))) i) d (symbols-cut n (from + symbolBytes) (behind 11 from n rows)))
+      let c = right-counts (eqb (two f (from + 11)) (count y)) count n y from refl right in
+      let row = field Tag.Symbol (two f (from + 3) ∷ two f (from + 5) ∷ two f (from + 7) ∷ two f (from + 9) ∷ count y ∷ []) in
+      let rest = symbolFields count (suc y) (symbolsIn f n (from + symbolBytes)) in
+      cut-then f from (from + symbolBytes) (from + symbolBytes * suc n) row rest
+      (rw (c .0) at (symbol-cut from (first symbolBytes from n rows)))
+      (subst (λ (i : ℕ). Cut f (from + symbolBytes) rest i) d
+      (symbols-cut count n (suc y) (from + symbolBytes) (behind symbolBytes from n rows) (c .1)))
 
 -- ---- the file
 
@@ -267,13 +284,14 @@ unfolding written
 parsed-written f g bytes q =
     let head = field Tag.Settings (two f 3 ∷ two f 5 ∷ []) in
     let ss = scopeFields (scopesIn f (q .scope-number) 1) in
-    let ys = symbolFields (symbolsIn f (q .symbol-number) (q .first)) in
+    let counts : ℕ → ℕ = λ y. mentions y (g .tree) in
+    let ys = symbolFields counts 1 (symbolsIn f (q .symbol-number) (q .first)) in
     let rs = recordFields (flatten (g .tree)) in
     let scopes : Cut f 7 ss (q .first) =
     subst (λ (i : ℕ). Cut f 7 ss i) (sym (q .scope-rows .next-is)) (scopes-cut f bytes (q .scope-number) 1 (q .scope-rows .field)) in
     let symbols : Cut f (q .first) ys (q .root) =
     subst (λ (i : ℕ). Cut f (q .first) ys i) (sym (q .symbol-rows .next-is))
-    (symbols-cut f bytes (q .symbol-number) (q .first) (q .symbol-rows .field)) in
+    (symbols-cut f bytes counts (q .symbol-number) 1 (q .first) (q .symbol-rows .field) (q .all-counted)) in
     let whole : f ≡ (head ++ (ss ++ (ys ++ rs))) ++ drop (length f) f =
     cut-then f 0 7 (length f) head (ss ++ (ys ++ rs)) (settings-cut f bytes (q .settings))
     (cut-then f 7 (q .first) (length f) ss (ys ++ rs) scopes

@@ -8,6 +8,7 @@ use native.Mathlib.Omega.{arith}
 use lib.Dec.{eqb}
 use Rattle.meaning.specs.Numbers.Tag
 use Rattle.meaning.specs.Tree.{Forest, none, more, one, single, flatten, _&_}
+use Rattle.meaning.specs.Mentions.{mentions}
 use Rattle.meaning.specs.File.{File, written}
 use Rattle.meaning.specs.Scoping.{Store}
 use Rattle.meaning.specs.Reading.{accepted, readFile}
@@ -146,7 +147,7 @@ loads-back g =
     (omega (
       arith,
       scopes-count isLoad false (g .scopes) refl,
-      symbols-count isLoad false (g .symbols) refl,
+      symbols-count isLoad false (λ y. mentions y (g .tree)) 1 (g .symbols) refl,
       records-loads (g .tree),
     ))
 
