@@ -71,7 +71,7 @@ use Rattle.charge_laws.specs.Growth.Rows.{
 }
 use Rattle.charge_laws.specs.Growth.Loading.{load-grows}
 use Rattle.charge_laws.specs.Growth.Made.{context-grows, statements-grow, try-grows}
-use Rattle.bound_laws.specs.Rows.{RowKind, perRecord, rows, rows-most}
+use Rattle.bound_laws.specs.Rows.{RowKind, perRecord, perMention, rows, rows-most}
 use Rattle.bound_laws.specs.Weights.{
   Role,
   plain,
@@ -113,28 +113,28 @@ bare K name = (refl, refl, refl)
 bare K held = (refl, refl, refl)
 
 var-weighs : (K : RowKind) (y : ℕ) (e f : Forest)
-    → weigh K plain (declaration Kind.Var y e & f) ≡ 3 * perRecord K + weigh K plain e + weigh K plain f
+    → weigh K plain (declaration Kind.Var y e & f) ≡ 3 * perRecord K + perMention K + weigh K plain e + weigh K plain f
 unfolding weigh next own extra below inDeclaration inDeclarator isUsing _&_
 var-weighs K y e f = omega arith
 
-load-if : (K : RowKind) (b : Bool) (cur : ℕ) (st : Store) → weigh K plain (((if b then loadRuntime else loadExternal cur) st) .0) ≡ perRecord K
+load-if : (K : RowKind) (b : Bool) (cur : ℕ) (st : Store) → weigh K plain (((if b then loadRuntime else loadExternal cur) st) .0) ≡ perRecord K + perMention K
 unfolding loadRuntime loadExternal weigh next own extra below isUsing
 load-if K true cur st = omega arith
 load-if K false cur st = omega arith
 
-load-weighs : (K : RowKind) (cur : ℕ) (st : Store) → weigh K plain ((helperLoad cur st) .0) ≡ perRecord K
+load-weighs : (K : RowKind) (cur : ℕ) (st : Store) → weigh K plain ((helperLoad cur st) .0) ≡ perRecord K + perMention K
 unfolding helperLoad
 load-weighs K cur st = load-if K (eqb (st .mode) 0) cur st
 
 try-weighs : (K : RowKind) (r : Role) (scope : ℕ) (list : Forest) (ctx parent : ℕ) (needsAwait : Bool) (st : Store)
     → let e = createTryStmt scope list ctx parent needsAwait st in
-    weight K r (e .0 .head) (e .0 .children) ≡ 8 * perRecord K + weigh K plain list
+    weight K r (e .0 .head) (e .0 .children) ≡ 8 * perRecord K + 5 * perMention K + weigh K plain list
 unfolding createTryStmt createCatchClause createFinallyBlock weigh next own extra below isUsing _&_
 try-weighs K r scope list ctx parent needsAwait st = omega (arith, bare K r)
 
 -- the list with its context's declaration
 statements-weigh : (K : RowKind) (cur hoist : ℕ) (list : Forest) (st : Store) → anyUsing list ≡ true
-    → weigh K plain ((transformStatements cur hoist list st) .0 .statements) + context K ≤ weigh K plain list + 4 * perRecord K
+    → weigh K plain ((transformStatements cur hoist list st) .0 .statements) + context K ≤ weigh K plain list + 4 * perRecord K + 2 * perMention K
 unfolding transformStatements
 statements-weigh K cur hoist list st e =
     let c = makeContext hoist st in

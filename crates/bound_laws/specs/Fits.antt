@@ -1,4 +1,5 @@
--- The tree, the scope rows and the symbol rows fit 16 bits all along the walk: the bytes of an accepted file pay for what they weigh.
+-- The tree, the scope rows and the symbol rows fit 16 bits all along the walk, and so does what records mention: the bytes of an accepted file
+-- pay for what they weigh.
 -- Assumes nothing.
 use mathlib.Core.Path.{_≡_, refl}
 use mathlib.Core.Bool.{Bool, true, false, _||_, _&&_}
@@ -10,14 +11,14 @@ use lib.Dec.{eqb}
 use Rattle.meaning.specs.Numbers.Tag
 use Rattle.meaning.specs.Numbers.Kind
 use Rattle.meaning.specs.Tree.{if_then_else_, oneOf, Head, Forest, none, more, size, Row, flatten}
-use Rattle.meaning.specs.File.{File, fieldBytes, numbersOf}
+use Rattle.meaning.specs.File.{settingsBytes, File, fieldBytes, numbersOf}
 use Rattle.meaning.specs.Reading.{accepted, readFile}
 use Rattle.meaning.specs.Statements.{isUsing}
 use Rattle.meaning.specs.Walk.{storeOf, start, visits, treeAt, storeAt}
 use Rattle.meaning.specs.Charges.{recordBytes}
 use Rattle.spec_laws.specs.Tags.{Seen, other, here, there, seen}
 use Rattle.charge_laws.specs.Totals.Fits.{declarators, Sound, accepted-room}
-use Rattle.bound_laws.specs.Rows.{given, RowKind, records, scopes, symbols, perRecord, perScope, perSymbol, rows}
+use Rattle.bound_laws.specs.Rows.{given, RowKind, records, scopes, symbols, mentioned, perRecord, perScope, perSymbol, perMention, rows}
 use Rattle.bound_laws.specs.Weights.{
   Role,
   plain,
@@ -31,6 +32,8 @@ use Rattle.bound_laws.specs.Weights.{
   inDeclaration,
   inDeclarator,
   below,
+  mentionsOne,
+  context,
   extra,
   own,
   weigh,
@@ -95,19 +98,23 @@ below-debt r u (there e₁ (there e₅ (there e₆ (there e₈ (there e₁₉ ot
 
 -- ---- what a record weighs, at most
 
-one-kind : (K : RowKind) → perRecord K + perScope K + perSymbol K ≡ 1
-unfolding perRecord perScope perSymbol
+one-kind : (K : RowKind) → perRecord K + perScope K + perSymbol K + perMention K ≡ 1
+unfolding perRecord perScope perSymbol perMention
 one-kind records = refl
 one-kind scopes = refl
 one-kind symbols = refl
+one-kind mentioned = refl
 
 times : (b : Bool) (m n : ℕ) → m ≤ n → given b m ≤ n * given b 1
 times true m n l = omega arith
 times false m n l = omega arith
 
+given-most : (b : Bool) (n : ℕ) → given b n ≤ n
+given-most true n = omega arith
+given-most false n = omega arith
+
 one-most : (b : Bool) → given b 1 ≤ 1
-one-most true = omega arith
-one-most false = omega arith
+one-most b = given-most b 1
 
 abbrev extraMost : ℕ → Bool → ℕ
 extraMost t u = given u 1 + 4 * given (eqb t Tag.Class) 1 + 4 * given (eqb t Tag.DefaultExport) 1 + given (eqb t Tag.Name) 1 + given (eqb t Tag.Declarator) 1
@@ -120,18 +127,18 @@ extra-most K item t u =
     omega (
       arith,
       times u (perRecord K + perScope K) 1 (omega arith),
-      times (eqb t Tag.Class) (3 * perRecord K + perSymbol K) 4 (omega arith),
-      times (eqb t Tag.DefaultExport) (4 * perRecord K + perSymbol K) 4 (omega arith),
+      times (eqb t Tag.Class) (3 * perRecord K + perSymbol K + perMention K) 4 (omega arith),
+      times (eqb t Tag.DefaultExport) (4 * perRecord K + perSymbol K + 2 * perMention K) 4 (omega arith),
     )
 extra-most K first t u =
     let o = one-kind K in
-    omega (arith, times u (5 * perRecord K + perScope K + perSymbol K) 5 (omega arith), one-most u)
+    omega (arith, times u (5 * perRecord K + perScope K + perSymbol K + 3 * perMention K) 5 (omega arith), one-most u)
 extra-most K exported t u =
     let o = one-kind K in
-    omega (arith, times (eqb t Tag.Class) (4 * perRecord K + perSymbol K) 4 (omega arith))
-extra-most K declarator t u = let o = one-kind K in omega (arith, times (eqb t Tag.Declarator) (perRecord K) 1 (omega arith))
-extra-most K name t u = let o = one-kind K in omega (arith, times (eqb t Tag.Name) (perRecord K) 1 (omega arith))
-extra-most K held t u = let o = one-kind K in omega (arith, times (eqb t Tag.Declarator) (perRecord K) 1 (omega arith))
+    omega (arith, times (eqb t Tag.Class) (4 * perRecord K + perSymbol K + 2 * perMention K) 4 (omega arith))
+extra-most K declarator t u = let o = one-kind K in omega (arith, times (eqb t Tag.Declarator) (perRecord K + perMention K) 1 (omega arith))
+extra-most K name t u = let o = one-kind K in omega (arith, times (eqb t Tag.Name) (perRecord K + perMention K) 1 (omega arith))
+extra-most K held t u = let o = one-kind K in omega (arith, times (eqb t Tag.Declarator) (perRecord K + perMention K) 1 (omega arith))
 
 one-first : (b c : Bool) → given (b && c) 1 ≤ given b 1
 one-first true c = one-most c
@@ -143,9 +150,9 @@ using-tag h = one-first (eqb (h .tag) Tag.Declaration) (oneOf (Kind.Using ∷ Ki
 
 -- ---- what its bytes pay, and a Declaration's Declarator
 
-tag-paid : {t : ℕ} → Seen (Tag.Declaration ∷ Tag.Declarator ∷ Tag.ForOf ∷ Tag.Class ∷ Tag.DefaultExport ∷ Tag.Name ∷ []) t
+tag-paid : {t : ℕ} → Seen (Tag.Declaration ∷ Tag.Declarator ∷ Tag.ForOf ∷ Tag.Class ∷ Tag.DefaultExport ∷ Tag.Name ∷ Tag.Step ∷ []) t
     → 1 + 13 * given (eqb t Tag.Declaration) 1 + 8 * given (eqb t Tag.Declarator) 1 + 4 * given (eqb t Tag.ForOf) 1 + 4 * given (eqb t Tag.Class) 1 + 4 * given (eqb t Tag.DefaultExport) 1
-    + given (eqb t Tag.Name) 1
+    + given (eqb t Tag.Name) 1 + 2 * given (eqb t Tag.Step) 1
     ≤ fieldBytes t + 7 * given (eqb t Tag.Declaration) 1
 unfolding fieldBytes numbersOf
 tag-paid here = omega arith
@@ -154,7 +161,8 @@ tag-paid (there e₅ (there e₆ here)) = omega arith
 tag-paid (there e₅ (there e₆ (there e₈ here))) = omega arith
 tag-paid (there e₅ (there e₆ (there e₈ (there e₁₅ here)))) = omega arith
 tag-paid (there e₅ (there e₆ (there e₈ (there e₁₅ (there e₁₈ here))))) = omega arith
-tag-paid (there e₅ (there e₆ (there e₈ (there e₁₅ (there e₁₈ (there e₂₆ other)))))) = rw (e₅, e₆, e₈, e₁₅, e₁₈, e₂₆) (omega arith)
+tag-paid (there e₅ (there e₆ (there e₈ (there e₁₅ (there e₁₈ (there e₂₆ here)))))) = omega arith
+tag-paid (there e₅ (there e₆ (there e₈ (there e₁₅ (there e₁₈ (there e₂₆ (there e₂₉ other))))))) = rw (e₅, e₆, e₈, e₁₅, e₁₈, e₂₆, e₂₉) (omega arith)
 
 own-paid : (K : RowKind) (r : Role) (h : Head) (d : ℕ) → given (eqb (h .tag) Tag.Declaration) 1 ≤ d
     → own K r (h .tag) (isUsing h) + 7 * given (eqb (h .tag) Tag.Declarator) 1 + debt (below r (h .tag) (isUsing h)) ≤ fieldBytes (h .tag) + 7 * d + debt r
@@ -165,10 +173,12 @@ own-paid K r h d l =
     let o = one-kind K in
     omega (
       arith,
-      times u (12 * perRecord K + 4 * perScope K + 2 * perSymbol K) 12 (omega arith),
+      given-most (mentionsOne t) (perMention K),
+      times (eqb t Tag.Step) (2 * perMention K) 2 (omega arith),
+      times u (context K) 12 (omega arith),
       extra-most K r t u,
       below-debt r u (seen (Tag.Program ∷ Tag.Declaration ∷ Tag.Declarator ∷ Tag.ForOf ∷ Tag.ExportedDeclaration ∷ []) t),
-      tag-paid (seen (Tag.Declaration ∷ Tag.Declarator ∷ Tag.ForOf ∷ Tag.Class ∷ Tag.DefaultExport ∷ Tag.Name ∷ []) t),
+      tag-paid (seen (Tag.Declaration ∷ Tag.Declarator ∷ Tag.ForOf ∷ Tag.Class ∷ Tag.DefaultExport ∷ Tag.Name ∷ Tag.Step ∷ []) t),
       using-tag h,
     )
 
@@ -210,6 +220,14 @@ walk-fits b f k e =
       paid scopes plain (f .tree) (r .sound),
       paid symbols plain (f .tree) (r .sound),
     )
+
+-- What records mention weighs less than the file's bytes, by those of the settings.
+pub mentioned-room : (b : List ℕ) (f : File) (k : ℕ) → readFile b ≡ accepted f
+    → settingsBytes + weigh mentioned plain (treeAt (visits k (start f))) ≤ 65535
+unfolding rows debt
+mentioned-room b f k e =
+    let r = accepted-room b f e in
+    omega (arith, r .bytes, walk-within mentioned k f, paid mentioned plain (f .tree) (r .sound))
 
 -- ---- and so does every n
 

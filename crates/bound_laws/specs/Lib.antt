@@ -5,6 +5,8 @@ pub mod Contexts
 pub mod Rewrites
 pub mod Visits
 pub mod Fits
+-- Nor do the mentions of its symbols.
+pub mod MentionsFit
 -- Nor do the numbers in its records and rows.
 pub mod Numbers
 pub mod NumbersContexts

@@ -39,7 +39,7 @@ use Rattle.spec_laws.specs.Tags.{clash, and-left}
 use Rattle.charge_laws.specs.Growth.Rows.{Grown, both, scope-below, symbol-made, symbol-flags, binding-moved, flags-of}
 use Rattle.charge_laws.specs.Growth.Items.{Anything, anything, ChosenItem, as-kept, as-moved, as-class, as-declaration, as-exported-declaration, as-exported-class, as-default-class, as-default-value, staying-tag, chosen-item}
 use Rattle.charge_laws.specs.Growth.Trees.{using-tag}
-use Rattle.bound_laws.specs.Rows.{given, RowKind, perRecord, perScope, perSymbol, rows, rows-most}
+use Rattle.bound_laws.specs.Rows.{given, RowKind, perRecord, perScope, perSymbol, perMention, rows, rows-most}
 use Rattle.bound_laws.specs.Weights.{
   Role,
   plain,
@@ -70,22 +70,22 @@ use Rattle.bound_laws.specs.Contexts.{Within}
 
 -- the new using, which may be none
 new-using : (K : RowKind) (u : Bool) (e : Forest)
-    → own K plain 5 u + weigh K (inDeclaration plain u) (one (hd Tag.Declarator 0 1 0) e) ≤ 3 * perRecord K + context K + weigh K plain e
+    → own K plain 5 u + weigh K (inDeclaration plain u) (one (hd Tag.Declarator 0 1 0) e) ≤ 3 * perRecord K + perMention K + context K + weigh K plain e
 unfolding own extra weigh next below inDeclaration inDeclarator isUsing
 new-using K true e = omega arith
 new-using K false e = omega arith
 
 using-weighs : (K : RowKind) (kind y temp : ℕ) (f : Forest)
-    → weigh K plain (declaration kind y (read temp) & f) ≤ 5 * perRecord K + context K + weigh K plain f
+    → weigh K plain (declaration kind y (read temp) & f) ≤ 5 * perRecord K + 3 * perMention K + context K + weigh K plain f
 unfolding own extra weigh next below inDeclaration isUsing _&_
 using-weighs K kind y temp f = omega (arith, new-using K (isUsing (hd Tag.Declaration kind 0 0)) (more (hd Tag.Name y 0 0) none (read temp)))
 
--- the Declarator's Name
-renamed : (K : RowKind) (y : ℕ) (h : Head) (k r : Forest) → weigh K plain (more (hd Tag.Name y 0 0) k r) ≤ weigh K plain (more h k r)
+-- the Declarator's Name, which mentions a symbol
+renamed : (K : RowKind) (y : ℕ) (h : Head) (k r : Forest) → weigh K plain (more (hd Tag.Name y 0 0) k r) ≤ weigh K plain (more h k r) + perMention K
 unfolding own extra weigh next below isUsing
 renamed K y h k r = omega (arith, lighter K k {r = below plain (h .tag) (isUsing h)} least)
 
-declarator-lighter : (K : RowKind) (h : Head) (k k′ r : Forest) → (eqb (h .tag) Tag.Declarator && eqb (h .a) 0) ≡ true → weigh K plain k′ ≤ weigh K plain k
+declarator-lighter : (K : RowKind) (h : Head) (k k′ r : Forest) → (eqb (h .tag) Tag.Declarator && eqb (h .a) 0) ≡ true → weigh K plain k′ ≤ weigh K plain k + perMention K
     → weigh K plain (more h k′ r) + perRecord K ≤ weigh K held (more h k r)
 unfolding own extra weigh next below inDeclarator
 declarator-lighter K h k k′ r e l =
@@ -100,7 +100,7 @@ rebound K y (more h (more h₁ k₁ r₁) r) e = declarator-lighter K h (more h�
 -- the body gets the using, or is wrapped with it
 abbrev BodyWithin : RowKind → Forest → Store → Forest × Store → Type 0
 BodyWithin K f st e =
-    rows K (e .1) + weigh K plain (e .0) ≤ rows K st + weigh K plain f + 6 * perRecord K + context K + perScope K
+    rows K (e .1) + weigh K plain (e .0) ≤ rows K st + weigh K plain f + 6 * perRecord K + 3 * perMention K + context K + perScope K
 
 inserted : (K : RowKind) (y kind temp : ℕ) (h : Head) (k : Forest) (st : Store) → eqb (h .tag) Tag.Block ≡ true
     → BodyWithin K (one h k) st (insertUsing y (declaration kind y (read temp)) h k st)
@@ -123,7 +123,7 @@ for-of-body K false y kind temp scope h k st e = inserted K y kind temp h k st (
 
 -- the left side becomes const
 left-lighter : (K : RowKind) (y : ℕ) (h : Head) (k : Forest) → isUsing h ≡ true → bindsIdentifier k ≡ true
-    → weight K first (hd Tag.Declaration Kind.Const 0 0) (rebind y k) + (6 * perRecord K + context K + perScope K + perSymbol K) ≤ weight K first h k
+    → weight K first (hd Tag.Declaration Kind.Const 0 0) (rebind y k) + (6 * perRecord K + 3 * perMention K + context K + perScope K + perSymbol K) ≤ weight K first h k
 unfolding own extra below inDeclaration isUsing
 left-lighter K y h k e n = rw (e, using-tag h e) (omega (arith, rebound K y k n))
 
@@ -157,7 +157,7 @@ SplitWithin K u n st e =
     rows K (e .1) + weigh K item (e .0 .kept) + weigh K plain (e .0 .moved) + given u (perRecord K + perScope K) ≤ rows K st + n
 
 class-weighs : (K : RowKind) (h : Head) (k : Forest) (st : Store)
-    → weigh K plain ((transformClassDecl h k st) .0) ≡ 4 * perRecord K + weigh K plain k
+    → weigh K plain ((transformClassDecl h k st) .0) ≡ 4 * perRecord K + 2 * perMention K + weigh K plain k
 unfolding transformClassDecl weigh next own extra below inDeclaration inDeclarator isUsing
 class-weighs K h k st = omega arith
 
@@ -191,7 +191,7 @@ specifiers-++ K st [] ys = omega arith
 specifiers-++ K st (x ∷ xs) ys = omega (arith, specifiers-++ K st xs ys)
 
 specifier-weighs : (K : RowKind) (b : Bool) (st : Store) (y : ℕ) (ys : List ℕ)
-    → weigh K plain (specifiers st (if b then y ∷ ys else ys)) ≡ given b (perRecord K) + weigh K plain (specifiers st ys)
+    → weigh K plain (specifiers st (if b then y ∷ ys else ys)) ≡ given b (perRecord K + perMention K) + weigh K plain (specifiers st ys)
 unfolding specifiers weigh next own extra below isUsing
 specifier-weighs K true st y ys = omega arith
 specifier-weighs K false st y ys = omega arith
@@ -222,17 +222,17 @@ declaration-specified K st (more h k r) =
     )
 
 exported-weighs : (K : RowKind) (t : ℕ) (u : Bool) (k : Forest) → eqb t Tag.Class ≡ true
-    → 5 * perRecord K + perSymbol K + weigh K plain k ≤ own K exported t u + weigh K (below exported t u) k
+    → 5 * perRecord K + perSymbol K + 3 * perMention K + weigh K plain k ≤ own K exported t u + weigh K (below exported t u) k
 unfolding own extra below
 exported-weighs K t u k e = rw (eqb-true t 15 e) (omega arith)
 
 -- ---- 18
 
-expression-lighter : (K : RowKind) (b : Bool) (h : Head) (k : Forest)
+expression-lighter : (K : RowKind) (b : Bool) (h : Head) (k : Forest) → eqb (h .tag) Tag.Class ≡ b
     → weigh K plain (one (if b then hd Tag.Class Form.Expression (h .b) (h .c) else h) k) ≤ weigh K plain (one h k)
 unfolding weigh next own extra below isUsing
-expression-lighter K true h k = omega (arith, lighter K k {r = below plain (h .tag) (isUsing h)} least)
-expression-lighter K false h k = omega arith
+expression-lighter K true h k e = rw (eqb-true (h .tag) Tag.Class e) (omega arith)
+expression-lighter K false h k e = omega arith
 
 -- ---- all items
 
@@ -253,7 +253,7 @@ item-within K st (as-default-class {y = y} {z = z} {k = k} named anything) =
     let h = hd Tag.Class Form.Declaration y z in
     omega (arith, class-weighs K h k st, rows-most K (class-added h k st), lighter K k {r = below plain 15 false} least)
 item-within K st (as-default-value {h = h} {k = k} e d anything) =
-    omega (arith, expression-lighter K (eqb (h .tag) Tag.Class) h k, rows-most K (symbol-made 4 1 1 0 st))
+    omega (arith, expression-lighter K (eqb (h .tag) Tag.Class) h k refl, rows-most K (symbol-made 4 1 1 0 st))
 
 items-within : (K : RowKind) (f : Forest) (st : Store) → SplitWithin K (anyUsing f) (weigh K item f) st (programItems f st)
 unfolding programItems programItem anyUsing weigh next

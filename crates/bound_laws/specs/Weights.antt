@@ -22,7 +22,7 @@ use Rattle.meaning.specs.Statements.{
 use Rattle.meaning.specs.Contexts.{forList, takeUpFor, anyCaseUsing, takeUpCases}
 use Rattle.spec_laws.specs.Tags.{Seen, other, here, there, seen, clash}
 use Rattle.charge_laws.specs.Growth.Trees.{using-tag}
-use Rattle.bound_laws.specs.Rows.{given, RowKind, perRecord, perScope, perSymbol}
+use Rattle.bound_laws.specs.Rows.{given, RowKind, perRecord, perScope, perSymbol, perMention}
 
 -- ---- what a record is to the one around it
 
@@ -70,23 +70,31 @@ below r t u =
 
 -- ---- weights
 
--- a context: 12 records, 4 scopes and 2 symbols
+-- how many symbols a record mentions at most, by its tag: one, and a Step two
+abbrev pub mentionsOne : ℕ → Bool
+mentionsOne t = oneOf (Tag.Function ∷ Tag.Class ∷ Tag.Specifier ∷ Tag.Read ∷ Tag.Name ∷ Tag.Call ∷ Tag.Load ∷ []) t
+
+abbrev pub mention : RowKind → ℕ → ℕ
+mention K t = given (mentionsOne t) (perMention K) + given (eqb t Tag.Step) (2 * perMention K)
+
+-- a context: 12 records, 4 scopes and 2 symbols; its two Names, its Load and its two Steps mention 7 symbols at most
 abbrev pub context : RowKind → ℕ
-context K = 12 * perRecord K + 4 * perScope K + 2 * perSymbol K
+context K = 12 * perRecord K + 4 * perScope K + 2 * perSymbol K + 7 * perMention K
 
 -- what a role adds: Program's Block, a class and its export; a ForOf's new using and its Block; a Specifier; a Call
 unfoldable pub extra : RowKind → Role → ℕ → Bool → ℕ
 extra K plain t u = 0
 extra K item t u =
-    given u (perRecord K + perScope K) + given (eqb t Tag.Class) (3 * perRecord K + perSymbol K) + given (eqb t Tag.DefaultExport) (4 * perRecord K + perSymbol K)
-extra K first t u = given u (5 * perRecord K + perScope K + perSymbol K)
-extra K exported t u = given (eqb t Tag.Class) (4 * perRecord K + perSymbol K)
-extra K declarator t u = given (eqb t Tag.Declarator) (perRecord K)
-extra K name t u = given (eqb t Tag.Name) (perRecord K)
-extra K held t u = given (eqb t Tag.Declarator) (perRecord K)
+    given u (perRecord K + perScope K) + given (eqb t Tag.Class) (3 * perRecord K + perSymbol K + perMention K)
+    + given (eqb t Tag.DefaultExport) (4 * perRecord K + perSymbol K + 2 * perMention K)
+extra K first t u = given u (5 * perRecord K + perScope K + perSymbol K + 3 * perMention K)
+extra K exported t u = given (eqb t Tag.Class) (4 * perRecord K + perSymbol K + 2 * perMention K)
+extra K declarator t u = given (eqb t Tag.Declarator) (perRecord K + perMention K)
+extra K name t u = given (eqb t Tag.Name) (perRecord K + perMention K)
+extra K held t u = given (eqb t Tag.Declarator) (perRecord K + perMention K)
 
 unfoldable pub own : RowKind → Role → ℕ → Bool → ℕ
-own K r t u = perRecord K + given u (context K) + extra K r t u
+own K r t u = perRecord K + mention K t + given u (context K) + extra K r t u
 
 unfoldable pub weigh : RowKind → Role → Forest → ℕ
 weigh K r none = 0
@@ -197,7 +205,7 @@ given-or true b n = omega arith
 given-or false b n = omega arith
 
 -- at most one Call more
-initializer-wrapped : (K : RowKind) (f : Forest) (letter ctx m : ℕ) → weigh K plain (wrapInitializer letter ctx m f) ≤ weigh K plain f + perRecord K
+initializer-wrapped : (K : RowKind) (f : Forest) (letter ctx m : ℕ) → weigh K plain (wrapInitializer letter ctx m f) ≤ weigh K plain f + (perRecord K + perMention K)
 unfolding wrapInitializer weigh next own extra below isUsing _&_
 initializer-wrapped K none letter ctx m = omega arith
 initializer-wrapped K (more h k r) letter ctx zero = omega arith

@@ -33,6 +33,8 @@ pub const NUMBER_C: usize = NUMBER_B + NUMBER_BYTES;
 
 pub const NUMBER_D: usize = NUMBER_C + NUMBER_BYTES;
 
+pub const NUMBER_E: usize = NUMBER_D + NUMBER_BYTES;
+
 // ---- lengths: the table
 
 // The bytes of a field's numbers, for each tag; 0 for a tag that does not exist. Every length of a field is taken from here.
@@ -115,8 +117,8 @@ pub const LOAD_BYTES: usize = HEAD_BYTES + (LENGTHS[tag::LOAD as usize] as usize
 
 pub const STEP_BYTES: usize = HEAD_BYTES + (LENGTHS[tag::STEP as usize] as usize);
 
-// The largest field.
-pub const MOST_FIELD_BYTES: usize = SYMBOL_BYTES;
+// The largest record.
+pub const MOST_RECORD_BYTES: usize = CATCH_BYTES;
 
 // ---- bytes and fields
 

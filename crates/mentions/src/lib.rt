@@ -40,7 +40,8 @@ fn take(counts: &mut [u16], y: SymbolId)
 fn first_named(r: Row) -> SymbolId
     ensures { λ y. ⌜ y .0 ≡ firstNamed (headF r) ⌝ }
 {
-    match r.tag {
+    let tag = r.tag;
+    match tag {
         tag::FUNCTION => SymbolId(r.c),
         tag::CLASS => SymbolId(r.c),
         tag::SPECIFIER => SymbolId(r.a),

@@ -3,12 +3,13 @@
 use mathlib.Core.Path.{_≡_}
 use mathlib.Core.List.{List}
 use mathlib.Core.Bool.{Bool}
-use Prim.Native.Nat.{ℕ, _+_, _*_, _-_, _<_, min}
+use Prim.Native.Nat.{ℕ, _+_, _*_, _-_, _/_, _<_, min}
 use native.Mathlib.Omega.{arith}
-use lib.ListN.{getD, set}
+use lib.ListN.{length, getD, set}
 use lib.Dec.{eqb}
 use Rattle.meaning.specs.Tree.{Head, hd}
 use Rattle.tables.specs.Columns.RecordTable
+use Rattle.tables.specs.Columns.SymbolTable
 use Rattle.tables.specs.Loops.{until}
 use Rattle.tables.specs.declared.Row.{Row}
 
@@ -85,3 +86,9 @@ skipOne t s = skipping (s .at + 1) (s .pending - 1 + columnF t (s .at) RecordTab
 
 unfoldable pub endF : List ℕ → ℕ → ℕ → ℕ
 endF t at c = until (largest - at) skipped (skipOne t) (skipping at c) .at
+
+-- ---- the symbol table
+
+-- where the counts of symbols stand: behind the rows for which it has numbers
+unfoldable pub countsAt : List ℕ → ℕ
+countsAt t = length t / SymbolTable.Lent * SymbolTable.Numbers

@@ -14,7 +14,7 @@ use meaning::RecordId;
 ghost use mathlib.Core.Path.{_≡_};
 ghost use Prim.Native.Nat.{_-_};
 ghost use lib.ListN.{getD, set};
-ghost use Rattle.tables.specs.Table.{capped, columnF, rowF, setColumnF, setRowF, closedRowF, moveRowF, endF};
+ghost use Rattle.tables.specs.Table.{capped, columnF, rowF, setColumnF, setRowF, closedRowF, moveRowF, endF, countsAt};
 ghost use Rattle.tables.specs.Stream.{buf, emitF, replaceRowF, copyRowF, copyF, unreadRowF, takeBackF};
 
 // The largest number of a table, and the most rows that it can have.
@@ -229,6 +229,15 @@ pub fn end_after(records: &[u16], after: RecordId, count: u16) -> RecordId
         at += 1;
     }
     RecordId(at)
+}
+
+// ---- the symbol table
+
+// Where the counts of symbols stand: behind the rows for which the table has numbers.
+pub fn counts_at(symbols: &[u16]) -> usize
+    ensures { λ r. ⌜ r ≡ countsAt (now (symbols .entry)) ⌝ }
+{
+    symbols.len() / symbol::LENT * symbol::NUMBERS
 }
 
 // ---- streaming

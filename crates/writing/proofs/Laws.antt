@@ -1,15 +1,16 @@
 -- The turns of the loops.
 -- Assumes nothing.
-use mathlib.Core.Path.{_≡_}
-use mathlib.Core.List.{List}
+use mathlib.Core.Path.{_≡_, sym}
+use mathlib.Core.List.{List, [], _∷_, _++_}
 use Prim.Native.Nat.{ℕ, _+_, _*_, _-_, _%_, _≤_, _<_}
 use native.Mathlib.Omega.{arith}
 use lib.ListN.{length, getD}
 use lib.Seq.{sets}
 use Rattle.meaning.specs.Numbers.Tag
 use Rattle.tables.specs.Columns.ScopeTable
-use Rattle.meaning.specs.File.{settingsBytes, scopeBytes, symbolBytes, numbersOf, fieldBytes}
-use Rattle.tables.specs.Table.{rowF}
+use Rattle.meaning.specs.File.{settingsBytes, scopeBytes, symbolBytes, numbersOf, fieldBytes, twoBytes}
+use Rattle.spec_laws.specs.Trees.{sets-++}
+use Rattle.tables.specs.Table.{rowF, countsAt}
 use Rattle.tables.specs.declared.Row.{Row}
 use Rattle.writing.specs.Writing.{mostBytes, fieldWith, scopeField, symbolField, recordField, rowsBytes, recordAt}
 use Rattle.writing.specs.Stored.{scope-long, symbol-long, record-length, record-long, rows-turn}
@@ -24,6 +25,17 @@ scopes-turn t r out out′ k n e h o =
     rows-turn (scopeField t) r out out′ (settingsBytes + scopeBytes * k) (settingsBytes + scopeBytes * (k + 1)) k n e h o (omega (arith, scope-long t k))
 
 -- ---- symbols
+
+-- the counts stand within the table
+pub counts-few : (t : List ℕ) (n : ℕ) → n ≡ countsAt t → n ≤ length t
+unfolding countsAt
+counts-few t n e = omega arith
+
+-- four numbers, and the fifth behind them
+pub symbol-put : (a b c d v to : ℕ) (out : List ℕ)
+    → sets (sets out to (fieldWith Tag.Symbol a b c d)) (to + 11) (twoBytes (v ∷ [])) ≡ sets out to (fieldWith Tag.Symbol a b c d ++ twoBytes (v ∷ []))
+unfolding fieldWith numbersOf twoBytes
+symbol-put a b c d v to out = sym (sets-++ (fieldWith Tag.Symbol a b c d) (twoBytes (v ∷ [])) out to)
 
 pub first-symbol : (t out : List ℕ) (first n : ℕ)
     → sets out first (rowsBytes (symbolField t) 0 n) ≡ sets out (first + symbolBytes * 0) (rowsBytes (symbolField t) 0 (n - 0))
@@ -41,11 +53,11 @@ symbols-turn t r out out′ first k n e h o =
 -- ---- records
 
 -- the offset behind a record
-pub next-is : (at n : ℕ) (r : Row) → n ≡ fieldBytes (r .tag % 256) → at + n ≡ at + length (recordField r)
+pub next-is : (at n : ℕ) (r : Row) → n ≡ fieldBytes (r .tag % 32) → at + n ≡ at + length (recordField r)
 unfolding fieldBytes
 next-is at n r e = omega (arith, record-length r)
 
-pub next-whole : (at len : ℕ) (r : Row) → len ≡ 2 * numbersOf (r .tag % 256) → at + 1 + len + 2 ≡ at + length (recordField r)
+pub next-whole : (at len : ℕ) (r : Row) → len ≡ 2 * numbersOf (r .tag % 32) → at + 1 + len + 2 ≡ at + length (recordField r)
 next-whole at len r e = omega (arith, record-length r)
 
 pub next-most : (at at′ first k : ℕ) (r : Row) → at′ ≡ at + length (recordField r) → at ≤ first + mostBytes * k → at′ ≤ first + mostBytes * (k + 1)

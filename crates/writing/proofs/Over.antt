@@ -11,10 +11,9 @@ use lib.Dec.{ltb}
 use borrow.Author.Tests.{lt-ltb, le-ltb}
 use Rattle.meaning.specs.Tree.{if_then_else_}
 use Rattle.meaning.specs.File.{numbersOf, hasChildren, ownNumbers, twoBytes}
-use Rattle.spec_laws.specs.Trees.{numbers-most}
 use Rattle.tables.specs.declared.Row.{Row}
 use Rattle.writing.specs.Writing.{fieldWith, ownOr, recordField, lastOf, twoAt, numbersOver}
-use Rattle.writing.specs.Stored.{putNumber, field-put}
+use Rattle.writing.specs.Stored.{putNumber, record-few, field-put}
 
 -- ---- the head
 
@@ -97,19 +96,19 @@ over false (suc (suc (suc (suc zero)))) at l r o s m e = four-over false at l r 
 over h (suc (suc (suc (suc (suc n))))) at l r o s m e = absurd (omega arith)
 
 -- A RECORD, its head and then its numbers.
-pub record-over : (r : Row) (len at l : ℕ) (h : Bool) (out : List ℕ) → len ≡ 2 * numbersOf (r .tag % 256) → h ≡ hasChildren (r .tag % 256)
+pub record-over : (r : Row) (len at l : ℕ) (h : Bool) (out : List ℕ) → len ≡ 2 * numbersOf (r .tag % 32) → h ≡ hasChildren (r .tag % 32)
     → (len ≡ 0 → ⊥) → l ≡ at + 1 + len
-    → numbersOver h at l r (sets (set out at (r .tag % 256)) (at + 1) (twoBytes (len ∷ []))) ≡ sets out at (recordField r)
+    → numbersOver h at l r (sets (set out at (r .tag % 32)) (at + 1) (twoBytes (len ∷ []))) ≡ sets out at (recordField r)
 unfolding recordField ownNumbers
 record-over r len at l h out e d s k =
-    let n = numbersOf (r .tag % 256) in
-    rw e (over h n at l r _ (λ z. s (omega arith)) (numbers-most _) (omega arith) ∙ rw d (field-put (r .tag % 256) _ _ _ (r .n) at out))
+    let n = numbersOf (r .tag % 32) in
+    rw e (over h n at l r _ (λ z. s (omega arith)) (record-few (r .tag)) (omega arith) ∙ rw d (field-put (r .tag % 32) _ _ _ (r .n) at out))
 
 bare : (t a b c d at : ℕ) (out : List ℕ) → numbersOf t ≡ 0
     → sets (set out at t) (at + 1) (twoBytes (2 * 0 ∷ [])) ≡ sets out at (fieldWith t a b c d)
 bare t a b c d at out z = rw z at (field-put t a b c d at out)
 
-pub bare-over : (r : Row) (len at : ℕ) (out : List ℕ) → len ≡ 2 * numbersOf (r .tag % 256) → len ≡ 0
-    → sets (set out at (r .tag % 256)) (at + 1) (twoBytes (len ∷ [])) ≡ sets out at (recordField r)
+pub bare-over : (r : Row) (len at : ℕ) (out : List ℕ) → len ≡ 2 * numbersOf (r .tag % 32) → len ≡ 0
+    → sets (set out at (r .tag % 32)) (at + 1) (twoBytes (len ∷ [])) ≡ sets out at (recordField r)
 unfolding recordField
-bare-over r len at out e z = rw z (bare (r .tag % 256) _ _ _ (r .n) at out (omega arith))
+bare-over r len at out e z = rw z (bare (r .tag % 32) _ _ _ (r .n) at out (omega arith))

@@ -8,10 +8,11 @@ use native.Mathlib.Omega.{arith}
 use lib.ListN.{length, set, take, drop, length-append}
 use lib.Seq.{sets, sets-eq}
 use lib.Dec.{ltb}
+use borrow.Author.Tests.{ne-eqb}
 use Rattle.meaning.specs.Numbers.Tag
 use Rattle.meaning.specs.Tree.{if_then_else_}
-use Rattle.meaning.specs.File.{settingsBytes, scopeBytes, symbolBytes, numbersOf, twoBytes, field}
-use Rattle.spec_laws.specs.Trees.{numbers-most, two-length, sets-++}
+use Rattle.meaning.specs.File.{settingsBytes, scopeBytes, symbolBytes, numbersOf, twoBytes}
+use Rattle.spec_laws.specs.Trees.{numbers-most, numbers-few, two-length, sets-++}
 use Rattle.writing.specs.Writing.{mostBytes, fieldWith, scopeField, symbolField, recordField, rowsBytes}
 use Rattle.tables.specs.declared.Row.{Row}
 
@@ -33,11 +34,11 @@ take-length (suc (suc (suc zero))) a b c d h = refl
 take-length (suc (suc (suc (suc zero)))) a b c d h = refl
 take-length (suc (suc (suc (suc (suc n))))) a b c d h = absurd (omega arith)
 
-pub field-long : (t a b c d : ℕ) → length (fieldWith t a b c d) ≡ 3 + 2 * numbersOf t
-unfolding fieldWith field twoBytes
-field-long t a b c d =
+pub field-long : (t a b c d : ℕ) → numbersOf t ≤ 4 → length (fieldWith t a b c d) ≡ 3 + 2 * numbersOf t
+unfolding fieldWith twoBytes
+field-long t a b c d h =
     let ns = take (numbersOf t) (a ∷ b ∷ c ∷ d ∷ []) in
-    omega (arith, two-length ns, take-length (numbersOf t) a b c d (numbers-most t))
+    omega (arith, two-length ns, take-length (numbersOf t) a b c d h)
 
 -- a number before others
 two-more : (v : ℕ) (ns out : List ℕ) (at : ℕ)
@@ -63,15 +64,14 @@ numbers-put (v ∷ ns) out at i =
     two-more v ns out (at + 3 + 2 * i) ∙ rw e (numbers-put ns (sets out (at + 3 + 2 * i) (twoBytes (v ∷ []))) at (i + 1))
 
 -- the tag, the length, and each number in its place
-head-put : (t n : ℕ) (ns out : List ℕ) (at : ℕ) → length ns ≡ n
-    → sets out at (field t ns) ≡ putNumbers at (sets (set out at t) (at + 1) (twoBytes (2 * n ∷ []))) 0 ns
-unfolding field
-head-put t n ns out at e =
+head-put : (t n : ℕ) (ns out : List ℕ) (at : ℕ)
+    → sets out at (t ∷ twoBytes (2 * n ∷ ns)) ≡ putNumbers at (sets (set out at t) (at + 1) (twoBytes (2 * n ∷ []))) 0 ns
+head-put t n ns out at =
     let o = set out at t in
     let d : suc at + 2 ≡ at + 3 + 2 * 0 = omega arith in
-    rw (e, add-one at) (two-more (2 * n) ns o (suc at) ∙ rw d (numbers-put ns (sets o (suc at) (twoBytes (2 * n ∷ []))) at 0))
+    rw (add-one at) (two-more (2 * n) ns o (suc at) ∙ rw d (numbers-put ns (sets o (suc at) (twoBytes (2 * n ∷ []))) at 0))
 
-each-put : (n a b c d at : ℕ) (out : List ℕ) → n ≤ 4
+each-put : (n a b c d at : ℕ) (out : List ℕ) → n ≤ 5
     → putNumber at n (putNumber at n (putNumber at n (putNumber at n out 0 a) 1 b) 2 c) 3 d ≡ putNumbers at out 0 (take n (a ∷ b ∷ c ∷ d ∷ []))
 unfolding putNumbers
 each-put zero a b c d at out h = refl
@@ -79,7 +79,8 @@ each-put (suc zero) a b c d at out h = refl
 each-put (suc (suc zero)) a b c d at out h = refl
 each-put (suc (suc (suc zero))) a b c d at out h = refl
 each-put (suc (suc (suc (suc zero)))) a b c d at out h = refl
-each-put (suc (suc (suc (suc (suc n))))) a b c d at out h = absurd (omega arith)
+each-put (suc (suc (suc (suc (suc zero))))) a b c d at out h = refl
+each-put (suc (suc (suc (suc (suc (suc n)))))) a b c d at out h = absurd (omega arith)
 
 -- A FIELD, byte by byte.
 pub field-put : (t a b c d at : ℕ) (out : List ℕ)
@@ -90,17 +91,20 @@ unfolding fieldWith
 field-put t a b c d at out =
     let n = numbersOf t in
     let o = sets (set out at t) (at + 1) (twoBytes (2 * n ∷ [])) in
-    each-put n a b c d at o (numbers-most t)
-    ∙ sym (head-put t n (take n (a ∷ b ∷ c ∷ d ∷ [])) out at (take-length n a b c d (numbers-most t)))
+    each-put n a b c d at o (numbers-most t) ∙ sym (head-put t n (take n (a ∷ b ∷ c ∷ d ∷ [])) out at)
 
 -- ---- rows
 
-pub record-length : (r : Row) → length (recordField r) ≡ 3 + 2 * numbersOf (r .tag % 256)
+-- a record has at most four numbers
+pub record-few : (t : ℕ) → numbersOf (t % 32) ≤ 4
+record-few t = numbers-few (t % 32) (ne-eqb (t % 32) Tag.Symbol (λ e. omega arith))
+
+pub record-length : (r : Row) → length (recordField r) ≡ 3 + 2 * numbersOf (r .tag % 32)
 unfolding recordField
-record-length r = field-long (r .tag % 256) _ _ _ (r .n)
+record-length r = field-long (r .tag % 32) _ _ _ (r .n) (record-few (r .tag))
 
 pub record-long : (r : Row) → length (recordField r) ≤ mostBytes
-record-long r = omega (arith, numbers-most (r .tag % 256), record-length r)
+record-long r = omega (arith, record-few (r .tag), record-length r)
 
 rows-long : (f : ℕ → List ℕ) (w : ℕ) → ((k : ℕ) → length (f k) ≡ w) → (k n : ℕ) → length (rowsBytes f k n) ≡ w * n
 unfolding rowsBytes
@@ -109,11 +113,11 @@ rows-long f w e k (suc n) = omega (arith, length-append (f k) (rowsBytes f (k + 
 
 pub scope-long : (t : List ℕ) (k : ℕ) → length (scopeField t k) ≡ scopeBytes
 unfolding scopeField numbersOf
-scope-long t k = field-long Tag.Scope _ _ 0 0
+scope-long t k = field-long Tag.Scope _ _ 0 0 (omega arith)
 
 pub symbol-long : (t : List ℕ) (k : ℕ) → length (symbolField t k) ≡ symbolBytes
-unfolding symbolField numbersOf
-symbol-long t k = field-long Tag.Symbol _ _ _ _
+unfolding symbolField fieldWith numbersOf twoBytes
+symbol-long t k = refl
 
 pub rows-turn : (f : ℕ → List ℕ) (r out out′ : List ℕ) (at at′ k n : ℕ) → r ≡ sets out at (rowsBytes f k (n - k)) → k < n
     → out′ ≡ sets out at (f k) → at′ ≡ at + length (f k) → r ≡ sets out′ at′ (rowsBytes f (k + 1) (n - (k + 1)))
@@ -138,7 +142,7 @@ file-put s y m f g h a b out ef eg =
     let ss = rowsBytes f 0 s in
     let ys = rowsBytes g 0 y in
     let rs = rowsBytes h 0 m in
-    let l₁ : 0 + length x ≡ 7 = omega (arith, field-long 40 a b 0 0) in
+    let l₁ : 0 + length x ≡ 7 = omega (arith, field-long 40 a b 0 0 (omega arith)) in
     let l₂ : settingsBytes + length ss ≡ settingsBytes + scopeBytes * s = omega (arith, rows-long f scopeBytes ef 0 s) in
     let l₃ : settingsBytes + scopeBytes * s + length ys ≡ settingsBytes + scopeBytes * s + symbolBytes * y = omega (arith, rows-long g symbolBytes eg 0 y) in
     sym

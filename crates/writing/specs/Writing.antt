@@ -8,14 +8,14 @@ use lib.Seq.{sets}
 use lib.Dec.{ltb}
 use Rattle.meaning.specs.Numbers.Tag
 use Rattle.meaning.specs.Tree.{if_then_else_}
-use Rattle.meaning.specs.File.{numbersOf, ownNumbers, twoBytes, field}
+use Rattle.meaning.specs.File.{numbersOf, ownNumbers, twoBytes}
 use Rattle.tables.specs.Columns.ScopeTable
 use Rattle.tables.specs.Columns.SymbolTable
-use Rattle.tables.specs.Table.{rowF}
+use Rattle.tables.specs.Table.{rowF, countsAt}
 use Rattle.tables.specs.declared.Row.{Row}
 use Rattle.path.specs.declared.Walk.{Walk}
 
--- A field has at most so many bytes. The settings and 65,535 fields of each kind: the symbol rows begin at the first of these offsets at
+-- A record has at most so many bytes. The settings and 65,535 fields of each kind: the symbol rows begin at the first of these offsets at
 -- most, the records at the second, and every field at the third.
 abbrev pub mostBytes : ℕ
 mostBytes = 11
@@ -29,9 +29,9 @@ mostTree = 1500000
 abbrev pub mostOffset : ℕ
 mostOffset = 2500000
 
--- a field with as many of these numbers as its tag has
+-- a field with as many of these numbers as its tag has; the fifth of a symbol row goes behind them
 unfoldable pub fieldWith : ℕ → ℕ → ℕ → ℕ → ℕ → List ℕ
-fieldWith t a b c d = field t (take (numbersOf t) (a ∷ b ∷ c ∷ d ∷ []))
+fieldWith t a b c d = t ∷ twoBytes (2 * numbersOf t ∷ take (numbersOf t) (a ∷ b ∷ c ∷ d ∷ []))
 
 -- ---- rows
 
@@ -42,14 +42,16 @@ unfoldable pub symbolField : List ℕ → ℕ → List ℕ
 symbolField t k =
     let at = k * SymbolTable.Numbers in
     fieldWith Tag.Symbol (getD t at 0) (getD t (at + 1) 0) (getD t (at + 2) 0) (getD t (at + 3) 0)
+    ++ twoBytes (getD t (countsAt t + k) 0 ∷ [])
 
 -- a record's own number, or n behind them
 unfoldable pub ownOr : ℕ → ℕ → ℕ → ℕ → ℕ
 ownOr own i v n = if ltb i own then v else n
 
+-- the tags of records are below 32; others are cut to it
 unfoldable pub recordField : Row → List ℕ
 recordField r =
-    let t = r .tag % 256 in
+    let t = r .tag % 32 in
     let own = ownNumbers t in
     fieldWith t (ownOr own 0 (r .a) (r .n)) (ownOr own 1 (r .b) (r .n)) (ownOr own 2 (r .c) (r .n)) (r .n)
 

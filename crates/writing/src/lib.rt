@@ -2,10 +2,11 @@
 //
 // Bytes go to an offset; past the end of the output nothing is stored.
 use fields::HEAD_BYTES;
-use fields::MOST_FIELD_BYTES;
+use fields::MOST_RECORD_BYTES;
 use fields::NUMBER_B;
 use fields::NUMBER_BYTES;
 use fields::NUMBER_C;
+use fields::NUMBER_E;
 use fields::SCOPE_BYTES;
 use fields::SETTINGS_BYTES;
 use fields::SYMBOL_BYTES;
@@ -41,7 +42,7 @@ fn put_number(out: &mut [u8], at: usize, count: u8, i: u8, v: u16)
     }
 }
 
-// A field with as many of these numbers as its tag has.
+// A field with as many of these numbers as its tag has; the fifth of a symbol row goes behind them.
 fn put_field(out: &mut [u8], at: usize, tag: u16, a: u16, b: u16, c: u16, d: u16)
     requires { ⌜ (at ≤ mostOffset) × (tag ≤ 255) ⌝ }
     ensures { λ _. ⌜ now (out .exit) ≡ sets (now (out .entry)) at (fieldWith tag a b c d) ⌝ }
@@ -86,15 +87,10 @@ fn put_symbol(out: &mut [u8], to: usize, symbols: &[u16], k: u16)
     let name = tables::get(symbols, at);
     let flags = tables::get(symbols, at + 1);
     let scope = tables::get(symbols, at + 2);
-    put_field(
-        out,
-        to,
-        tag::SYMBOL,
-        name,
-        flags,
-        scope,
-        tables::get(symbols, at + 3),
-    );
+    let made = tables::get(symbols, at + 3);
+    let count = tables::get(symbols, tables::counts_at(symbols) + (k as usize));
+    put_field(out, to, tag::SYMBOL, name, flags, scope, made);
+    fields::put_two(out, to + NUMBER_E, count);
 }
 
 // The symbol rows, from an offset on.
@@ -118,13 +114,16 @@ fn own_or(own: u8, i: u8, v: u16, n: u16) -> u16
     if i < own { v } else { n }
 }
 
+// The tags of records are below this; others are cut to it.
+const TAGS: u16 = 32;
+
 // A record at an offset where it may not fit; the offset behind it.
 fn put_record(out: &mut [u8], at: usize, r: Row) -> usize
     requires { ⌜ at ≤ mostOffset ⌝ }
     ensures bytes { λ _. ⌜ now (out .exit) ≡ sets (now (out .entry)) at (recordField r) ⌝ }
     ensures next { λ e. ⌜ e ≡ at + length (recordField r) ⌝ }
 {
-    let tag = r.tag % 256;
+    let tag = r.tag % TAGS;
     let own = rules::own_numbers(tag);
     let n = r.n;
     put_field(
@@ -226,7 +225,7 @@ fn put_whole(out: &mut [u8], at: usize, r: Row) -> usize
     ensures bytes { λ _. ⌜ now (out .exit) ≡ sets (now (out .entry)) at (recordField r) ⌝ }
     ensures next { λ e. ⌜ e ≡ at + length (recordField r) ⌝ }
 {
-    let tag = r.tag % 256;
+    let tag = r.tag % TAGS;
     let length = fields::length_of(tag);
     let last = at + TAG_BYTES + (length as usize);
     put_head(out, at, tag, length);
@@ -245,7 +244,7 @@ fn put_records(out: &mut [u8], tree: usize, records: &[u16], count: u16)
     let mut at = tree;
     let mut k: u16 = 0;
     while k < count {
-        if out.len() < at + MOST_FIELD_BYTES {
+        if out.len() < at + MOST_RECORD_BYTES {
             break;
         }
         at = put_whole(out, at, tables::row_after(records, RecordId(k)));

@@ -1,4 +1,4 @@
--- The columns of the symbol table, and how many numbers a row has. ReadScope is the scope that was read.
+-- The columns of the symbol table, how many numbers a row has, and how many are lent for one. ReadScope is the scope that was read.
 -- Assumes nothing.
 use Prim.Native.Nat.{ℕ}
 
@@ -19,3 +19,6 @@ ReadScope = 4
 
 abbrev pub Numbers : ℕ
 Numbers = 5
+
+abbrev pub Lent : ℕ
+Lent = 6

@@ -2,7 +2,7 @@
 use mathlib.Core.Path.{refl}
 use Prim.Native.Nat.{_%_}
 use native.Mathlib.Omega.{arith}
-use Rattle.spec_laws.specs.Trees.{numbers-most}
+use Rattle.writing.specs.Stored.{record-few}
 use Rattle.writing.proofs.Laws.{next-whole}
 use Rattle.writing.proofs.Over.{bare-over, record-over}
 use borrow.Author.Needs.{needs}
@@ -22,7 +22,7 @@ put-numbers-requires c κs =
     let at-if1 = c .before .before in
     let at-length-of = at-if1 .before .before .before .before .before in
     let l = at-length-of .length-of .ensures .1 in
-    let m = numbers-most (at-length-of .before .before .before .args .r .tag % 256) in
+    let m = record-few (at-length-of .before .before .before .args .r .tag) in
     (search needs, omega (arith, at-if1 .if1 .left), omega (arith, l, m))
 
 returns-2 : tie.Need-returns-2
