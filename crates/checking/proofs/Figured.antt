@@ -70,10 +70,10 @@ lines-are : (mode isModule scopes symbols : ℕ) (g : Figures) (b c : Bool) → 
       scopes = scopes + g .scopes;
       symbols = symbols + g .symbols + (if b then 1 else 0);
       contexts = g .contexts;
-      bytes = 7 + 7 * scopes + 11 * symbols + g .bytes + 11 * (if b then 1 else 0) + 16 * (if c then (if b then 1 else 0) else 0);
+      bytes = 7 + 7 * scopes + 13 * symbols + g .bytes + 13 * (if b then 1 else 0) + 16 * (if c then (if b then 1 else 0) else 0);
     })
     (shownFigures
-    (figures (g .records) (scopes + g .scopes) (symbols + g .symbols) (g .contexts) (7 + (7 * scopes + (11 * symbols + g .bytes)))
+    (figures (g .records) (scopes + g .scopes) (symbols + g .symbols) (g .contexts) (7 + (7 * scopes + (13 * symbols + g .bytes)))
     ⊕ total (helperLines mode g)
     ⊕ total (importLines mode isModule g)))
 unfolding helperLines importLines total lineCharge

@@ -8,10 +8,12 @@ use native.Mathlib.Omega.{arith}
 use lib.Dec.{leb}
 use lib.ListN.{length, replicate, length-replicate}
 use borrow.Author.Tests.{leb-true}
-use Rattle.meaning.specs.Tree.{if_then_else_}
-use Rattle.meaning.specs.File.{Symbol, File}
+use Rattle.meaning.specs.Tree.{if_then_else_, Forest, size}
+use Rattle.meaning.specs.File.{Symbol, File, symbolBytes}
+use Rattle.meaning.specs.Mentions.{mentions}
 use Rattle.meaning.specs.Grammar.{fieldAt, unnamed}
-use Rattle.meaning.specs.Reading.{Outcome, accepted, refused, _>>=_, _>>_, ensure, field, Records, Counted, rows, readScopes, readSymbols, scopesIn, symbolsIn, readForest, readFile}
+use Rattle.meaning.specs.Reading.{Outcome, accepted, refused, _>>=_, _>>_, ensure, field, Records, Counted, rows, readScopes, readSymbols, scopesIn, symbolsIn, readForest, wrongCount, checkCounts, readFile}
+use Rattle.meaning.specs.declared.Place.{Place}
 use Rattle.meaning.specs.declared.Place.the-variants.{Settings, Program}
 use Rattle.meaning.specs.declared.Field.{Field}
 use Rattle.meaning.specs.declared.Reading.{Reading}
@@ -19,17 +21,22 @@ use Rattle.meaning.specs.declared.Reading.the-variants.{Whole as WholeField, Re
 use Rattle.meaning.specs.declared.Rows.{Rows}
 use Rattle.meaning.specs.declared.Rows.the-variants.{Read, Refused as RefusedRows}
 use Rattle.parsing.specs.Fields.{field-is, scopes-are, symbols-are}
+use Rattle.parsing.specs.Parsed.{Parsed}
+use Rattle.parsing.specs.Records.{forest-parsed}
+use Rattle.parsing.specs.Counts.{parsed-bytes, parsed-ends, size-bytes}
 use Rattle.parsing.specs.Files.{settings-are, scopes-length, symbols-length}
 use Rattle.figures.specs.Tally.{noTally, _⊞_, cap, tallyOf}
 use Rattle.figures.specs.declared.tally.Tally.{Tally}
 use Rattle.figures.specs.declared.tally.Role.the-variants.{Plain}
+use Rattle.charge_laws.specs.Totals.Bound.{tally-records}
 use Rattle.checking.specs.declared.Layout.{Layout}
 use Rattle.checking.specs.declared.Whole.{Whole}
 use Rattle.checking.specs.declared.Whole.the-variants.{Accepted, Refused as RefusedFile}
-use Rattle.checking.specs.Flat.{Past, listF, recordF, runAnswer, endF, answerOf, treeF, layout, withRecords, byRows, byField, symbolsF, rowsF, settingsF, fileF}
+use Rattle.checking.specs.Flat.{Past, listF, recordF, wrongF, countedF, runAnswer, endF, answerOf, treeF, layout, withRecords, byRows, byField, symbolsF, rowsF, settingsF, fileF}
 use Rattle.checking.specs.Survey.{layoutOf}
 use Rattle.checking.proofs.Cap.{none-⊞}
 use Rattle.checking.proofs.Link.{forget, asRead, link-forest}
+use Rattle.checking.proofs.Mentions.{wrong-is}
 
 -- what a file comes to
 abbrev pub tallyIn : File → Tally
@@ -52,32 +59,37 @@ unfolding listF
 program-is f scopes syms at m =
     link-forest f scopes syms 64 (λ _. Program) (λ _. Plain) 0 1 0 noTally at m ∙ alone (recordF 64 f scopes syms Program Plain 0 noTally at m)
 
--- 7 and the lowest unnamed row; `g` makes the file
-end-tests : (b₁ b₂ : Bool) (c₁ p₁ c₂ p₂ : ℕ) (g : File) (q : Past) (l : Layout)
-    → wholeOf (accepted g) ≡ Accepted (withRecords l (q .tally .records)) (q .tally)
-    → wholeOf (ensure b₁ c₁ p₁ >> (ensure b₂ c₂ p₂ >> accepted g))
-    ≡ runAnswer l (answerOf (ensure b₁ c₁ p₁ >> (ensure b₂ c₂ p₂ >> accepted q)))
-end-tests true true c₁ p₁ c₂ p₂ g q l e = e
-end-tests true false c₁ p₁ c₂ p₂ g q l e = refl
-end-tests false b₂ c₁ p₁ c₂ p₂ g q l e = refl
+-- 7 and the lowest unnamed row; then the counts
+end-tests : (f : List ℕ) (b₁ b₂ : Bool) (c₁ p₁ c₂ p₂ : ℕ) (o : Outcome File) (q : Past) (l : Layout)
+    → wholeOf o ≡ countedF f (withRecords l (q .tally .records)) (q .tally)
+    → wholeOf (ensure b₁ c₁ p₁ >> (ensure b₂ c₂ p₂ >> o))
+    ≡ runAnswer f l (answerOf (ensure b₁ c₁ p₁ >> (ensure b₂ c₂ p₂ >> accepted q)))
+end-tests f true true c₁ p₁ c₂ p₂ o q l e = e
+end-tests f true false c₁ p₁ c₂ p₂ o q l e = refl
+end-tests f false b₂ c₁ p₁ c₂ p₂ o q l e = refl
 
--- a layout with the tally of some records
-abbrev tallied : Layout → List Symbol → Records → Whole
-tallied l ys k = let t = cap (noTally ⊞ tallyOf ys (λ _. Plain) 0 (k .forest)) in Accepted (withRecords l (t .records)) t
+-- the tally of some records, and a layout with it
+abbrev talliedIn : List Symbol → Records → Tally
+talliedIn ys k = cap (noTally ⊞ tallyOf ys (λ _. Plain) 0 (k .forest))
 
-end-is : (f : List ℕ) (n : ℕ) (ys : List Symbol) (o : Outcome Records) (oF : Outcome Past) (g : Records → File) (l : Layout)
-    → forget ys (λ _. Plain) 0 noTally o ≡ oF → ((k : Records) → wholeOf (accepted (g k)) ≡ tallied l ys k)
+abbrev layoutIn : Layout → List Symbol → Records → Layout
+layoutIn l ys k = withRecords l (talliedIn ys k .records)
+
+-- `last` does the last check, and makes the file
+end-is : (f : List ℕ) (n : ℕ) (ys : List Symbol) (o : Outcome Records) (oF : Outcome Past) (last : Records → Outcome File) (l : Layout)
+    → forget ys (λ _. Plain) 0 noTally o ≡ oF
+    → ((k : Records) → o ≡ accepted k → wholeOf (last k) ≡ countedF f (layoutIn l ys k) (talliedIn ys k))
     → wholeOf
     (o >>= (λ k.
     ensure (leb (length f) (k .next)) 7 (k .next)
-    >> (ensure (leb n (unnamed (k .marks))) 5 (7 + 7 * unnamed (k .marks)) >> accepted (g k))))
-    ≡ runAnswer l (answerOf (endF f n oF))
+    >> (ensure (leb n (unnamed (k .marks))) 5 (7 + 7 * unnamed (k .marks)) >> last k)))
+    ≡ runAnswer f l (answerOf (endF f n oF))
 unfolding endF
-end-is f n ys (accepted k) oF g l e h =
-    end-tests (leb (length f) (k .next)) (leb n (unnamed (k .marks))) 7 (k .next) 5 (7 + 7 * unnamed (k .marks)) (g k)
-    (record { next = k .next; marks = k .marks; tally = cap (noTally ⊞ tallyOf ys (λ _. Plain) 0 (k .forest)) }) l (h k)
-    ∙ ap (λ (q : Outcome Past). runAnswer l (answerOf (endF f n q))) e
-end-is f n ys (refused c p) oF g l e h = ap (λ (q : Outcome Past). runAnswer l (answerOf (endF f n q))) e
+end-is f n ys (accepted k) oF last l e h =
+    end-tests f (leb (length f) (k .next)) (leb n (unnamed (k .marks))) 7 (k .next) 5 (7 + 7 * unnamed (k .marks)) (last k)
+    (record { next = k .next; marks = k .marks; tally = talliedIn ys k }) l (h k refl)
+    ∙ ap (λ (q : Outcome Past). runAnswer f l (answerOf (endF f n q))) e
+end-is f n ys (refused c p) oF last l e h = ap (λ (q : Outcome Past). runAnswer f l (answerOf (endF f n q))) e
 
 -- ---- the steps before the tree
 
@@ -103,10 +115,14 @@ by-rows (Read k at) g gF h = h k at refl
 by-rows (RefusedRows c p) g gF h = refl
 
 -- the file that is made of accepted records
+abbrev made : List ℕ → Field → ℕ → ℕ → ℕ → Records → File
+made f s n syms at k =
+    record { mode = s .a; isModule = s .b; scopes = scopesIn f n 1; symbols = symbolsIn f syms at; tree = k .forest }
+
 made-is : (f : List ℕ) (s : Field) (n syms at at₂ : ℕ) (k : Records) → min at 65535 ≡ 7 + 7 * n → at ≡ 7 + 7 * n
-    → min at₂ 65535 ≡ 7 + 7 * n + 11 * syms
-    → wholeOf (accepted (record { mode = s .a; isModule = s .b; scopes = scopesIn f n 1; symbols = symbolsIn f syms at; tree = k .forest }))
-    ≡ tallied (layout s n syms at at₂) (asRead f n syms) k
+    → min at₂ 65535 ≡ 7 + 7 * n + symbolBytes * syms
+    → wholeOf (accepted (made f s n syms at k))
+    ≡ Accepted (layoutIn (layout s n syms at at₂) (asRead f n syms) k) (talliedIn (asRead f n syms) k)
 made-is f s n syms at at₂ k e₁ e e₂ =
     rw (scopes-length f n 1, symbols-length f syms at, e₁, e₂, e)
     (ap (λ (t : Tally).
@@ -118,7 +134,7 @@ made-is f s n syms at at₂ k e₁ e e₂ =
       symbols = syms;
       records = min (cap t .records) 65535;
       first = 7 + 7 * n;
-      tree = 7 + 7 * n + 11 * syms;
+      tree = 7 + 7 * n + symbolBytes * syms;
     })
     (cap t))
     (sym (none-⊞ _)))
@@ -135,18 +151,48 @@ symbols-from f x n at e r =
 
 -- Program stands behind the symbol rows
 tree-from : (f : List ℕ) (n at syms at₂ : ℕ) → at ≤ length f → readSymbols f n at ≡ Read syms at₂
-    → (at₂ ≡ at + 11 * syms) × (at₂ ≤ length f)
+    → (at₂ ≡ at + symbolBytes * syms) × (at₂ ≤ length f)
 tree-from f n at syms at₂ l e = let q = symbols-are f n at syms at₂ l e in (q .next-is, q .ends)
 
--- the layout and the tally of what was read from a file that is not too long
+-- ---- the counts
+
+-- the records of a tree that was read are counted
+records-are : {f : List ℕ} {syms : ℕ} {place : ℕ → Place} {i cur at next : ℕ} {m o : List ℕ} {t : Forest} (ys : List Symbol)
+    → length f ≤ 65535 → at ≤ length f → Parsed f syms place i cur at m t next o
+    → min (cap (noTally ⊞ tallyOf ys (λ _. Plain) 0 t) .records) 65535 ≡ size t
+records-are {t = t} ys small inside tree =
+    omega (arith, tally-records ys t (λ _. Plain) 0, size-bytes t, parsed-bytes tree, parsed-ends tree inside)
+
+-- a wrong count, or the file
+by-counts : (b : Bool) (p : ℕ) (g : File) (r : Whole) → wholeOf (accepted g) ≡ r
+    → wholeOf (ensure b 5 p >> accepted g) ≡ (if b then r else RefusedFile 5 p)
+by-counts true p g r e = e
+by-counts false p g r e = refl
+
+-- the last check, and the layout and the tally, of what was read from a file that is not too long
 file-is : (f : List ℕ) (s : Field) (n at syms at₂ : ℕ) (k : Records) → length f ≤ 65535 → fieldAt f Settings 0 ≡ WholeField s
     → readScopes f (s .next) ≡ Read n at → readSymbols f n at ≡ Read syms at₂
-    → wholeOf (accepted (record { mode = s .a; isModule = s .b; scopes = scopesIn f n 1; symbols = symbolsIn f syms at; tree = k .forest }))
-    ≡ tallied (layout s n syms at at₂) (asRead f n syms) k
-file-is f s n at syms at₂ k h es en ey =
+    → readForest 64 f syms (λ _. Program) 0 0 1 at₂ (replicate n 0) ≡ accepted k
+    → wholeOf (checkCounts f (λ y. mentions y (k .forest)) syms at >> accepted (made f s n syms at k))
+    ≡ countedF f (layoutIn (layout s n syms at at₂) (asRead f n syms) k) (talliedIn (asRead f n syms) k)
+unfolding countedF
+file-is f s n at syms at₂ k small es en ey et =
     let x = symbols-from f s n at es en in
     let y = tree-from f n at syms at₂ (x .1) ey in
-    made-is f s n syms at at₂ k (omega (arith, x .0, x .1)) (x .0) (omega (arith, x .0, y .0, y .1))
+    let tree = forest-parsed f syms 64 (λ _. Program) 0 0 1 at₂ (replicate n 0) k et .0 in
+    let l = layoutIn (layout s n syms at at₂) (asRead f n syms) k in
+    let t = talliedIn (asRead f n syms) k in
+    let first : min at 65535 ≡ at = omega (arith, x .1) in
+    let wrong = wrongCount f (λ y. mentions y (k .forest)) syms 1 at in
+    let same : wrongF f l ≡ wrong =
+    wrong-is small (y .1) tree l (records-are (asRead f n syms) small (y .1) tree) (omega (arith, y .1))
+    ∙ ap (wrongCount f (λ y. mentions y (k .forest)) syms 1) first in
+    by-counts (leb syms wrong) (at + symbolBytes * wrong) _ (Accepted l t)
+    (made-is f s n syms at at₂ k (omega (arith, x .0, x .1)) (x .0) (omega (arith, x .0, y .0, y .1)))
+    ∙ ap (λ (w : ℕ). if leb syms w then Accepted l t else RefusedFile 5 (at + symbolBytes * w)) (sym same)
+    ∙ ap (λ (p : ℕ). if leb syms (wrongF f l) then Accepted l t else RefusedFile 5 (p + symbolBytes * wrongF f l)) (sym first)
+
+-- ---- the whole file
 
 pub whole-is : (f : List ℕ) → wholeOf (readFile f) ≡ fileF f
 unfolding readFile fileF settingsF rowsF symbolsF treeF
@@ -158,6 +204,6 @@ whole-is f =
     by-rows (readSymbols f n at) _ _ (λ syms at₂ ey.
     end-is f n (asRead f n syms) (readForest 64 f syms (λ _. Program) 0 0 1 at₂ (replicate n 0)) _ _ (layout s n syms at at₂)
     (program-is f n syms at₂ (replicate n 0))
-    (λ k. file-is f s n at syms at₂ k (leb-true (length f) 65535 short) es en ey)
-    ∙ ap (λ (j : ℕ). runAnswer (layout s n syms at at₂) (answerOf (endF f j (recordF 64 f n syms Program Plain 0 noTally at₂ (replicate n 0)))))
+    (λ k et. file-is f s n at syms at₂ k (leb-true (length f) 65535 short) es en ey et)
+    ∙ ap (λ (j : ℕ). runAnswer f (layout s n syms at at₂) (answerOf (endF f j (recordF 64 f n syms Program Plain 0 noTally at₂ (replicate n 0)))))
     (sym (length-replicate n 0)))))))

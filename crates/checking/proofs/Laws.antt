@@ -14,7 +14,7 @@ use borrow.Author.Tests.{ne-eqb, le-leb, lt-leb, lt-ltb, le-ltb}
 use Rattle.meaning.specs.Tree.{if_then_else_, hd}
 use Rattle.meaning.specs.File.{numbersOf, fieldBytes}
 use Rattle.meaning.specs.Grammar.{allowed, two, fieldOf, fieldAt, right, scopeOf, headOf, below, childrenOf, placeOf, mayName, naming, unnamed}
-use Rattle.meaning.specs.Reading.{Outcome, accepted, refused, _>>=_, _>>_, ensure, field, tooDeep, judged, symbolsIn, readRows, andRows, mostRows}
+use Rattle.meaning.specs.Reading.{Outcome, accepted, refused, _>>=_, _>>_, ensure, field, tooDeep, judged, symbolsIn, readRows, andRows}
 use Rattle.meaning.specs.declared.Place.{Place}
 use Rattle.meaning.specs.declared.Place.the-variants.{Program}
 use Rattle.meaning.specs.declared.Field.{Field}
@@ -275,9 +275,9 @@ rows-few again one (suc n) k b at h =
     (few-field (one k at) b _ (λ x. rows-few again one n (k + 1) b (x .next) (omega arith)))
     (omega arith)
 
-pub few : (again : ℕ → ℕ → Bool) (one : ℕ → ℕ → Reading) (at : ℕ) (d : Rows) (k p : ℕ)
-    → d ≡ readRows again one mostRows 0 at → d ≡ Read k p → k ≤ mostRows
-few again one at d k p e w = subst (Few mostRows) (sym e ∙ w) (rows-few again one mostRows 0 mostRows at (omega arith))
+pub few : (again : ℕ → ℕ → Bool) (one : ℕ → ℕ → Reading) (most at : ℕ) (d : Rows) (k p : ℕ)
+    → d ≡ readRows again one most 0 at → d ≡ Read k p → k ≤ most
+few again one most at d k p e w = subst (Few most) (sym e ∙ w) (rows-few again one most 0 most at (omega arith))
 
 -- ---- the lowest unnamed row
 
@@ -332,7 +332,7 @@ module _ (f : List ℕ) (scopes syms at : ℕ) (m₀ m : List ℕ) (a : Answer)
       unfolding endF
       tree-fine h = rw (ends, next, le-leb _ _ whole, ← lowest, ← marks, le-leb _ _ h)
 
--- ---- marks of zeros
+-- ---- marks and counters of zeros
 
 zeros : (k d : ℕ) → take {A = ℕ} k (replicate {A = ℕ} (k + d) 0) ≡ replicate k 0
 zeros k d =
@@ -340,14 +340,14 @@ zeros k d =
     ∙ ap (λ (j : ℕ). take {A = ℕ} j (replicate k 0 ++ replicate d 0)) (sym (length-replicate k 0))
     ∙ take-append-seam (replicate k 0) (replicate d 0)
 
-module _ (k : ℕ) (fits : k ≤ mostRows) where
-  pub take-zeros : take {A = ℕ} k (replicate {A = ℕ} mostRows 0) ≡ replicate k 0
+module _ (most k : ℕ) (fits : k ≤ most) where
+  pub take-zeros : take {A = ℕ} k (replicate {A = ℕ} most 0) ≡ replicate k 0
   take-zeros =
-      let e : mostRows ≡ k + (mostRows - k) = omega arith in
-      ap (λ (n : ℕ). take {A = ℕ} k (replicate {A = ℕ} n 0)) e ∙ zeros k (mostRows - k)
+      let e : most ≡ k + (most - k) = omega arith in
+      ap (λ (n : ℕ). take {A = ℕ} k (replicate {A = ℕ} n 0)) e ∙ zeros k (most - k)
 
-  pub zeros-length : k ≡ length (take {A = ℕ} k (replicate {A = ℕ} mostRows 0))
+  pub zeros-length : k ≡ length (take {A = ℕ} k (replicate {A = ℕ} most 0))
   zeros-length = sym (ap length take-zeros ∙ length-replicate k 0)
 
-  pub zeros-few : length (take {A = ℕ} k (replicate {A = ℕ} mostRows 0)) ≤ mostRows
+  pub zeros-few : length (take {A = ℕ} k (replicate {A = ℕ} most 0)) ≤ most
   zeros-few = omega (arith, zeros-length)

@@ -4,5 +4,7 @@ pub mod Cap
 pub mod Body
 pub mod Leaf
 pub mod Link
+pub mod Counts
+pub mod Mentions
 pub mod Files
 pub mod Figured

@@ -1,6 +1,6 @@
 -- What the check computes: the reader's answers and marks, with no tree.
 -- Assumes nothing.
-use Prim.Native.Nat.{ℕ, zero, suc, _+_, _*_, min}
+use Prim.Native.Nat.{ℕ, zero, suc, _+_, _*_, _-_, min}
 use mathlib.Core.Bool.{Bool, true, false, _&&_}
 use mathlib.Core.List.{List, [], _∷_}
 use lib.Dec.{eqb, leb}
@@ -9,9 +9,10 @@ use Rattle.meaning.specs.Numbers.Tag
 use Rattle.meaning.specs.Numbers.Form
 use Rattle.meaning.specs.Numbers.Mode
 use Rattle.meaning.specs.Numbers.Refusal
-use Rattle.meaning.specs.Tree.{if_then_else_, oneOf}
-use Rattle.meaning.specs.Grammar.{index, allowed, two, fieldAt, isRow, right, scopeOf, below, childrenOf, placeOf, headOf, mayName, naming, unnamed}
-use Rattle.meaning.specs.Reading.{Outcome, accepted, refused, _>>=_, _>>_, ensure, field, tooDeep, judged, symbolsIn, readScopes, readSymbols, mostBytes}
+use Rattle.meaning.specs.Tree.{if_then_else_, oneOf, hd}
+use Rattle.meaning.specs.File.{symbolBytes}
+use Rattle.meaning.specs.Grammar.{index, allowed, two, fieldOf, fieldAt, isRow, right, scopeOf, below, childrenOf, placeOf, headOf, mayName, naming, unnamed}
+use Rattle.meaning.specs.Reading.{Outcome, accepted, refused, _>>=_, _>>_, ensure, field, tooDeep, judged, symbolsIn, readScopes, readSymbols, wrongCount, mostBytes}
 use Rattle.meaning.specs.declared.Place.{Place}
 use Rattle.meaning.specs.declared.Place.the-variants.{
   Settings,
@@ -38,6 +39,8 @@ use Rattle.checking.specs.declared.Layout.{Layout}
 use Rattle.checking.specs.declared.Whole.{Whole}
 use Rattle.checking.specs.declared.Whole.the-variants.{Accepted, Refused as RefusedFile}
 use Rattle.meaning.specs.Statements.{isUsing}
+use Rattle.tables.specs.Loops.{turns}
+use Rattle.mentions.specs.Counters.{addRecordF}
 use Rattle.figures.specs.Tally.{roleIndex, roleOf, bodyRole, insertsIn, noTally, _⊞_, cap, own}
 use Rattle.figures.specs.declared.tally.Tally.{Tally}
 use Rattle.figures.specs.declared.tally.Role.{Role}
@@ -197,10 +200,6 @@ withRecords l n =
       tree = l .tree;
     }
 
-abbrev pub runAnswer : Layout → Answer → Whole
-runAnswer l (Next at t) = Accepted (withRecords l (t .records)) t
-runAnswer l (RefusedAnswer c p) = RefusedFile c p
-
 -- behind the tree: 7, and the lowest unnamed row of n
 unfoldable pub endF : List ℕ → ℕ → Outcome Past → Outcome Past
 endF f n o = do
@@ -212,6 +211,45 @@ endF f n o = do
 unfoldable pub treeF : List ℕ → ℕ → ℕ → ℕ → List ℕ → Answer
 treeF f scopes syms at m = answerOf (endF f (length m) (recordF 64 f scopes syms Program Plain 0 noTally at m))
 
+-- ---- how often symbols are named
+
+-- the counters, and the offset of the next record
+pub record Counting : Type 0 where
+  pub t : List ℕ
+  pub at : ℕ
+
+abbrev pub counting : List ℕ → ℕ → Counting
+counting t at = record { t = t; at = at }
+
+unfoldable pub nextCount : List ℕ → Counting → Counting
+nextCount f s =
+    let x = fieldOf f (s .at) in
+    counting (addRecordF (s .t) (hd (x .tag) (x .a) (x .b) (x .c))) (x .next)
+
+-- n records from an offset on
+unfoldable pub countF : List ℕ → ℕ → ℕ → List ℕ → List ℕ
+countF f n at t = turns n (nextCount f) (counting t at) .t
+
+-- the lowest row whose fifth number is not its counter, of rows from an offset on
+unfoldable pub wrongIn : List ℕ → List ℕ → ℕ → ℕ
+wrongIn f t first = wrongCount f (λ y. getD t (y - 1) 0) (length t) 1 first
+
+unfoldable pub wrongF : List ℕ → Layout → ℕ
+wrongF f l = wrongIn f (countF f (l .records) (l .tree) (replicate (l .symbols) 0)) (l .first)
+
+-- a file with a right tree
+unfoldable pub countedF : List ℕ → Layout → Tally → Whole
+countedF f l t =
+    let wrong = wrongF f l in
+    if leb (l .symbols) wrong then Accepted l t else RefusedFile Refusal.WrongNumber (l .first + symbolBytes * wrong)
+
+-- a file by the answer of its tree
+abbrev pub runAnswer : List ℕ → Layout → Answer → Whole
+runAnswer f l (Next at t) = countedF f (withRecords l (t .records)) t
+runAnswer f l (RefusedAnswer c p) = RefusedFile c p
+
+-- ---- the rows and the settings
+
 abbrev pub byRows : Rows → (ℕ → ℕ → Whole) → Whole
 byRows (Read k at) g = g k at
 byRows (RefusedRows c p) g = RefusedFile c p
@@ -222,7 +260,7 @@ byField (RefusedField c p) g = RefusedFile c p
 
 -- the symbol rows and the tree behind so many scope rows; the rows behind the settings; the settings
 unfoldable pub symbolsF : List ℕ → Field → ℕ → ℕ → Whole
-symbolsF f s n at = byRows (readSymbols f n at) (λ syms at₂. runAnswer (layout s n syms at at₂) (treeF f n syms at₂ (replicate n 0)))
+symbolsF f s n at = byRows (readSymbols f n at) (λ syms at₂. runAnswer f (layout s n syms at at₂) (treeF f n syms at₂ (replicate n 0)))
 
 unfoldable pub rowsF : List ℕ → Field → Whole
 rowsF f s = byRows (readScopes f (s .next)) (symbolsF f s)

@@ -5,8 +5,10 @@ use fields::LENGTHS;
 use fields::MENTION_BYTES;
 use fields::NUMBER_A;
 use fields::NUMBER_B;
+use fields::NUMBER_E;
 use fields::SCOPE_BYTES;
 use fields::SETTINGS_BYTES;
+use fields::SYMBOL_BYTES;
 use figures::Figured;
 use figures::FinalFigures;
 use figures::tally;
@@ -29,22 +31,24 @@ ghost use lib.Dec.{eqb};
 ghost use Rattle.meaning.specs.Tree.{if_then_else_};
 ghost use Rattle.meaning.specs.Grammar.{two, mayName, naming, unnamed};
 ghost use Rattle.meaning.specs.Numbers.Tag;
-ghost use Rattle.meaning.specs.Reading.{scopeAt, symbolAt, mostRows, readScopes, readSymbols, readFile};
+ghost use Rattle.meaning.specs.Reading.{scopeAt, symbolAt, mostRows, mostSymbols, readScopes, readSymbols, readFile};
 ghost use Rattle.meaning.specs.Lowering.{checkFile, figuresOf};
 ghost use Rattle.figures.specs.Figures.{figuredOf};
 ghost use Rattle.meaning.specs.declared.Reading.the-variants.{Whole as WholeField};
 ghost use Rattle.meaning.specs.declared.Place.the-variants.{Program as ProgramPlace};
 ghost use Rattle.figures.specs.declared.tally.Role.the-variants.{Plain as PlainRole};
 ghost use Rattle.figures.specs.Tally.{noTally};
-ghost use Rattle.checking.specs.Flat.{expressionAt, expressionHere, rightAt, isWhole, expressionSize, mentionSize, leafSize, entered, enterF, past, recordF, childrenF, afterF, belowLast, treeF, withRecords, runAnswer, symbolsF, rowsF, settingsF, fileF, checkedOf};
+ghost use Rattle.checking.specs.Flat.{expressionAt, expressionHere, rightAt, isWhole, expressionSize, mentionSize, leafSize, entered, enterF, past, recordF, childrenF, afterF, belowLast, treeF, countF, wrongIn, wrongF, withRecords, countedF, runAnswer, symbolsF, rowsF, settingsF, fileF, checkedOf};
 ghost use Rattle.checking.specs.Survey.{withFigures, surveyedOf};
 
-// A file holds so many bytes at most, and its records so many levels; more rows than such a file has.
+// A file holds so many bytes at most, and its records so many levels; more scope rows and symbol rows than such a file has.
 const MOST_BYTES: usize = 65535;
 
 const MOST_LEVELS: u16 = 64;
 
 const MOST_ROWS: usize = 9362;
+
+const MOST_SYMBOLS: usize = 5042;
 
 // The numbers of a leaf in bytes, and the whole field.
 const EXPRESSION_LENGTH: u16 = LENGTHS[tag::EXPRESSION as usize] as u16;
@@ -553,7 +557,7 @@ pub fn read_symbols(file: &[u8], scopes: usize, from: usize) -> Rows
 {
     let mut k: usize = 0;
     let mut at: usize = from;
-    while k < MOST_ROWS {
+    while k < MOST_SYMBOLS {
         if !more_symbols(file, at) {
             return Rows::Read(k, at);
         }
@@ -635,6 +639,62 @@ fn check_unmarked(file: &[u8], rows: RowCounts, at: usize) -> Answer
     check_tree(file, &mut marks[..scopes], rows, at)
 }
 
+// ---- how often symbols are named
+
+// The mentions in so many records from an offset on are added.
+fn count_fields(file: &[u8], counts: &mut [u16], tree: u16, records: u16)
+    ensures { λ _. ⌜ now (counts .exit) ≡ countF (now (file .entry)) records tree (now (counts .entry)) ⌝ }
+{
+    let mut at = tree as usize;
+    let mut k: u16 = 0;
+    while k < records {
+        let x = fields::field_of(file, at as u32);
+        mentions::add_record(counts, tables::closed_row(x.tag, x.a, x.b, x.c, 0));
+        at = x.next;
+        k += 1;
+    }
+}
+
+// The lowest row whose fifth number is not its counter, counted from 0, or the number of rows; they begin at an offset.
+fn first_wrong(file: &[u8], counts: &[u16], first: u16) -> usize
+    requires { ⌜ length (now counts) ≤ mostSymbols ⌝ }
+    ensures { λ r. ⌜ r ≡ wrongIn (now (file .entry)) (now (counts .entry)) first ⌝ }
+{
+    let mut k: usize = 0;
+    while k < counts.len() {
+        let at = (first as usize) + SYMBOL_BYTES * k;
+        if fields::read_two(file, at + NUMBER_E) != counts[k] {
+            return k;
+        }
+        k += 1;
+    }
+    k
+}
+
+// The same, once the records are counted.
+fn first_miscounted(file: &[u8], counts: &mut [u16], l: Layout) -> usize
+    requires { ⌜ length (now counts) ≤ mostSymbols ⌝ }
+    ensures { λ r. ⌜
+        r
+        ≡ wrongIn (now (file .entry)) (countF (now (file .entry)) (l .records) (l .tree) (now (counts .entry))) (l .first)
+        ⌝ }
+{
+    count_fields(file, counts, l.tree, l.records);
+    first_wrong(file, counts, l.first)
+}
+
+// The same, with all counters 0 before.
+fn wrong_row(file: &[u8], l: Layout) -> usize
+    requires { ⌜ l .symbols ≤ mostSymbols ⌝ }
+    ensures { λ r. ⌜ r ≡ wrongF (now (file .entry)) l ⌝ }
+{
+    let mut counts = [0u16; MOST_SYMBOLS];
+    let symbols = l.symbols as usize;
+    first_miscounted(file, &mut counts[..symbols], l)
+}
+
+// ---- the answer
+
 // A number, or the largest that fits.
 fn capped(x: usize) -> u16
     ensures { λ r. ⌜ r ≡ min x 65535 ⌝ }
@@ -657,12 +717,29 @@ fn with_records(l: Layout, records: u32) -> Layout
     }
 }
 
+// A file with a right tree: its counts are the last check.
+fn check_counts(file: &[u8], l: Layout, t: Tally) -> Whole
+    requires { ⌜ l .symbols ≤ mostSymbols ⌝ }
+    ensures { λ r. ⌜ r ≡ countedF (now (file .entry)) l t ⌝ }
+{
+    let wrong = wrong_row(file, l);
+    let symbols = l.symbols as usize;
+    if wrong < symbols {
+        return Whole::Refused(
+            refusal::WRONG_NUMBER,
+            (l.first as usize) + SYMBOL_BYTES * wrong,
+        );
+    }
+    Whole::Accepted(l, t)
+}
+
 // A whole file by the answer of its tree; the layout does not count records yet.
-fn run_answer(l: Layout, a: Answer) -> Whole
-    ensures { λ q. ⌜ q ≡ runAnswer l a ⌝ }
+fn run_answer(file: &[u8], l: Layout, a: Answer) -> Whole
+    requires { ⌜ l .symbols ≤ mostSymbols ⌝ }
+    ensures { λ q. ⌜ q ≡ runAnswer (now (file .entry)) l a ⌝ }
 {
     match a {
-        Answer::Next(_, t) => Whole::Accepted(with_records(l, t.records), t),
+        Answer::Next(_, t) => check_counts(file, with_records(l, t.records), t),
         Answer::Refused(c, p) => Whole::Refused(c, p),
     }
 }
@@ -687,7 +764,7 @@ fn check_symbols(file: &[u8], settings: Field, scopes: u16, first: usize) -> Who
                 first: capped(first),
                 tree: capped(tree),
             };
-            run_answer(l, check_unmarked(file, rows, tree))
+            run_answer(file, l, check_unmarked(file, rows, tree))
         }
         Rows::Refused(c, p) => Whole::Refused(c, p),
     }

@@ -14,11 +14,13 @@ ghost use Rattle.tables.specs.Stream.{buf};
 ghost use Rattle.path.specs.Path.{onRecords};
 ghost use Rattle.import_line.specs.Import.{importDueF, countChildF, writeImportF, addImportF, completeF};
 
-// The rows of the line: a Module line and a Specifier.
+// The rows of the line, a Module line and a Specifier, and the last of them, behind Program's.
 const IMPORT_ROWS: u16 = 2;
 
+pub const LAST_IMPORT_ROW: u16 = 3;
+
 // A module in runtime mode in which a helper was loaded.
-fn import_due(ctx: Ctx) -> bool
+pub fn import_due(ctx: Ctx) -> bool
     ensures { λ r. ⌜ r ≡ importDueF ctx ⌝ }
 {
     if ctx.mode != mode::RUNTIME {

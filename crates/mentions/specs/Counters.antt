@@ -1,13 +1,13 @@
 -- Mentions added to counters and taken off, for any numbers in them. The counter of symbol row y is behind y - 1 others.
 -- Assumes nothing.
-use mathlib.Core.List.{List}
+use mathlib.Core.List.{List, _++_}
 use Prim.Native.Nat.{ℕ, _+_, _-_}
 use lib.Dec.{eqb}
-use lib.ListN.{getD, set}
+use lib.ListN.{take, drop, getD, set}
 use Rattle.meaning.specs.Tree.{if_then_else_, Head}
 use Rattle.meaning.specs.Mentions.{firstNamed, secondNamed}
 use Rattle.tables.specs.Loops.{turns}
-use Rattle.tables.specs.Table.{capped, rowF, headF}
+use Rattle.tables.specs.Table.{capped, rowF, headF, countsAt}
 
 -- ---- one symbol
 
@@ -47,3 +47,9 @@ addRowsF r from to t = turns (to - from) (addNext r) (counting t from) .t
 
 unfoldable pub takeRowsF : List ℕ → ℕ → ℕ → List ℕ → List ℕ
 takeRowsF r from to t = turns (to - from) (takeNext r) (counting t from) .t
+
+-- ---- the counts in a symbol table
+
+-- they stand behind its rows
+unfoldable pub onCounts : (List ℕ → List ℕ) → List ℕ → List ℕ
+onCounts f y = take (countsAt y) y ++ f (drop (countsAt y) y)

@@ -1,2 +1,3 @@
--- Counters of mentions, for any numbers in them.
+-- Counters of mentions, for any numbers in them, and what they come to behind the records of a tree.
 pub mod Counters
+pub mod Sums

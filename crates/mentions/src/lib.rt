@@ -6,7 +6,7 @@ use tables::Row;
 ghost use mathlib.Core.Path.{_≡_};
 ghost use Rattle.meaning.specs.Mentions.{firstNamed, secondNamed};
 ghost use Rattle.tables.specs.Table.{headF};
-ghost use Rattle.mentions.specs.Counters.{addF, takeF, addRecordF, takeRecordF, addRowsF, takeRowsF};
+ghost use Rattle.mentions.specs.Counters.{addF, takeF, addRecordF, takeRecordF, addRowsF, takeRowsF, onCounts};
 
 // ---- one symbol
 
@@ -80,7 +80,7 @@ fn take_record(counts: &mut [u16], r: Row)
 // ---- rows of the record table
 
 // The mentions of the rows behind one up to another are added.
-pub fn add_rows(counts: &mut [u16], records: &[u16], from: RecordId, to: RecordId)
+fn add_rows(counts: &mut [u16], records: &[u16], from: RecordId, to: RecordId)
     ensures { λ _. ⌜ now (counts .exit) ≡ addRowsF (now (records .entry)) (from .0) (to .0) (now (counts .entry)) ⌝ }
 {
     let last = to.0;
@@ -92,7 +92,7 @@ pub fn add_rows(counts: &mut [u16], records: &[u16], from: RecordId, to: RecordI
 }
 
 // The mentions of the rows behind one up to another are taken off.
-pub fn take_rows(counts: &mut [u16], records: &[u16], from: RecordId, to: RecordId)
+fn take_rows(counts: &mut [u16], records: &[u16], from: RecordId, to: RecordId)
     ensures { λ _. ⌜ now (counts .exit) ≡ takeRowsF (now (records .entry)) (from .0) (to .0) (now (counts .entry)) ⌝ }
 {
     let last = to.0;
@@ -101,4 +101,22 @@ pub fn take_rows(counts: &mut [u16], records: &[u16], from: RecordId, to: Record
         take_record(counts, tables::row_after(records, RecordId(k)));
         k += 1;
     }
+}
+
+// ---- the counts in a symbol table
+
+// The mentions of the rows behind one up to another are added to the counts.
+pub fn count_rows(symbols: &mut [u16], records: &[u16], from: RecordId, to: RecordId)
+    ensures { λ _. ⌜ now (symbols .exit) ≡ onCounts (addRowsF (now (records .entry)) (from .0) (to .0)) (now (symbols .entry)) ⌝ }
+{
+    let at = tables::counts_at(symbols);
+    add_rows(&mut symbols[at..], records, from, to);
+}
+
+// The mentions of the rows behind one up to another are taken off the counts.
+pub fn discount_rows(symbols: &mut [u16], records: &[u16], from: RecordId, to: RecordId)
+    ensures { λ _. ⌜ now (symbols .exit) ≡ onCounts (takeRowsF (now (records .entry)) (from .0) (to .0)) (now (symbols .entry)) ⌝ }
+{
+    let at = tables::counts_at(symbols);
+    take_rows(&mut symbols[at..], records, from, to);
 }

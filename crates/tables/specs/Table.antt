@@ -3,7 +3,7 @@
 use mathlib.Core.Path.{_≡_}
 use mathlib.Core.List.{List}
 use mathlib.Core.Bool.{Bool}
-use Prim.Native.Nat.{ℕ, _+_, _*_, _-_, _/_, _<_, min}
+use Prim.Native.Nat.{ℕ, _+_, _*_, _-_, _/_, _≤_, _<_, min}
 use native.Mathlib.Omega.{arith}
 use lib.ListN.{length, getD, set}
 use lib.Dec.{eqb}
@@ -92,3 +92,8 @@ endF t at c = until (largest - at) skipped (skipOne t) (skipping at c) .at
 -- where the counts of symbols stand: behind the rows for which it has numbers
 unfoldable pub countsAt : List ℕ → ℕ
 countsAt t = length t / SymbolTable.Lent * SymbolTable.Numbers
+
+-- within the table
+pub counts-few : (t : List ℕ) (n : ℕ) → n ≡ countsAt t → n ≤ length t
+unfolding countsAt
+counts-few t n e = omega arith

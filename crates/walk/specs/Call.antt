@@ -1,29 +1,28 @@
--- A call for the next visit, on any tables: the visit, and after the last one the import line (02, request 1).
+-- A call for the next visit, on any tables: the visit, and after the last one the import line (02, request 1), with the counts of symbols (02, request 7).
 -- Assumes nothing.
 use mathlib.Core.Path.{_≡_}
 use mathlib.Core.Bool.{true, false}
 use Rattle.meaning.specs.Tree.{if_then_else_}
-use Rattle.path.specs.Path.{Tables, tables, OnRecords, onRecords}
-use Rattle.import_line.specs.Import.{completeF, completeIn}
-use Rattle.walk.specs.Visit.{visitF}
+use Rattle.path.specs.Path.{Tables, tables}
 use Rattle.walk.specs.Over.{isOverIn}
+use Rattle.walk.specs.Counted.{Counted, counted, visitCountedF, completeCountedF, completeCountedIn}
 
 unfoldable pub visitCallF : Tables → Tables
 visitCallF q =
-    let q₁ = visitF q in
+    let q₁ = visitCountedF q in
     if isOverIn q then q
-    else if isOverIn q₁ then completeIn q₁
+    else if isOverIn q₁ then completeCountedIn q₁
     else q₁
 
 -- ---- by what is told before and after the visit
 
-pub call-last : (q q₁ : Tables) (c : OnRecords) → isOverIn q ≡ false → q₁ ≡ visitF q → isOverIn q₁ ≡ true
-    → c ≡ completeF (onRecords (q₁ .records) (q₁ .walk))
-    → tables (c .records) (q₁ .scopes) (q₁ .symbols) (c .walk) ≡ visitCallF q
+pub call-last : (q q₁ : Tables) (c : Counted) → isOverIn q ≡ false → q₁ ≡ visitCountedF q → isOverIn q₁ ≡ true
+    → c ≡ completeCountedF (counted (q₁ .records) (q₁ .symbols) (q₁ .walk))
+    → tables (c .records) (q₁ .scopes) (c .symbols) (c .walk) ≡ visitCallF q
 unfolding visitCallF
 call-last q q₁ c o e l d = rw (o, ← e, l, ← d)
 
-pub call-goes-on : (q q₁ : Tables) → isOverIn q ≡ false → q₁ ≡ visitF q → isOverIn q₁ ≡ false → q₁ ≡ visitCallF q
+pub call-goes-on : (q q₁ : Tables) → isOverIn q ≡ false → q₁ ≡ visitCountedF q → isOverIn q₁ ≡ false → q₁ ≡ visitCallF q
 unfolding visitCallF
 call-goes-on q q₁ o e l = rw (o, ← e, l)
 

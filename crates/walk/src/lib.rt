@@ -10,6 +10,7 @@ ghost use Rattle.meaning.specs.Tree.{oneOf};
 ghost use Rattle.path.specs.Path.{tables};
 ghost use Rattle.walk.specs.Plain.{rewritten, isPlainF, entering, stopsF, enterSomeF, visiting, visitSomeF};
 ghost use Rattle.walk.specs.Visit.{planNextF, rewriteProgramF, rewriteBlockF, rewriteBodyF, rewriteForF, rewriteSwitchF, rewriteTryF, rewriteForOfF, rewriteF, leaveBlockF, leaveF, isLeavingF, isOverF, visitF};
+ghost use Rattle.walk.specs.Counted.{counted, partF, discountPartF, countPartF, visitCountedF, completeCountedF};
 ghost use Rattle.walk.specs.Call.{visitCallF};
 
 // ---- what entering a record rewrites
@@ -321,7 +322,85 @@ fn visit(walk: Walk, records: &mut [u16], scopes: &mut [u16], symbols: &mut [u16
     v.walk
 }
 
-// A call for the next visit: after the last visit it adds the import line, if that is due; later calls change nothing.
+// ---- visits that keep the counts of symbols true
+
+// The rows that a visit may change: the visited ones behind a row, and those to visit up to another.
+struct Part {
+    from: RecordId,
+    end: RecordId,
+}
+
+// Those of the next visit: a StaticBlock that is left, a record that may be rewritten, or the row that is entered.
+fn part_of(records: &[u16], w: Walk) -> Part
+    ensures { λ r. ⌜ r ≡ partF (now (records .entry)) w ⌝ }
+{
+    let gap = w.gap;
+    let visited = w.visited;
+    if is_leaving(records, w) {
+        return Part {
+            from: RecordId(tables::minus(w.inner.0, 1)),
+            end: gap,
+        };
+    }
+    if may_rewrite(tables::column(records, gap, record::TAG)) {
+        return Part {
+            from: visited,
+            end: tables::end_after(records, gap, 1),
+        };
+    }
+    Part {
+        from: visited,
+        end: RecordId(tables::plus(gap.0, 1)),
+    }
+}
+
+// The mentions of a part are taken off the counts.
+fn discount_part(symbols: &mut [u16], records: &[u16], p: Part, w: Walk)
+    ensures { λ _. ⌜ now (symbols .exit) ≡ discountPartF (now (records .entry)) p w (now (symbols .entry)) ⌝ }
+{
+    mentions::discount_rows(symbols, records, p.from, w.visited);
+    mentions::discount_rows(symbols, records, w.gap, p.end);
+}
+
+// The mentions of a part are added to the counts.
+fn count_part(symbols: &mut [u16], records: &[u16], p: Part, w: Walk)
+    ensures { λ _. ⌜ now (symbols .exit) ≡ countPartF (now (records .entry)) p w (now (symbols .entry)) ⌝ }
+{
+    mentions::count_rows(symbols, records, p.from, w.visited);
+    mentions::count_rows(symbols, records, w.gap, p.end);
+}
+
+// The next visit: what it may change is taken off the counts before it, and added after it.
+fn visit_counted(walk: Walk, records: &mut [u16], scopes: &mut [u16], symbols: &mut [u16]) -> Walk
+    ensures { λ r. ⌜
+        tables (now (records .exit)) (now (scopes .exit)) (now (symbols .exit)) r
+        ≡ visitCountedF (tables (now (records .entry)) (now (scopes .entry)) (now (symbols .entry)) walk)
+        ⌝ }
+{
+    let part = part_of(records, walk);
+    discount_part(symbols, records, part, walk);
+    let w = visit(walk, records, scopes, symbols);
+    count_part(symbols, records, part, w);
+    w
+}
+
+// Once the walk is over: the import line, if it is due, and its mention.
+fn complete_counted(walk: Walk, records: &mut [u16], symbols: &mut [u16]) -> Walk
+    ensures { λ r. ⌜
+        counted (now (records .exit)) (now (symbols .exit)) r
+        ≡ completeCountedF (counted (now (records .entry)) (now (symbols .entry)) walk)
+        ⌝ }
+{
+    let w = import_line::complete(records, walk);
+    if import_line::import_due(walk.ctx) {
+        let last = RecordId(import_line::LAST_IMPORT_ROW);
+        mentions::count_rows(symbols, records, RecordId(1), last);
+    }
+    w
+}
+
+// A call for the next visit: after the last visit it adds the import line, if that is due; later calls change nothing. The counts of symbols are true
+// after each.
 pub fn visit_call(walk: Walk, records: &mut [u16], scopes: &mut [u16], symbols: &mut [u16]) -> Walk
     ensures { λ r. ⌜
         tables (now (records .exit)) (now (scopes .exit)) (now (symbols .exit)) r
@@ -331,9 +410,9 @@ pub fn visit_call(walk: Walk, records: &mut [u16], scopes: &mut [u16], symbols: 
     if is_over(walk, records) {
         return walk;
     }
-    let w = visit(walk, records, scopes, symbols);
+    let w = visit_counted(walk, records, scopes, symbols);
     if is_over(w, records) {
-        import_line::complete(records, w)
+        complete_counted(w, records, symbols)
     } else {
         w
     }

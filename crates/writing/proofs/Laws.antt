@@ -10,7 +10,7 @@ use Rattle.meaning.specs.Numbers.Tag
 use Rattle.tables.specs.Columns.ScopeTable
 use Rattle.meaning.specs.File.{settingsBytes, scopeBytes, symbolBytes, numbersOf, fieldBytes, twoBytes}
 use Rattle.spec_laws.specs.Trees.{sets-++}
-use Rattle.tables.specs.Table.{rowF, countsAt}
+use Rattle.tables.specs.Table.{rowF}
 use Rattle.tables.specs.declared.Row.{Row}
 use Rattle.writing.specs.Writing.{mostBytes, fieldWith, scopeField, symbolField, recordField, rowsBytes, recordAt}
 use Rattle.writing.specs.Stored.{scope-long, symbol-long, record-length, record-long, rows-turn}
@@ -25,11 +25,6 @@ scopes-turn t r out out′ k n e h o =
     rows-turn (scopeField t) r out out′ (settingsBytes + scopeBytes * k) (settingsBytes + scopeBytes * (k + 1)) k n e h o (omega (arith, scope-long t k))
 
 -- ---- symbols
-
--- the counts stand within the table
-pub counts-few : (t : List ℕ) (n : ℕ) → n ≡ countsAt t → n ≤ length t
-unfolding countsAt
-counts-few t n e = omega arith
 
 -- four numbers, and the fifth behind them
 pub symbol-put : (a b c d v to : ℕ) (out : List ℕ)

@@ -1,7 +1,7 @@
 -- `checking::check_rows` meets its contract. Assumes nothing.
 use native.Mathlib.Omega.{arith}
 use borrow.Author.Needs.{needs}
-use Rattle.meaning.specs.Reading.{readScopes}
+use Rattle.meaning.specs.Reading.{readScopes, mostRows}
 use Rattle.checking.specs.Flat.{rowsF}
 use Rattle.checking.proofs.Laws.{few}
 use Rattle.checking.proofs.check_rows.Statement.{statement}
@@ -12,14 +12,14 @@ unfolding readScopes
 cast-check-symbols c =
     let at-n = c .before in
     let at-read-scopes = at-n .before .before in
-    omega (arith, few _ _ _ _ _ _ (at-read-scopes .read-scopes .ensures) (at-n .n .given .1))
+    omega (arith, few _ _ mostRows _ _ _ _ (at-read-scopes .read-scopes .ensures) (at-n .n .given .1))
 
 check-symbols-requires : tie.Need-check-symbols-requires
 unfolding readScopes
 check-symbols-requires c κs =
     let at-n = c .before in
     let at-read-scopes = at-n .before .before in
-    few _ _ _ _ _ _ (at-read-scopes .read-scopes .ensures) (at-n .n .given .1)
+    few _ _ mostRows _ _ _ _ (at-read-scopes .read-scopes .ensures) (at-n .n .given .1)
 
 returns : tie.Need-returns
 unfolding rowsF

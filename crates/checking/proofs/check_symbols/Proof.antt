@@ -1,7 +1,7 @@
 -- `checking::check_symbols` meets its contract. Assumes nothing.
 use native.Mathlib.Omega.{arith}
 use borrow.Author.Needs.{needs}
-use Rattle.meaning.specs.Reading.{readSymbols}
+use Rattle.meaning.specs.Reading.{mostSymbols, readSymbols}
 use Rattle.checking.specs.Flat.{symbolsF}
 use Rattle.checking.proofs.Laws.{few}
 use Rattle.checking.proofs.check_symbols.Statement.{statement}
@@ -12,7 +12,14 @@ unfolding readSymbols
 cast-t14 c =
     let at-n = c .before in
     let at-read-symbols = at-n .before .before in
-    omega (arith, few _ _ _ _ _ _ (at-read-symbols .read-symbols .ensures) (at-n .n .given .1))
+    omega (arith, few _ _ mostSymbols _ _ _ _ (at-read-symbols .read-symbols .ensures) (at-n .n .given .1))
+
+run-answer-requires : tie.Need-run-answer-requires
+unfolding readSymbols
+run-answer-requires c κs =
+    let at-n = c .before .before .before .before in
+    let at-read-symbols = at-n .before .before in
+    few _ _ mostSymbols _ _ _ _ (at-read-symbols .read-symbols .ensures) (at-n .n .given .1)
 
 returns : tie.Need-returns
 unfolding symbolsF
@@ -39,4 +46,7 @@ returns-2 c =
 
 pub check-symbols-spec : {M : Type 1} → statement M
 check-symbols-spec =
-    tie.close (tie.spec (λ c κs. search needs) (λ c. search needs) cast-t14 (λ c κs. search needs) (λ c κs. search needs) (λ c κs. search needs) (λ c κs. search needs) (λ c. search needs) returns returns-2)
+    tie.close
+    (tie.spec
+    (λ c κs. search needs) (λ c. search needs) cast-t14 (λ c κs. search needs) (λ c κs. search needs) (λ c κs. search needs)
+    run-answer-requires (λ c. search needs) returns returns-2)

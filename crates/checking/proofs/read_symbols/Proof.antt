@@ -5,19 +5,19 @@ use lib.ListN.{getD}
 use lib.Dec.{eqb}
 use borrow.Author.Needs.{needs}
 use borrow.Author.Tests.{not-true, not-false}
-use Rattle.meaning.specs.Reading.{readRows, readSymbols, symbolAt, mostRows}
+use Rattle.meaning.specs.Reading.{readRows, readSymbols, symbolAt, mostSymbols}
 use Rattle.checking.proofs.Laws.{rows-stop, rows-step, rows-bad, rows-end}
 use Rattle.checking.proofs.read_symbols.Statement.{statement}
 use Rattle.checking.proofs.read_symbols.Tie as tie
 
 abbrev Inv-loop : tie.InvT-loop
 Inv-loop file scopes from k₀ at₀ k at =
-    (k ≤ mostRows)
+    (k ≤ mostSymbols)
     × (readSymbols file scopes from
-    ≡ readRows (λ k at. eqb (getD file at 0) 42) (λ k at. symbolAt file scopes at) (mostRows - k) k at)
+    ≡ readRows (λ k at. eqb (getD file at 0) 42) (λ k at. symbolAt file scopes at) (mostSymbols - k) k at)
 
 abbrev μ-loop : tie.MeasureT-loop
-μ-loop file scopes from k₀ at₀ k at = mostRows - k
+μ-loop file scopes from k₀ at₀ k at = mostSymbols - k
 
 loop-holds : tie.Need-loop-holds Inv-loop μ-loop
 unfolding readSymbols
@@ -28,7 +28,7 @@ returns c =
     let at-more-symbols = c .before in
     let at-loop-test = at-more-symbols .before in
     let at-loop = at-loop-test .before in
-    rows-stop _ _ mostRows _ _ _ (at-loop .loop .inv .1) _ (at-loop-test .loop-test .taken)
+    rows-stop _ _ mostSymbols _ _ _ (at-loop .loop .inv .1) _ (at-loop-test .loop-test .taken)
     (at-more-symbols .more-symbols .ensures) (not-true _ (c .if1 .taken))
 
 returns-2 : tie.Need-returns-2 Inv-loop μ-loop
@@ -39,7 +39,7 @@ returns-2 c =
     let at-more-symbols = at-if1 .before in
     let at-loop-test = at-more-symbols .before in
     let at-loop = at-loop-test .before in
-    rows-bad _ _ mostRows _ _ _ (at-loop .loop .inv .1) _ _ _ _ (at-loop-test .loop-test .taken)
+    rows-bad _ _ mostSymbols _ _ _ (at-loop .loop .inv .1) _ _ _ _ (at-loop-test .loop-test .taken)
     (at-more-symbols .more-symbols .ensures) (not-false _ (at-if1 .if1 .left)) (at-read-symbol .read-symbol .ensures)
     (at-read2 .read2 .given .1)
 
@@ -52,7 +52,7 @@ loop-again c =
     let at-loop-test = at-more-symbols .before in
     let at-loop = at-loop-test .before in (
       search needs,
-      rows-step _ _ mostRows _ _ _ (at-loop .loop .inv .1) _ _ _ (at-loop-test .loop-test .taken)
+      rows-step _ _ mostSymbols _ _ _ (at-loop .loop .inv .1) _ _ _ (at-loop-test .loop-test .taken)
           (at-more-symbols .more-symbols .ensures) (not-false _ (at-if1 .if1 .left)) (at-read-symbol .read-symbol .ensures)
           (at-read .read .given .1),
     )
@@ -60,7 +60,7 @@ loop-again c =
 returns-3 : tie.Need-returns-3 Inv-loop μ-loop
 returns-3 c =
     let at-loop = c .before in
-    rows-end _ _ mostRows _ _ _ (at-loop .loop .inv .1) (c .loop-test .left)
+    rows-end _ _ mostSymbols _ _ _ (at-loop .loop .inv .1) (c .loop-test .left)
 
 pub read-symbols-spec : {M : Type 1} → statement M
 read-symbols-spec =

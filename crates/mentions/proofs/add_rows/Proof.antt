@@ -1,6 +1,6 @@
 -- `mentions::add_rows` meets its contract. Assumes nothing.
 use mathlib.Core.Path.{_≡_, refl, ap, _∙_}
-use Prim.Native.Nat.{_-_, _≤_}
+use Prim.Native.Nat.{_-_}
 use lib.ListN.{length}
 use Rattle.tables.specs.Loops.{turns, next-turn, last-turn}
 use Rattle.mentions.specs.Counters.{Counting, counting, addNext, addRowsF}
@@ -28,7 +28,7 @@ loop-again c =
     let at-loop = at-loop-test .before in (
       at-add-record .add-record .kept .0 ∙ at-loop .loop .inv .0,
       rw (at-add-record .add-record .ensures, at-row-after .row-after .ensures)
-      (next-turn _ _ _ _ _ (at-loop .loop .inv .1) (at-loop-test .loop-test .taken)),
+          (next-turn _ _ _ _ _ (at-loop .loop .inv .1) (at-loop-test .loop-test .taken)),
     )
 
 returns : tie.Need-returns Inv-loop μ-loop

@@ -2,7 +2,8 @@
 use mathlib.Core.Path.{_∙_, sym}
 use native.Mathlib.Omega.{arith}
 use Rattle.writing.specs.Writing.{symbolField}
-use Rattle.writing.proofs.Laws.{counts-few, symbol-put}
+use Rattle.tables.specs.Table.{counts-few}
+use Rattle.writing.proofs.Laws.{symbol-put}
 use borrow.Author.Needs.{needs}
 use Rattle.writing.proofs.put_symbol.Statement.{statement}
 use Rattle.writing.proofs.put_symbol.Tie as tie
