@@ -21,7 +21,7 @@ use Rattle.parsing.specs.Counts.{parsed-bytes, parsed-ends, size-bytes}
 use Rattle.tables.specs.Loops.{turns}
 use Rattle.tables.specs.Table.{capped}
 use Rattle.mentions.specs.Counters.{addRecordF}
-use Rattle.mentions.specs.Sums.{addForest, forest-length, forest-at, mentions-most}
+use Rattle.mentions.specs.Sums.{headsOf, named-heads, all, all-++, record-added, all-length, added-at, two-a-record}
 use Rattle.checking.specs.declared.Layout.{Layout}
 use Rattle.checking.specs.Flat.{Counting, counting, nextCount, countF, wrongIn, wrongF}
 use Rattle.checking.proofs.Counts.{counters}
@@ -77,15 +77,16 @@ module _ {f : List ℕ} {syms : ℕ} where
 
   -- A TURN FOR EACH RECORD of a tree that was read adds them all, and ends behind them.
   pub count-parsed : {place : ℕ → Place} {i cur at next : ℕ} {m o : List ℕ} {t : Forest} (c : List ℕ)
-      → Parsed f syms place i cur at m t next o → turns (size t) (nextCount f) (counting c at) ≡ counting (addForest c t) next
-  unfolding size addForest turns
+      → Parsed f syms place i cur at m t next o → turns (size t) (nextCount f) (counting c at) ≡ counting (all addRecordF c (headsOf t)) next
+  unfolding size headsOf all turns
   count-parsed c parsed-none = refl
-  count-parsed c (parsed-more {h = h} {k = kids} {r = beside} y k r) =
+  count-parsed c (parsed-more {next = last} {h = h} {k = kids} {r = beside} y k r) =
       let c₁ = addRecordF c h in
       ap (turns (size kids + size beside) (nextCount f)) (count-one c y)
       ∙ turns-more (size kids) (size beside) (nextCount f) _
       ∙ ap (turns (size beside) (nextCount f)) (count-parsed c₁ k)
-      ∙ count-parsed (addForest c₁ kids) r
+      ∙ count-parsed (all addRecordF c₁ (headsOf kids)) r
+      ∙ ap (λ (t : List ℕ). counting t last) (sym (all-++ addRecordF c₁ (headsOf kids) (headsOf beside)))
 
 -- ---- the counters
 
@@ -102,20 +103,20 @@ module _ {f : List ℕ} {syms : ℕ} {place : ℕ → Place} {i cur at next : �
     (small : length f ≤ 65535) (inside : at ≤ length f) (tree : Parsed f syms place i cur at m t next o) where
   -- not more than two for three bytes
   few-mentions : (y : ℕ) → mentions y t ≤ 65535
-  few-mentions y = omega (arith, mentions-most y t, size-bytes t, parsed-bytes tree, parsed-ends tree inside)
+  few-mentions y = omega (arith, two-a-record y t, size-bytes t, parsed-bytes tree, parsed-ends tree inside)
 
-  counted-is : (n : ℕ) → countF f (size t) at (replicate n 0) ≡ addForest (replicate n 0) t
+  counted-is : (n : ℕ) → countF f (size t) at (replicate n 0) ≡ all addRecordF (replicate n 0) (headsOf t)
   unfolding countF
   counted-is n = ap (λ (s : Counting). s .t) (count-parsed (replicate n 0) tree)
 
   counted-length : (n : ℕ) → length (countF f (size t) at (replicate n 0)) ≡ n
-  counted-length n = ap length (counted-is n) ∙ forest-length (replicate n 0) t ∙ length-replicate n 0
+  counted-length n = ap length (counted-is n) ∙ all-length addRecordF record-added (replicate n 0) (headsOf t) ∙ length-replicate n 0
 
   counted-at : (n y : ℕ) → 1 ≤ y → y ≤ n → counters (countF f (size t) at (replicate n 0)) y ≡ mentions y t
   counted-at n y some in-table =
       ap (λ (c : List ℕ). counters c y) (counted-is n)
       ∙ cap-whole _ _ _ (zero-at n (y - 1)) (few-mentions y)
-      (forest-at y some (replicate n 0) t (omega (arith, length-replicate {A = ℕ} n 0)) (omega (arith, zero-at n (y - 1))))
+      (rw (← named-heads y t) (added-at y some (replicate n 0) (headsOf t) (omega (arith, length-replicate {A = ℕ} n 0)) (omega (arith, zero-at n (y - 1)))))
 
   -- ---- the lowest wrong count
 

@@ -35,18 +35,16 @@ pub record Counting : Type 0 where
 abbrev pub counting : List ℕ → ℕ → Counting
 counting t k = record { t = t; k = k }
 
-unfoldable pub addNext : List ℕ → Counting → Counting
-addNext r s = counting (addRecordF (s .t) (headF (rowF r (s .k)))) (s .k + 1)
-
-unfoldable pub takeNext : List ℕ → Counting → Counting
-takeNext r s = counting (takeRecordF (s .t) (headF (rowF r (s .k)))) (s .k + 1)
+-- what a record does to the counters, for the next row
+unfoldable pub nextRow : (List ℕ → Head → List ℕ) → List ℕ → Counting → Counting
+nextRow one r s = counting (one (s .t) (headF (rowF r (s .k)))) (s .k + 1)
 
 -- the rows behind one up to another
 unfoldable pub addRowsF : List ℕ → ℕ → ℕ → List ℕ → List ℕ
-addRowsF r from to t = turns (to - from) (addNext r) (counting t from) .t
+addRowsF r from to t = turns (to - from) (nextRow addRecordF r) (counting t from) .t
 
 unfoldable pub takeRowsF : List ℕ → ℕ → ℕ → List ℕ → List ℕ
-takeRowsF r from to t = turns (to - from) (takeNext r) (counting t from) .t
+takeRowsF r from to t = turns (to - from) (nextRow takeRecordF r) (counting t from) .t
 
 -- ---- the counts in a symbol table
 

@@ -3,7 +3,7 @@ use mathlib.Core.Path.{_≡_, refl, ap, _∙_}
 use Prim.Native.Nat.{_-_}
 use lib.ListN.{length}
 use Rattle.tables.specs.Loops.{turns, next-turn, last-turn}
-use Rattle.mentions.specs.Counters.{Counting, counting, takeNext, takeRowsF}
+use Rattle.mentions.specs.Counters.{Counting, counting, takeRecordF, nextRow, takeRowsF}
 use borrow.Author.Needs.{needs}
 use Rattle.mentions.proofs.take_rows.Statement.{statement}
 use Rattle.mentions.proofs.take_rows.Tie as tie
@@ -11,7 +11,7 @@ use Rattle.mentions.proofs.take_rows.Tie as tie
 abbrev Inv-loop : tie.InvT-loop
 Inv-loop counts₀ records last k₀ counts k =
     (length counts ≡ length counts₀)
-    × (turns (last - k₀) (takeNext records) (counting counts₀ k₀) ≡ turns (last - k) (takeNext records) (counting counts k))
+    × (turns (last - k₀) (nextRow takeRecordF records) (counting counts₀ k₀) ≡ turns (last - k) (nextRow takeRecordF records) (counting counts k))
 
 abbrev μ-loop : tie.MeasureT-loop
 μ-loop counts₀ records last k₀ counts k = last - k
@@ -20,7 +20,7 @@ loop-holds : tie.Need-loop-holds Inv-loop μ-loop
 loop-holds c = (refl, refl)
 
 loop-again : tie.Need-loop-again Inv-loop μ-loop
-unfolding takeNext
+unfolding nextRow
 loop-again c =
     let at-take-record = c .before .before in
     let at-row-after = at-take-record .before in
