@@ -5,3 +5,4 @@ pub mod Run
 pub mod Store
 pub mod Spots
 pub mod Shown
+pub mod Counts

@@ -1,0 +1,47 @@
+-- Counts behind the rows of a symbol table that holds a store.
+-- Assumes nothing.
+use mathlib.Core.Path.{_≡_, refl, sym, ap, ap₂, _∙_}
+use mathlib.Core.List.{List, [], _∷_, _++_}
+use Prim.Native.Nat.{ℕ, _+_, _*_}
+use native.Mathlib.Omega.{arith}
+use lib.ListN.{length, getD, drop}
+use lib.Seq.{take-at, drop-at}
+use Rattle.meaning.specs.File.{Symbol}
+use Rattle.meaning.specs.Scoping.{noSymbol}
+use Rattle.meaning.specs.Walk.{Spot, storeAt}
+use Rattle.tables.specs.Columns.SymbolTable
+use Rattle.tables.specs.Table.{countsAt}
+use Rattle.mentions.specs.Counters.{onCounts}
+use Rattle.representation.specs.Store.Held.{symbolCells}
+use Rattle.representation.specs.Spots.Spots.{Rest, held}
+
+-- the rest of the tables, with counts behind the symbol rows
+abbrev pub withCounts : Rest → List ℕ → Rest
+withCounts z c = record { records = z .records; scopes = z .scopes; symbols = z .symbols ++ c }
+
+cells-++ : (ys rs : List Symbol) (z c : List ℕ) → symbolCells ys rs (z ++ c) ≡ symbolCells ys rs z ++ c
+unfolding symbolCells
+cells-++ [] rs z c = refl
+cells-++ (y ∷ ys) rs z c =
+    ap (λ (t : List ℕ). y .name ∷ y .flags ∷ y .scope ∷ y .made ∷ getD rs 0 noSymbol .scope ∷ t) (cells-++ ys (drop 1 rs) z c)
+
+pub cells-length : (ys rs : List Symbol) (z : List ℕ) → length (symbolCells ys rs z) ≡ SymbolTable.Numbers * length ys + length z
+unfolding symbolCells
+cells-length [] rs z = omega arith
+cells-length (y ∷ ys) rs z = omega (arith, cells-length ys (drop 1 rs) z)
+
+-- counts behind other numbers
+on-behind : (f : List ℕ → List ℕ) (a c : List ℕ) → countsAt (a ++ c) ≡ length a → onCounts f (a ++ c) ≡ a ++ f c
+unfolding onCounts
+on-behind f a c e = rw e (ap₂ _++_ (take-at a c (length a) refl) (ap f (drop-at a c (length a) refl)))
+
+-- THE COUNTS OF A HELD SPOT, changed
+pub on-held : (f : List ℕ → List ℕ) (s : Spot) (g : ℕ) (z : Rest) (c : List ℕ)
+    → countsAt (held s g (withCounts z c) .symbols) ≡ length (held s g z .symbols)
+    → onCounts f (held s g (withCounts z c) .symbols) ≡ held s g (withCounts z (f c)) .symbols
+unfolding held
+on-held f s g z c e =
+    let st = storeAt s in
+    let rows = symbolCells (st .symbols) (st .asRead) (z .symbols) in
+    let split = cells-++ (st .symbols) (st .asRead) (z .symbols) in
+    ap (onCounts f) (split c) ∙ on-behind f rows c (rw (split c) at e) ∙ sym (split (f c))
