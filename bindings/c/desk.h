@@ -21,7 +21,14 @@ extern "C" {
 /* How many numbers of 16 bits a row takes in a lent table. A length that is no multiple lends the whole rows in it. */
 #define DESK_RECORD_ROW 7
 #define DESK_SCOPE_ROW 2
-#define DESK_SYMBOL_ROW 5
+#define DESK_SYMBOL_ROW 6
+
+/*
+ * A symbol table of some length lends length / DESK_SYMBOL_ROW rows. Five numbers of each row stand together, row after row from the front of
+ * the table. The sixth, how often records name that symbol, stands in a column behind all the rows that are lent: the count of row y, from 1
+ * on, is the number at DESK_COUNTS_AT(length) + y - 1.
+ */
+#define DESK_COUNTS_AT(length) ((length) / DESK_SYMBOL_ROW * (DESK_SYMBOL_ROW - 1))
 
 /* The longest file, in bytes. */
 #define DESK_LONGEST_FILE 65535
@@ -33,7 +40,7 @@ enum {
     DESK_CUT = 2,            /* the file is cut, or empty */
     DESK_WRONG_TAG = 3,      /* a tag that is not allowed there */
     DESK_WRONG_LENGTH = 4,   /* a length that is not its tag's */
-    DESK_WRONG_NUMBER = 5,   /* a number outside its rule, or a scope row that no record names */
+    DESK_WRONG_NUMBER = 5,   /* a number outside its rule, a scope row that no record names, or a symbol row with a wrong count */
     DESK_TOO_DEEP = 6,       /* deeper than 64 records, whatever the record is */
     DESK_BYTES_BEHIND = 7,   /* bytes behind the tree; place the first of them */
     DESK_INLINE_HELPER = 8,  /* inline mode, and something to lower; place 0 */
@@ -86,7 +93,7 @@ uint8_t desk_figures(const uint8_t *file, size_t file_length, desk_answer *answe
  * Refused: the tables and *walk are as they were.
  * Accepted: the tables hold the tree just read, its scope rows and its symbol rows, and 0 everywhere else, whatever they held before.
  *   A record row is tag, three numbers, n, and two numbers of the walk's own. A scope row is parent and flags. A symbol row is name, flags,
- *   scope, made, and the scope as read.
+ *   scope, made, and the scope as read; the column of counts has for each symbol row how often records name it.
  */
 uint8_t desk_start(const uint8_t *file, size_t file_length,
                    uint16_t *records, size_t records_length,
@@ -96,8 +103,9 @@ uint8_t desk_start(const uint8_t *file, size_t file_length,
 
 /*
  * Makes the next visit of a walk. The tables and *walk are to be what desk_start or the last desk_visit left; then the tables hold the tree
- * as rewritten by the visits made so far. In a module in runtime mode with a context, the call that makes the last visit also puts the
- * helper's import, a Module line of form 4 with one Specifier, as Program's first child: two records more. Later calls change nothing.
+ * as rewritten by the visits made so far, and every count is that of this tree. In a module in runtime mode with a context, the call that
+ * makes the last visit also puts the helper's import, a Module line of form 4 with one Specifier, as Program's first child: two records more,
+ * and one mention of the helper. Later calls change nothing.
  * Answers 1 if no visit is left after this call, else 0.
  * With anything else in the tables or in *walk the call still ends and stays inside them; what it leaves is determined, but means nothing.
  */

@@ -46,8 +46,18 @@ static int refused(const char *call, uint8_t number, const desk_answer *answer) 
     return 1;
 }
 
-/* How many visits the walk takes, or 0 if it is refused. */
-static unsigned long count_visits(const uint8_t *file, size_t length, struct memory *m) {
+/* How often records name symbols, all rows together. */
+static unsigned long count_mentions(const struct memory *m, const desk_walk *walk) {
+    const uint16_t *counts = m->symbols + DESK_COUNTS_AT(m->symbols_length);
+    unsigned long mentions = 0;
+    size_t row;
+    for (row = 1; row <= walk->symbols; row++)
+        mentions += counts[row - 1];
+    return mentions;
+}
+
+/* Makes the walk, and tells how many visits it takes and how often the lowered tree names symbols. */
+static void walk_through(const uint8_t *file, size_t length, struct memory *m) {
     desk_walk walk;
     desk_answer answer;
     unsigned long visits = 0;
@@ -56,14 +66,14 @@ static unsigned long count_visits(const uint8_t *file, size_t length, struct mem
                                 m->symbols, m->symbols_length, &walk, &answer);
     if (number) {
         refused("start", number, &answer);
-        return 0;
+        return;
     }
     while (!over) {
         over = desk_visit(m->records, m->records_length, m->scopes, m->scopes_length, m->symbols,
                           m->symbols_length, &walk);
         visits++;
     }
-    return visits;
+    fprintf(stderr, ", %lu visits, %lu mentions\n", visits, count_mentions(m, &walk));
 }
 
 static int lower(const uint8_t *file, size_t length, struct memory *m) {
@@ -92,7 +102,7 @@ int main(void) {
             (unsigned long long)answer.records, (unsigned long long)answer.scopes,
             (unsigned long long)answer.symbols, (unsigned long long)answer.contexts,
             (unsigned long long)answer.bytes);
-    fprintf(stderr, ", %lu visits\n", count_visits(file, length, &m));
+    walk_through(file, length, &m);
     status = lower(file, length, &m);
     release(&m);
     return status;

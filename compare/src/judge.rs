@@ -4,7 +4,7 @@ use crate::tables;
 use compare::generate::Rng;
 use compare::reference::{self, Figures, Lent, Refusal};
 
-/// Above this length only some of a walk's visits are compared, since each comparison goes over the whole tables.
+/// Above this length all tables are compared after some of a walk's visits only; the counts of symbols after each.
 const LONG: usize = 4_000;
 
 #[derive(Default)]
@@ -47,7 +47,7 @@ impl Counts {
             println!("{} lowerings refused with {number}", self.refused[number]);
         }
         println!(
-            "{} walks with {} visits, the tables compared after {}",
+            "{} walks with {} visits, the counts of symbols compared after each, all tables after {}",
             self.walks, self.visits, self.compared
         );
         println!("{} different", self.different);
@@ -169,12 +169,14 @@ impl Judge {
         let mut over = false;
         loop {
             let compared = file.len() <= LONG || visits < 8 || visits % 512 == 0 || walk.is_over();
-            if compared {
+            let same = if compared {
                 self.counts.compared += 1;
-                let same = over == walk.is_over() && stands_as(&walk, &ours, &read, end);
-                if !self.expect(same, &format!("visit {visits}"), number, file) {
-                    return;
-                }
+                over == walk.is_over() && stands_as(&walk, &ours, &read, end)
+            } else {
+                ours.mentions() == walk.mentions()
+            };
+            if !self.expect(same, &format!("visit {visits}"), number, file) {
+                return;
             }
             if over {
                 break;
@@ -190,7 +192,7 @@ impl Judge {
 }
 
 /// Whether the tables and the walk's numbers are those of the plain walk.
-fn stands_as(walk: &reference::Walk, ours: &desk::Walk, read: &[[u16; 4]], end: usize) -> bool {
+fn stands_as(walk: &reference::Walk, ours: &desk::Walk, read: &[[u16; 5]], end: usize) -> bool {
     let (records, scopes, symbols) = ours.tables();
     let rows = walk.records().len();
     let visited = walk.visited();
@@ -201,5 +203,6 @@ fn stands_as(walk: &reference::Walk, ours: &desk::Walk, read: &[[u16; 4]], end: 
         && u64::from(ours.contexts()) == walk.contexts()
         && records == tables::records(walk, end, records.len())
         && scopes == tables::scopes(walk, scopes.len())
+        && ours.mentions() == walk.mentions()
         && symbols == tables::symbols(walk, read, symbols.len())
 }

@@ -1,6 +1,6 @@
 //! What the tables must hold, to the last number, when the plain walk stands where it stands.
 use compare::reference::{Record, Walk};
-use desk::{RECORD_ROW, SCOPE_ROW, SYMBOL_ROW};
+use desk::{RECORD_ROW, SCOPE_ROW};
 
 const DECLARATION: u8 = 5;
 
@@ -54,12 +54,17 @@ pub fn scopes(walk: &Walk, length: usize) -> Vec<u16> {
     table
 }
 
-/// The fifth number of a symbol row that was read is its scope then.
-pub fn symbols(walk: &Walk, read: &[[u16; 4]], length: usize) -> Vec<u16> {
+/// The fifth number of a symbol row that was read is its scope then. The counts of all rows stand behind the last row lent.
+pub fn symbols(walk: &Walk, read: &[[u16; 5]], length: usize) -> Vec<u16> {
     let mut table = vec![0; length];
-    for (i, (row, s)) in table.chunks_mut(SYMBOL_ROW).zip(walk.symbols()).enumerate() {
-        row[..4].copy_from_slice(&s);
+    let (rows, counts) = table.split_at_mut(desk::counts_at(length));
+    let symbols = walk.symbols();
+    for (i, (row, s)) in rows.chunks_exact_mut(5).zip(&symbols).enumerate() {
+        row[..4].copy_from_slice(&s[..4]);
         row[4] = read.get(i).map_or(0, |old| old[2]);
+    }
+    for (count, s) in counts.iter_mut().zip(&symbols) {
+        *count = s[4];
     }
     table
 }

@@ -78,6 +78,28 @@ fn tree(file: &[u8], at: &mut usize) -> Tree {
     }
 }
 
+/// How often a tree names a symbol row.
+fn mentions(tree: &Tree, row: u16) -> u16 {
+    let named = match tree.tag {
+        20 | 25 | 26 => &tree.numbers[..1],
+        27 | 28 => &tree.numbers[1..2],
+        13 | 15 => &tree.numbers[2..3],
+        29 => &tree.numbers[1..3],
+        _ => &[],
+    };
+    let own = named.iter().filter(|&&other| other == row).count() as u16;
+    let below = tree.children.iter().map(|child| mentions(child, row));
+    own + below.sum::<u16>()
+}
+
+/// How many symbol rows of a file have a wrong count, all else being right.
+fn wrong_counts(file: &[u8]) -> usize {
+    let file = read(file);
+    let rows = (1..).zip(&file.symbols);
+    rows.filter(|(row, numbers)| numbers[4] != mentions(&file.program, *row))
+        .count()
+}
+
 type Counts = BTreeMap<String, u64>;
 
 fn count(counts: &mut Counts, what: impl Into<String>) {
@@ -389,6 +411,7 @@ fn lowering_holds_together() {
             continue;
         };
         lowered += u64::from(made.contexts > 0);
+        assert_eq!(wrong_counts(&out), 0, "counts of file {at}");
         assert_eq!(figures(&file), Ok(made), "figures of file {at}");
         walk_to_the_end(&file);
         // Lowered once more nothing changes, unless the file is now too deep or too long.
@@ -433,6 +456,45 @@ fn damaged_files_meet_all_refusals() {
     }
     println!("refusals of damaged files, 0 for none: {counts:?}");
     assert!((0..=8).all(|number| counts.contains_key(&number)));
+}
+
+/// Whether a refusal is one for a count: a symbol row whose other numbers are within their rules.
+fn is_for_a_count(file: &[u8], refusal: Refusal) -> bool {
+    if refusal.number != 5 || file[refusal.place] != 42 {
+        return false;
+    }
+    let (mut at, mut scopes) = (7, 0);
+    while file[at] == 41 {
+        field(file, &mut at);
+        scopes += 1;
+    }
+    let (_, numbers) = field(file, &mut { refusal.place });
+    let in_scope = (1..=scopes).contains(&numbers[2]);
+    numbers[0] > 0 && numbers[1] <= 127 && in_scope && numbers[3] <= 1
+}
+
+#[test]
+fn damaged_files_have_wrong_counts() {
+    let mut rng = Rng::new(5);
+    let (mut one, mut several, mut four) = (0, 0, 0);
+    for _ in 0..FILES {
+        let file = valid(&mut rng);
+        let file = damaged(&mut rng, &file);
+        let Err(refusal) = check(&file) else {
+            continue;
+        };
+        if is_for_a_count(&file, refusal) {
+            match wrong_counts(&file) {
+                0 => panic!("no count is wrong"),
+                1 => one += 1,
+                _ => several += 1,
+            }
+        }
+        let head = &file[refusal.place.min(file.len())..];
+        four += u64::from(refusal.number == 4 && head.starts_with(&[42, 0, 8]));
+    }
+    println!("one wrong count: {one}, several: {several}, four numbers: {four}");
+    assert!(one > 0 && several > 0 && four > 0);
 }
 
 #[test]

@@ -112,6 +112,7 @@ fn lowering() {
     lowerings("depth.txt");
     lowerings("letters.txt");
     lowerings("imports.txt");
+    lowerings("counts.txt");
 }
 
 fn walks(name: &str) {
@@ -161,4 +162,95 @@ fn visits() {
     walks("visits.txt");
     walks("letter_visits.txt");
     walks("import_visits.txt");
+    walks("count_visits.txt");
+}
+
+/// The answers of `check` and `figures`.
+fn two_answers(file: &[u8]) -> String {
+    let checked = match check(file) {
+        Ok(()) => String::from("ok"),
+        Err(refusal) => format!("refused {} {}", refusal.number, refusal.place),
+    };
+    let figured = match figures(file) {
+        Ok(f) => format!(
+            "ok {} {} {} {} {}",
+            f.records, f.scopes, f.symbols, f.contexts, f.bytes
+        ),
+        Err(refusal) => format!("refused {} {}", refusal.number, refusal.place),
+    };
+    format!("{checked}|{figured}")
+}
+
+#[test]
+fn checking() {
+    let mut count = 0;
+    for line in read("check.txt").lines() {
+        let (file, answers) = line.split_once('|').expect("a file and two answers");
+        count += 1;
+        assert_eq!(two_answers(&from_hex(file)), answers, "line {count}");
+    }
+    println!("check.txt: {count} files agree");
+}
+
+/// A file in the notation.
+fn to_notation(file: &[u8]) -> String {
+    let mut fields = Vec::new();
+    let mut rest = file;
+    while let [tag, high, low, others @ ..] = rest {
+        let length = usize::from(u16::from_be_bytes([*high, *low]));
+        let (payload, behind) = others.split_at(length);
+        let pairs = payload.chunks(2);
+        let numbers: Vec<u16> = pairs
+            .map(|two| u16::from_be_bytes([two[0], two[1]]))
+            .collect();
+        fields.push(notation(*tag, &numbers));
+        rest = behind;
+    }
+    fields.join(" ")
+}
+
+/// What is printed for a corner: its file, and what it is lowered to in the memory that is lent for it.
+fn corner(line: &str) -> String {
+    let lent = Lent {
+        records: 64,
+        scopes: 24,
+        symbols: 16,
+        out: 724,
+    };
+    let (shown, file) = match line {
+        "zeros" => (String::new(), vec![0; 65_536]),
+        "" => (String::from("  in:\n"), Vec::new()),
+        _ => (format!("  in: {line}\n"), from_notation(line)),
+    };
+    match lower(&file, lent) {
+        Err(r) => format!("{shown}  refused {} at {}\n", r.number, r.place),
+        Ok((out, f)) => format!(
+            "{shown}  out: {}\n  figures: records {}, scopes {}, symbols {}, contexts {}, bytes {}\n",
+            to_notation(&out),
+            f.records,
+            f.scopes,
+            f.symbols,
+            f.contexts,
+            f.bytes
+        ),
+    }
+}
+
+#[test]
+fn corners() {
+    let stored = read("../stdout");
+    let (_, shown) = stored.split_once("corners.txt: ").expect("the last file");
+    let (_, mut shown) = shown.split_once('\n').expect("lines behind it");
+    for line in read("corners.txt").lines() {
+        let wanted = if line.starts_with('#') {
+            format!("{line}\n")
+        } else {
+            corner(line)
+        };
+        shown = match shown.strip_prefix(wanted.as_str()) {
+            Some(behind) => behind,
+            None => panic!("{line}\n{wanted}is not what stands before\n{shown}"),
+        };
+    }
+    println!("corners.txt: {shown}");
 }

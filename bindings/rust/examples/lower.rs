@@ -19,8 +19,8 @@ impl Memory {
     }
 }
 
-/// The lowered file, in memory of just the size that the figures ask for, and the number of visits.
-fn lower(file: &[u8]) -> Result<(Vec<u8>, usize), Refusal> {
+/// The lowered file, in memory of just the size that the figures ask for, the number of visits, and how often the tree names symbols.
+fn lower(file: &[u8]) -> Result<(Vec<u8>, usize, u32), Refusal> {
     let figures = desk::figures(file)?;
     let mut memory = Memory {
         records: vec![0; figures.records as usize * desk::RECORD_ROW],
@@ -32,17 +32,21 @@ fn lower(file: &[u8]) -> Result<(Vec<u8>, usize), Refusal> {
     while !walk.visit() {
         visits += 1;
     }
+    let mentions = walk.mentions().iter().map(|&count| u32::from(count)).sum();
     let mut output = vec![0; figures.bytes as usize];
     desk::lower(file, memory.lend(), &mut output)?;
-    Ok((output, visits))
+    Ok((output, visits, mentions))
 }
 
 fn main() -> io::Result<ExitCode> {
     let mut file = Vec::new();
     io::stdin().read_to_end(&mut file)?;
     match lower(&file) {
-        Ok((output, visits)) => {
-            eprintln!("{} bytes, {visits} visits", output.len());
+        Ok((output, visits, mentions)) => {
+            eprintln!(
+                "{} bytes, {visits} visits, {mentions} mentions",
+                output.len()
+            );
             io::stdout().write_all(&output)?;
             Ok(ExitCode::SUCCESS)
         }

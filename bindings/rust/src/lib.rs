@@ -6,10 +6,15 @@
 
 mod raw;
 
-/// How many numbers of 16 bits a row takes in a lent table.
+/// How many numbers of 16 bits a row takes in a lent table. Of a symbol row five stand together, and its count in a column behind all rows.
 pub const RECORD_ROW: usize = 7;
 pub const SCOPE_ROW: usize = 2;
-pub const SYMBOL_ROW: usize = 5;
+pub const SYMBOL_ROW: usize = 6;
+
+/// Where the counts begin in a lent symbol table of this length: behind the five numbers of every row that it lends.
+pub const fn counts_at(length: usize) -> usize {
+    length / SYMBOL_ROW * (SYMBOL_ROW - 1)
+}
 
 /// Why a call was refused: document 01's number, and its place.
 #[derive(Clone, Copy, Debug, PartialEq, Eq)]
@@ -130,6 +135,13 @@ impl<'a> Walk<'a> {
     /// Where the walk stands among the record rows: visited, last free, last in use, and the innermost open one.
     pub fn rows(&self) -> [u16; 4] {
         [self.at.visited, self.at.gap, self.at.end, self.at.inner]
+    }
+
+    /// How often the records of the tree name each symbol row, true after `start` and after every visit.
+    pub fn mentions(&self) -> &[u16] {
+        let from = counts_at(self.tables.symbols.len());
+        let counts = &self.tables.symbols[from..];
+        &counts[..usize::from(self.at.symbols).min(counts.len())]
     }
 
     /// How many scope rows and symbol rows there are.

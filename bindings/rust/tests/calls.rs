@@ -9,7 +9,7 @@ const FIGURES: Figures = Figures {
     scopes: 5,
     symbols: 3,
     contexts: 1,
-    bytes: 209,
+    bytes: 215,
 };
 
 /// Tables of so many record rows and enough others, with two numbers more than the rows take, filled with a pattern.
@@ -54,10 +54,10 @@ fn check_tells_the_place() {
         })
     );
     assert_eq!(
-        desk::check(&FILE[..73]),
+        desk::check(&FILE[..75]),
         Err(Refusal {
             number: 2,
-            place: 67
+            place: 69
         })
     );
     assert_eq!(
@@ -65,6 +65,31 @@ fn check_tells_the_place() {
         Err(Refusal {
             number: 1,
             place: 65535
+        })
+    );
+}
+
+#[test]
+fn check_counts_mentions() {
+    let mut wrong = FILE.to_vec();
+    assert_eq!(wrong[21..24], [42, 0, 10]);
+    assert_eq!(wrong[32..34], [0, 1]);
+    wrong[33] = 2;
+    assert_eq!(
+        desk::check(&wrong),
+        Err(Refusal {
+            number: 5,
+            place: 21
+        })
+    );
+    let mut short = FILE.to_vec();
+    short[23] = 8;
+    short.drain(32..34);
+    assert_eq!(
+        desk::check(&short),
+        Err(Refusal {
+            number: 4,
+            place: 21
         })
     );
 }
@@ -86,17 +111,17 @@ fn figures_come_from_the_source() {
 #[test]
 fn lower_writes_the_file_and_clears_the_tables() {
     let mut memory = Memory::new(18);
-    let mut output = vec![0xaa; 220];
+    let mut output = vec![0xaa; 226];
     assert_eq!(desk::lower(FILE, memory.lend(), &mut output), Ok(FIGURES));
-    assert_eq!(&output[..209], LOWERED);
-    assert!(output[209..].iter().all(|&b| b == 0xaa));
+    assert_eq!(&output[..215], LOWERED);
+    assert!(output[215..].iter().all(|&b| b == 0xaa));
     assert!(memory.holds(0, 0, 0));
 }
 
 #[test]
 fn a_refusal_changes_nothing() {
     let mut memory = Memory::new(17);
-    let mut output = vec![0xaa; 208];
+    let mut output = vec![0xaa; 214];
     let small = Refusal {
         number: 9,
         place: 0,
@@ -109,7 +134,7 @@ fn a_refusal_changes_nothing() {
         desk::lower(FILE, memory.lend(), &mut output),
         Err(Refusal {
             number: 10,
-            place: 208
+            place: 214
         })
     );
     assert!(memory.holds(7, 8, 9));
@@ -121,6 +146,10 @@ fn the_walk_has_18_visits() {
     let mut memory = Memory::new(20);
     let mut walk = Walk::start(FILE, memory.lend()).expect("enough rows");
     assert_eq!(walk.rows(), [0, 12, 18, 0]);
+    assert_eq!(walk.tables().2[..5], [10, 6, 2, 0, 2]);
+    assert!(walk.tables().2[5..15].iter().all(|&x| x == 0));
+    assert_eq!(walk.tables().2[15..], [1, 0, 0, 0, 0]);
+    assert_eq!(walk.mentions(), [1]);
     let mut visits = 1;
     while !walk.visit() {
         visits += 1;
@@ -132,6 +161,9 @@ fn the_walk_has_18_visits() {
     assert_eq!(walk.rows(), [18, 18, 18, 0]);
     assert_eq!(walk.counts(), (5, 3));
     assert_eq!((walk.contexts(), walk.helper()), (1, 0));
+    assert_eq!(walk.tables().2[5..15], [5, 1, 1, 1, 0, 2, 17, 4, 0, 0]);
+    assert_eq!(walk.tables().2[15..], [1, 4, 2, 0, 0]);
+    assert_eq!(walk.mentions(), [1, 4, 2]);
 }
 
 #[test]
@@ -146,7 +178,9 @@ fn the_last_visit_imports_the_helper() {
         assert!(!walk.visit());
     }
     assert_eq!(walk.rows(), [17, 19, 20, 17]);
+    assert_eq!(walk.mentions(), [1, 4, 1, 2]);
     assert!(walk.visit());
+    assert_eq!(walk.mentions(), [1, 4, 2, 2]);
     assert_eq!(walk.rows(), [20, 20, 20, 0]);
     assert_eq!((walk.contexts(), walk.helper()), (1, 3));
     let left: Vec<u16> = walk.tables().0.to_vec();

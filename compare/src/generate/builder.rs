@@ -104,7 +104,7 @@ impl Builder {
 
     pub fn symbol(&mut self, symbol: Symbol) -> u16 {
         self.symbols.push(symbol);
-        self.size += size(4);
+        self.size += size(5);
         self.symbol_count()
     }
 
@@ -173,18 +173,17 @@ impl Builder {
                 &[scope_row[usize::from(parent)], flags],
             );
         }
-        for &made in symbols {
+        let counts = self.mentions();
+        for &row in symbols {
             let Symbol {
                 name,
                 flags,
                 scope,
                 made,
-            } = self.symbols[usize::from(made) - 1];
-            field(
-                &mut out,
-                tag::SYMBOL,
-                &[name, flags, scope_row[usize::from(scope)], made],
-            );
+            } = self.symbols[usize::from(row) - 1];
+            let scope = scope_row[usize::from(scope)];
+            let count = counts[usize::from(row)];
+            field(&mut out, tag::SYMBOL, &[name, flags, scope, made, count]);
         }
         for record in &self.records {
             let mut numbers = record.numbers.clone();
@@ -197,6 +196,17 @@ impl Builder {
             field(&mut out, record.tag, &numbers);
         }
         out
+    }
+
+    /// How often records name each symbol row, in the order of making; place 0 is for none.
+    fn mentions(&self) -> Vec<u16> {
+        let mut counts = vec![0; self.symbols.len() + 1];
+        for record in &self.records {
+            for &at in symbols_at(record.tag) {
+                counts[usize::from(record.numbers[at])] += 1;
+            }
+        }
+        counts
     }
 }
 
@@ -220,7 +230,7 @@ fn scope_at(tag: u8) -> Option<usize> {
 }
 
 /// Which numbers of a record are symbol rows.
-fn symbols_at(tag: u8) -> &'static [usize] {
+pub fn symbols_at(tag: u8) -> &'static [usize] {
     match tag {
         tag::FUNCTION | tag::CLASS => &[2],
         tag::SPECIFIER | tag::READ | tag::NAME => &[0],

@@ -1,6 +1,6 @@
 //! Damaged copies of files. Many stay valid, or nearly.
 
-use super::builder::{field, tag};
+use super::builder::{field, symbols_at, tag};
 use super::Rng;
 
 /// A file in fields; what is no whole field any more stands last.
@@ -46,7 +46,8 @@ fn count(tag: u8) -> usize {
         14 | 18 | 19 | 25 | 26 => 1,
         1 | 2 | 4 | 5 | 7 | 9 | 10 | 11 | 16 | 20 | 24 | 28 | 40 | 41 => 2,
         3 | 6 | 8 | 17 | 27 | 29 => 3,
-        12 | 13 | 15 | 42 => 4,
+        12 | 13 | 15 => 4,
+        42 => 5,
         _ => 0,
     }
 }
@@ -62,6 +63,11 @@ fn set_number(field: &mut [u8], at: usize, number: u16) {
     if let Some(bytes) = field.get_mut(3 + 2 * at..5 + 2 * at) {
         bytes.copy_from_slice(&number.to_be_bytes());
     }
+}
+
+/// The tag of a field, or 0 if nothing is left of it.
+fn tag_of(field: &[u8]) -> u8 {
+    field.first().copied().unwrap_or(0)
 }
 
 /// How many whole numbers a field holds.
@@ -92,11 +98,26 @@ fn damage(rng: &mut Rng, file: &[u8]) -> Vec<u8> {
 }
 
 fn changed_fields(rng: &mut Rng, mut fields: Fields) -> Vec<u8> {
+    match rng.below(100) {
+        0..5 => spoil_counts(rng, &mut fields),
+        5..7 => drop_counts(rng, &mut fields),
+        _ => {
+            change_fields(rng, &mut fields);
+            // Else a change of what records name leaves counts that are wrong.
+            if rng.chance(85) {
+                count_again(&mut fields);
+            }
+        }
+    }
+    fields.join()
+}
+
+fn change_fields(rng: &mut Rng, fields: &mut Fields) {
     let at = rng.place(fields.fields.len());
     let other = rng.place(fields.fields.len());
     match rng.below(200) {
-        0..60 => change_within_rule(rng, &mut fields, at),
-        60..90 => change_number(rng, &mut fields, at),
+        0..60 => change_within_rule(rng, fields, at),
+        60..90 => change_number(rng, fields, at),
         90..98 => {
             fields.fields.remove(at);
         }
@@ -110,18 +131,73 @@ fn changed_fields(rng: &mut Rng, mut fields: Fields) -> Vec<u8> {
             fields.fields.swap(at, next);
         }
         117..127 => fields.fields[at][0] = any_tag(rng),
-        127..137 => replace_tag(rng, &mut fields, at),
-        137..141 => change_settings(rng, &mut fields),
-        141..151 => change_child_count(rng, &mut fields, at),
-        151..155 => change_length(rng, &mut fields, at),
-        155..158 => copy_numbers(rng, &mut fields, at),
-        158..180 => change_outside_rule(rng, &mut fields, at),
-        180..187 => change_form_or_symbol(rng, &mut fields),
-        187..190 => scope_in_switch(rng, &mut fields),
-        190..193 => add_scope_rows(rng, &mut fields),
-        _ => nest(rng, &mut fields, at),
+        127..137 => replace_tag(rng, fields, at),
+        137..141 => change_settings(rng, fields),
+        141..151 => change_child_count(rng, fields, at),
+        151..155 => change_length(rng, fields, at),
+        155..158 => copy_numbers(rng, fields, at),
+        158..180 => change_outside_rule(rng, fields, at),
+        180..187 => change_form_or_symbol(rng, fields),
+        187..190 => scope_in_switch(rng, fields),
+        190..193 => add_scope_rows(rng, fields),
+        _ => nest(rng, fields, at),
     }
-    fields.join()
+}
+
+/// The counts that the records of the file ask for.
+fn count_again(fields: &mut Fields) {
+    let mut counts = vec![0u16; 1 + usize::from(u16::MAX)];
+    for field in &fields.fields {
+        for &at in symbols_at(tag_of(field)) {
+            let count = &mut counts[usize::from(number(field, at))];
+            *count = count.saturating_add(1);
+        }
+    }
+    let rows = fields.fields.iter_mut();
+    let rows = rows.filter(|row| tag_of(row) == tag::SYMBOL);
+    for (row, count) in rows.zip(&counts[1..]) {
+        set_number(row, 4, *count);
+    }
+}
+
+/// The places of all symbol rows.
+fn symbol_rows(fields: &Fields) -> Vec<usize> {
+    let is_row = |at: &usize| fields.fields[*at][0] == tag::SYMBOL;
+    (0..fields.fields.len()).filter(is_row).collect()
+}
+
+/// A wrong count in one row or in some.
+fn spoil_counts(rng: &mut Rng, fields: &mut Fields) {
+    let rows = symbol_rows(fields);
+    if rows.is_empty() {
+        return;
+    }
+    for _ in 0..=rng.weighted(&[60, 25, 15]) {
+        let row = &mut fields.fields[rng.pick(&rows)];
+        let old = number(row, 4);
+        let new = match rng.below(6) {
+            0 | 1 => old.wrapping_add(1),
+            2 | 3 => old.wrapping_sub(1),
+            4 => 0,
+            _ => rng.between(0, 65_535),
+        };
+        set_number(row, 4, new);
+    }
+}
+
+/// Symbol rows of four numbers: one, or all of them.
+fn drop_counts(rng: &mut Rng, fields: &mut Fields) {
+    let mut rows = symbol_rows(fields);
+    if !rows.is_empty() && rng.chance(60) {
+        rows = vec![rng.pick(&rows)];
+    }
+    for at in rows {
+        let row = &mut fields.fields[at];
+        if row.len() == 13 {
+            row.truncate(11);
+            row[2] = 8;
+        }
+    }
 }
 
 fn changed_byte(rng: &mut Rng, file: &[u8]) -> Vec<u8> {

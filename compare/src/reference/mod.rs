@@ -3,6 +3,7 @@
 mod charges;
 mod explicit_resource_management;
 mod helper_loader;
+mod mentions;
 mod parse;
 mod scoping;
 mod tag;

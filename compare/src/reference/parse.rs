@@ -1,5 +1,6 @@
 //! Reading a file and checking it on the way.
 
+use super::mentions::mentions;
 use super::scoping::{scope_flags, symbol_flags, Scoping};
 use super::tag::{self, Tags};
 use super::tree::{kind, line_form, Mark, Node, NodeId, Nodes};
@@ -103,7 +104,15 @@ impl Place {
 struct Field {
     at: usize,
     tag: u8,
-    numbers: [u16; 4],
+    numbers: [u16; 5],
+}
+
+impl Field {
+    /// The numbers of a record, which has at most four.
+    fn of_record(&self) -> [u16; 4] {
+        let [a, b, c, d, _] = self.numbers;
+        [a, b, c, d]
+    }
 }
 
 struct Parser<'f> {
@@ -112,6 +121,8 @@ struct Parser<'f> {
     scoping: Scoping,
     /// For each scope row whether a record has named it.
     named: Vec<bool>,
+    /// For each symbol row how often records are said to name it.
+    counts: Vec<u16>,
     nodes: Nodes,
     has_for_of_using: bool,
 }
@@ -136,6 +147,7 @@ pub fn parse(file: &[u8]) -> Result<Tree, Refusal> {
         at: 0,
         scoping: Scoping::default(),
         named: Vec::new(),
+        counts: Vec::new(),
         nodes: Nodes::with_capacity(file.len() / 7),
         has_for_of_using: false,
     };
@@ -150,6 +162,7 @@ pub fn parse(file: &[u8]) -> Result<Tree, Refusal> {
         });
     }
     parser.all_rows_named()?;
+    parser.all_counts_true()?;
     let Parser {
         scoping,
         nodes,
@@ -184,12 +197,12 @@ impl Parser<'_> {
             return refuse(2);
         }
         let numbers = match payload.first_chunk() {
-            Some(eight) => numbers(eight, count),
+            Some(ten) => numbers(ten, count),
             // Near the end of the file.
             None => {
-                let mut eight = [0; 8];
-                eight[..payload.len()].copy_from_slice(payload);
-                numbers(&eight, count)
+                let mut ten = [0; 10];
+                ten[..payload.len()].copy_from_slice(payload);
+                numbers(&ten, count)
             }
         };
         self.at = at + 3 + length;
@@ -235,13 +248,14 @@ impl Parser<'_> {
     }
 
     fn symbol_row(&mut self, field: &Field) -> Result<(), Refusal> {
-        let [name, flags, scope, made] = field.numbers;
+        let [name, flags, scope, made, count] = field.numbers;
         let in_scope = (1..=self.scoping.scope_count()).contains(&usize::from(scope));
         keep(
             name >= 1 && flags <= symbol_flags::ALL && in_scope && made <= 1,
             field,
         )?;
         self.scoping.create_symbol(name, flags, scope, made);
+        self.counts.push(count);
         Ok(())
     }
 
@@ -249,6 +263,19 @@ impl Parser<'_> {
         match (1..self.named.len()).find(|&row| !self.named[row]) {
             Some(row) => {
                 let place = tag::size(tag::SETTINGS) + (row - 1) * tag::size(tag::SCOPE);
+                Err(Refusal { number: 5, place })
+            }
+            None => Ok(()),
+        }
+    }
+
+    /// The first row whose count is not that of the tree is refused.
+    fn all_counts_true(&self) -> Result<(), Refusal> {
+        let counts = mentions(&self.nodes, self.counts.len());
+        match (0..counts.len()).find(|&at| counts[at] != self.counts[at]) {
+            Some(at) => {
+                let scopes = self.scoping.scope_count() * tag::size(tag::SCOPE);
+                let place = tag::size(tag::SETTINGS) + scopes + at * tag::size(tag::SYMBOL);
                 Err(Refusal { number: 5, place })
             }
             None => Ok(()),
@@ -279,7 +306,7 @@ impl Parser<'_> {
         };
         let parent = self.nodes.push(Node {
             mark,
-            ..Node::new(field.tag, field.numbers)
+            ..Node::new(field.tag, field.of_record())
         });
         let mut family = Family {
             parent,
@@ -293,7 +320,7 @@ impl Parser<'_> {
 
     /// Whether the numbers of a record fit its tag and its place, its scope apart.
     fn fits(&self, field: &Field, place: Place) -> bool {
-        let [a, b, c, d] = field.numbers;
+        let [a, b, c, d] = field.of_record();
         match field.tag {
             tag::LABEL => b == 1,
             tag::DECLARATION => {
@@ -441,20 +468,21 @@ impl Parser<'_> {
 
 /// The first numbers in these bytes, so many, and 0 for the rest.
 #[inline(always)]
-fn numbers(bytes: &[u8; 8], count: usize) -> [u16; 4] {
-    const MASKS: [[u16; 4]; 5] = {
+fn numbers(bytes: &[u8; 10], count: usize) -> [u16; 5] {
+    const MASKS: [[u16; 5]; 6] = {
         let all = u16::MAX;
         [
-            [0; 4],
-            [all, 0, 0, 0],
-            [all, all, 0, 0],
-            [all, all, all, 0],
-            [all; 4],
+            [0; 5],
+            [all, 0, 0, 0, 0],
+            [all, all, 0, 0, 0],
+            [all, all, all, 0, 0],
+            [all, all, all, all, 0],
+            [all; 5],
         ]
     };
     let mask = &MASKS[count];
     let number = |at: usize| u16::from_be_bytes([bytes[2 * at], bytes[2 * at + 1]]) & mask[at];
-    [number(0), number(1), number(2), number(3)]
+    [number(0), number(1), number(2), number(3), number(4)]
 }
 
 /// Refusal 5 at this field unless its numbers are as they should be.

@@ -36,7 +36,7 @@ const COUNTS: [u8; 43] = {
     let known = [
         (SETTINGS, 2),
         (SCOPE, 2),
-        (SYMBOL, 4),
+        (SYMBOL, 5),
         (PROGRAM, 2),
         (BLOCK, 2),
         (PLAIN, 3),
@@ -88,6 +88,17 @@ pub const fn scope_at(tag: u8) -> Option<usize> {
         PROGRAM | BLOCK | PLAIN | FOR | FOR_OF | SWITCH | CATCH | STATIC_BLOCK => Some(0),
         FUNCTION | CLASS => Some(1),
         _ => None,
+    }
+}
+
+/// Which of its numbers are symbol rows that a record names.
+pub const fn symbols_at(tag: u8) -> &'static [usize] {
+    match tag {
+        SPECIFIER | READ | NAME => &[0],
+        CALL | LOAD => &[1],
+        STEP => &[1, 2],
+        FUNCTION | CLASS => &[2],
+        _ => &[],
     }
 }
 

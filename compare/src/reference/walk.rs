@@ -2,6 +2,7 @@
 
 use super::charges::{figures, ReadBindings};
 use super::explicit_resource_management::{ExplicitResourceManagement, Surroundings};
+use super::mentions::mentions;
 use super::parse::{mode, parse, Settings, Tree};
 use super::tag;
 use super::tree::{kind, Mark, Node, NodeId};
@@ -103,11 +104,17 @@ impl Walk {
             .collect()
     }
 
-    /// Name, flags, scope and made of each symbol row.
-    pub fn symbols(&self) -> Vec<[u16; 4]> {
+    /// Name, flags, scope and made of each symbol row, and how often records name it.
+    pub fn symbols(&self) -> Vec<[u16; 5]> {
         let rows = self.pass.scoping.symbols().iter();
-        rows.map(|row| [row.name, row.flags, row.scope, row.made])
+        rows.zip(self.mentions())
+            .map(|(row, count)| [row.name, row.flags, row.scope, row.made, count])
             .collect()
+    }
+
+    /// How often the records of the tree as it stands name each symbol row.
+    pub fn mentions(&self) -> Vec<u16> {
+        mentions(&self.pass.nodes, self.pass.scoping.symbol_count())
     }
 
     /// The records in file order.

@@ -6,7 +6,7 @@ use Prim.Native.Nat.{ℕ, zero, suc, _+_, _-_, _≤_, _<_}
 use native.Mathlib.Nat.{zero-add}
 use native.Mathlib.Omega.{arith}
 use lib.Dec.{eqb}
-use lib.ListN.{length, getD, replicate, length-replicate}
+use lib.ListN.{length, replicate}
 use Rattle.meaning.specs.Numbers.Tag
 use Rattle.meaning.specs.Tree.{if_then_else_, Head, hd, Forest, size}
 use Rattle.meaning.specs.File.{numbersOf, hasChildren, ownNumbers, symbolBytes}
@@ -19,9 +19,8 @@ use Rattle.spec_laws.specs.Tags.{Seen, other, here, there, seen}
 use Rattle.parsing.specs.Parsed.{RecordAt, Parsed, parsed-none, parsed-more}
 use Rattle.parsing.specs.Counts.{parsed-bytes, parsed-ends, size-bytes}
 use Rattle.tables.specs.Loops.{turns}
-use Rattle.tables.specs.Table.{capped}
 use Rattle.mentions.specs.Counters.{addRecordF}
-use Rattle.mentions.specs.Sums.{headsOf, named-heads, all, all-++, record-added, all-length, added-at, two-a-record}
+use Rattle.mentions.specs.Sums.{headsOf, all, all-++, two-a-record, countsFrom, count-at, counts-length, counted-tree}
 use Rattle.checking.specs.declared.Layout.{Layout}
 use Rattle.checking.specs.Flat.{Counting, counting, nextCount, countF, wrongIn, wrongF}
 use Rattle.checking.proofs.Counts.{counters}
@@ -90,33 +89,21 @@ module _ {f : List ℕ} {syms : ℕ} where
 
 -- ---- the counters
 
-zero-at : (n i : ℕ) → getD {A = ℕ} (replicate {A = ℕ} n 0) i 0 ≡ 0
-zero-at zero i = refl
-zero-at (suc n) zero = refl
-zero-at (suc n) (suc i) = zero-at n i
-
-cap-whole : (x n v : ℕ) → x ≡ 0 → n ≤ 65535 → v ≡ capped x n → v ≡ n
-unfolding capped
-cap-whole x n v e h d = omega arith
-
 module _ {f : List ℕ} {syms : ℕ} {place : ℕ → Place} {i cur at next : ℕ} {m o : List ℕ} {t : Forest}
     (small : length f ≤ 65535) (inside : at ≤ length f) (tree : Parsed f syms place i cur at m t next o) where
   -- not more than two for three bytes
   few-mentions : (y : ℕ) → mentions y t ≤ 65535
   few-mentions y = omega (arith, two-a-record y t, size-bytes t, parsed-bytes tree, parsed-ends tree inside)
 
-  counted-is : (n : ℕ) → countF f (size t) at (replicate n 0) ≡ all addRecordF (replicate n 0) (headsOf t)
+  counted-is : (n : ℕ) → countF f (size t) at (replicate n 0) ≡ countsFrom (λ y. mentions y t) n 1
   unfolding countF
-  counted-is n = ap (λ (s : Counting). s .t) (count-parsed (replicate n 0) tree)
+  counted-is n = ap (λ (s : Counting). s .t) (count-parsed (replicate n 0) tree) ∙ counted-tree t n (λ y _. few-mentions y)
 
   counted-length : (n : ℕ) → length (countF f (size t) at (replicate n 0)) ≡ n
-  counted-length n = ap length (counted-is n) ∙ all-length addRecordF record-added (replicate n 0) (headsOf t) ∙ length-replicate n 0
+  counted-length n = ap length (counted-is n) ∙ counts-length (λ y. mentions y t) n 1
 
   counted-at : (n y : ℕ) → 1 ≤ y → y ≤ n → counters (countF f (size t) at (replicate n 0)) y ≡ mentions y t
-  counted-at n y some in-table =
-      ap (λ (c : List ℕ). counters c y) (counted-is n)
-      ∙ cap-whole _ _ _ (zero-at n (y - 1)) (few-mentions y)
-      (rw (← named-heads y t) (added-at y some (replicate n 0) (headsOf t) (omega (arith, length-replicate {A = ℕ} n 0)) (omega (arith, zero-at n (y - 1)))))
+  counted-at n y some in-table = ap (λ (c : List ℕ). counters c y) (counted-is n) ∙ count-at (λ y. mentions y t) n y some in-table
 
   -- ---- the lowest wrong count
 

@@ -6,7 +6,7 @@ use mathlib.Core.List.{List, [], _∷_, _++_}
 use Prim.Native.Nat.{ℕ, zero, suc, _+_, _*_, _-_, _≤_, _<_}
 use native.Mathlib.Omega.{arith}
 use lib.Dec.{eqb}
-use lib.ListN.{length, getD, set, length-set}
+use lib.ListN.{length, getD, set, replicate, length-set, length-replicate}
 use lib.Seq.{getD-set-same, getD-set-other}
 use borrow.Author.Tests.{eqb-true, eqb-false, ne-eqb}
 use Rattle.meaning.specs.Tree.{if_then_else_, Head, Forest, none, more, size}
@@ -226,3 +226,25 @@ pub counts-length : (count : ℕ → ℕ) (n y : ℕ) → length (countsFrom cou
 unfolding countsFrom
 counts-length count zero y = refl
 counts-length count (suc n) y = ap suc (counts-length count n (suc y))
+
+-- ---- from 0 on
+
+zero-at : (n i : ℕ) → getD {A = ℕ} (replicate {A = ℕ} n 0) i 0 ≡ 0
+zero-at zero i = refl
+zero-at (suc n) zero = refl
+zero-at (suc n) (suc i) = zero-at n i
+
+cap-whole : (x n v : ℕ) → x ≡ 0 → n ≤ largest → v ≡ capped x n → v ≡ n
+unfolding capped
+cap-whole x n v e h d = omega arith
+
+-- THE RECORDS OF A TREE, ADDED TO NONE, come to its mentions.
+pub counted-tree : (f : Forest) (n : ℕ) → ((y : ℕ) → 1 ≤ y → mentions y f ≤ largest)
+    → all addRecordF (replicate n 0) (headsOf f) ≡ countsFrom (λ y. mentions y f) n 1
+counted-tree f n fits =
+    let zeros = replicate {A = ℕ} n 0 in
+    known-counts (λ y. mentions y f) n (all addRecordF zeros (headsOf f))
+    (all-length addRecordF record-added zeros (headsOf f) ∙ length-replicate n 0)
+    (λ y some in-table.
+    cap-whole (counter zeros y) _ _ (zero-at n (y - 1)) (fits y some)
+    (rw (named-heads y f) at (added-at y some zeros (headsOf f) (omega (arith, length-replicate {A = ℕ} n 0)) (omega (arith, zero-at n (y - 1))))))

@@ -15,9 +15,11 @@ use Rattle.figures.specs.Figures.{shownFigures}
 use Rattle.checking.specs.declared.Surveyed.{Surveyed}
 use Rattle.checking.specs.declared.Surveyed.the-variants.{Fine, Refused}
 use Rattle.checking.specs.Survey.{layoutOf, surveyedOf}
+use Rattle.path.specs.Path.{Tables}
 use Rattle.start.specs.Start.{ready, lentIn, startOf, startF}
-use Rattle.start.specs.Flat.{admitBy, startBy}
+use Rattle.start.specs.Flat.{admitBy, countedF, startBy}
 use Rattle.start.specs.Filled.{fill-law}
+use Rattle.start.specs.Counted.{counted-law}
 
 -- ---- admission
 
@@ -38,7 +40,7 @@ module _ (b r s y : List ℕ) where
   unfolding admitBy checkRows lentIn
   by-file (accepted f) =
       let g = finalFigures f in
-      by-rows (leb (g .records) (length r / 7)) (leb (g .scopes) (length s / 2)) (leb (g .symbols) (length y / 5)) f
+      by-rows (leb (g .records) (length r / 7)) (leb (g .scopes) (length s / 2)) (leb (g .symbols) (length y / 6)) f
   by-file (refused c p) = refl
 
   -- THE ANSWER of admit by the survey is 01's.
@@ -50,7 +52,7 @@ module _ (b r s y : List ℕ) where
 
   by-answer : (o : Outcome File) → admit b (lentIn r s y) ≡ o → startBy (surveyedOf o) b r s y ≡ startOf o r s y
   unfolding startBy
-  by-answer (accepted f) e = ap ready (fill-law b r s y f e)
+  by-answer (accepted f) e = ap (λ (q : Tables). ready (countedF q)) (fill-law b r s y f e) ∙ ap ready (counted-law b r s y f e)
   by-answer (refused c p) e = refl
 
   -- THE ANSWER of start by admit's is 01's.

@@ -27,7 +27,7 @@ clear-last t₀ t i e l d = sym (take-all i t (omega arith)) ∙ (e ∙ ap (λ (
 
 -- ---- the offset behind a field
 
-pub next-most : (f : List ℕ) (at n next : ℕ) → next ≡ fieldOf f at .next → at ≤ 65535 + 11 * n → next ≤ 65535 + 11 * (n + 1)
+pub next-most : (f : List ℕ) (at n next : ℕ) → next ≡ fieldOf f at .next → at ≤ 65535 + 13 * n → next ≤ 65535 + 13 * (n + 1)
 unfolding fieldOf fieldBytes
 next-most f at n next e h = rw e (omega (arith, numbers-most (getD f at 0)))
 

@@ -71,7 +71,7 @@ first-held (more h k r) st g z =
 -- ---- how many rows
 
 -- the final figures count what was read
-read-most : (f : File)
+pub read-most : (f : File)
     → (size (f .tree) ≤ finalFigures f .records) × (length (f .scopes) ≤ finalFigures f .scopes)
     × (length (f .symbols) ≤ finalFigures f .symbols)
 unfolding finalFigures walkFigures figuresIn
@@ -149,4 +149,4 @@ module _ (bytes r s y : List ℕ) (f : File) (e : admit bytes (lentIn r s y) ≡
   unfolding lentIn
   fill-law =
       let a = admitted in
-      fill-is bytes f (file-parsed bytes f (a .0)) (accepted-fits bytes f (a .0)) r s y (a .1) (a .2) (a .3)
+      fill-is bytes f (file-parsed bytes f (a .0)) (accepted-fits bytes f (a .0)) r s y (a .1) (a .2) (omega (arith, a .3))

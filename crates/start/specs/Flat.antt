@@ -17,6 +17,7 @@ use Rattle.tables.specs.Columns.SymbolTable
 use Rattle.tables.specs.Loops.{turns}
 use Rattle.tables.specs.Table.{setRowF}
 use Rattle.representation.specs.Run.{recordRow}
+use Rattle.mentions.specs.Counters.{addRowsF, onCounts}
 use Rattle.path.specs.declared.Walk.{Walk}
 use Rattle.path.specs.Path.{Tables, tables}
 use Rattle.start.specs.Start.{Begun, begun, ready}
@@ -117,12 +118,18 @@ unfoldable pub admitBy : Surveyed → List ℕ → List ℕ → List ℕ → Sur
 admitBy (Fine l g) r s y =
     if leb (g .records) (length r / RecordTable.Numbers)
     then (if leb (g .scopes) (length s / ScopeTable.Numbers)
-    then (if leb (g .symbols) (length y / SymbolTable.Numbers) then Fine l g else RefusedSurvey Refusal.FewRows 2)
+    then (if leb (g .symbols) (length y / SymbolTable.Lent) then Fine l g else RefusedSurvey Refusal.FewRows 2)
     else RefusedSurvey Refusal.FewRows 1)
     else RefusedSurvey Refusal.FewRows 0
 admitBy (RefusedSurvey c p) r s y = RefusedSurvey c p
 
+-- the counts of the symbols, of all rows to visit
+unfoldable pub countedF : Tables → Tables
+countedF q =
+    let w = q .walk in
+    tables (q .records) (q .scopes) (onCounts (addRowsF (q .records) (w .gap .0) (w .end .0)) (q .symbols)) w
+
 -- and the tables
 unfoldable pub startBy : Surveyed → List ℕ → List ℕ → List ℕ → List ℕ → Begun
-startBy (Fine l g) bytes r s y = ready (fillF bytes l (min (g .records) 65535) r s y)
+startBy (Fine l g) bytes r s y = ready (countedF (fillF bytes l (min (g .records) 65535) r s y))
 startBy (RefusedSurvey c p) bytes r s y = begun (Refused c p) r s y

@@ -4,3 +4,4 @@ pub mod Flat
 pub mod Rows
 pub mod Records
 pub mod Filled
+pub mod Counted

@@ -1,7 +1,7 @@
 // A checked file read into the lent tables, or its refusal.
 //
 // A refused file leaves the tables as they are. Otherwise they are cleared: the scope and symbol rows stand first in their tables, and the
-// records behind the free rows in theirs.
+// records behind the free rows in theirs. The counts of symbols stand behind the rows for which their table has numbers.
 use checking::Layout;
 use checking::Surveyed;
 use fields::NUMBER_A;
@@ -210,7 +210,7 @@ pub fn admit(file: &[u8], records: &[u16], scopes: &[u16], symbols: &[u16]) -> S
     if ((scopes.len() / scope::NUMBERS) as u64) < g.scopes {
         return Surveyed::Refused(refusal::FEW_ROWS, 1);
     }
-    if ((symbols.len() / symbol::NUMBERS) as u64) < g.symbols {
+    if ((symbols.len() / symbol::LENT) as u64) < g.symbols {
         return Surveyed::Refused(refusal::FEW_ROWS, 2);
     }
     Surveyed::Fine(l, g)
@@ -225,7 +225,9 @@ pub fn start(file: &[u8], records: &mut [u16], scopes: &mut [u16], symbols: &mut
 {
     match admit(file, records, scopes, symbols) {
         Surveyed::Fine(l, g) => {
-            Started::Ready(fill(file, l, capped(g.records), records, scopes, symbols))
+            let walk = fill(file, l, capped(g.records), records, scopes, symbols);
+            mentions::count_rows(symbols, records, walk.gap, walk.end);
+            Started::Ready(walk)
         }
         Surveyed::Refused(c, p) => Started::Refused(c, p),
     }

@@ -1,5 +1,5 @@
 // A line that begins with # is printed as it is, and `zeros` is a file that is too long; any other is a file in the notation of 01, and an
-// empty one the empty file. What comes of it is printed. The tables lent have 64 records, 24 scopes and 16 symbols, the output 700 bytes:
+// empty one the empty file. What comes of it is printed. The tables lent have 64 records, 24 scopes and 16 symbols, the output 724 bytes:
 // enough for every case but those that show refusals 9 and 10.
 use figures::FinalFigures;
 use lowering::Lowered;
@@ -40,8 +40,8 @@ fn show_refusal(number: u8, place: usize) {
 fn show_lowered(file: &[u8]) {
     let mut records = [0u16; 448];
     let mut scopes = [0u16; 48];
-    let mut symbols = [0u16; 80];
-    let mut out = [0u8; 700];
+    let mut symbols = [0u16; 96];
+    let mut out = [0u8; 724];
     match lowering::lower(file, &mut records, &mut scopes, &mut symbols, &mut out) {
         Lowered::Written(f) => show_written(f, &out),
         Lowered::Refused(number, place) => show_refusal(number, place),

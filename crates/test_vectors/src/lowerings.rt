@@ -62,7 +62,7 @@ fn replay_lent(
 ) -> bool {
     let mut records = [0u16; 28679];
     let mut scopes = [0u16; 2050];
-    let mut symbols = [0u16; 5125];
+    let mut symbols = [0u16; 6150];
     if 4096 < r {
         return false;
     }
@@ -78,7 +78,7 @@ fn replay_lent(
         at,
         &mut records[..(r * 7 + r % 7)],
         &mut scopes[..(s * 2 + s % 2)],
-        &mut symbols[..(y * 5 + y % 5)],
+        &mut symbols[..(y * 6 + y % 6)],
         out,
     )
 }

@@ -142,6 +142,8 @@ fn replay_requests(room: &mut [u8]) {
     replay(b"letter_visits.txt", Form::Walks, room);
     replay(b"imports.txt", Form::Lowerings, room);
     replay(b"import_visits.txt", Form::Walks, room);
+    replay(b"counts.txt", Form::Lowerings, room);
+    replay(b"count_visits.txt", Form::Walks, room);
 }
 
 fn replay_all(room: &mut [u8]) {

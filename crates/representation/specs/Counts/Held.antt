@@ -1,19 +1,24 @@
 -- Counts behind the rows of a symbol table that holds a store.
 -- Assumes nothing.
 use mathlib.Core.Path.{_≡_, refl, sym, ap, ap₂, _∙_}
-use mathlib.Core.List.{List, [], _∷_, _++_}
+use mathlib.Core.List.{List, [], _∷_, _++_, append-assoc, append-nil}
 use Prim.Native.Nat.{ℕ, _+_, _*_}
 use native.Mathlib.Omega.{arith}
-use lib.ListN.{length, getD, drop}
+use lib.ListN.{length, getD, drop, length-append}
 use lib.Seq.{take-at, drop-at}
+use Rattle.meaning.specs.Tree.{Head}
 use Rattle.meaning.specs.File.{Symbol}
 use Rattle.meaning.specs.Scoping.{noSymbol}
 use Rattle.meaning.specs.Walk.{Spot, storeAt}
 use Rattle.tables.specs.Columns.SymbolTable
 use Rattle.tables.specs.Table.{countsAt}
-use Rattle.mentions.specs.Counters.{onCounts}
+use Rattle.tables.specs.Loops.{turns}
+use Rattle.mentions.specs.Counters.{counting, nextRow, onCounts}
+use Rattle.mentions.specs.Sums.{all}
+use Rattle.representation.specs.Gap.Cells.{free, length-free}
 use Rattle.representation.specs.Store.Held.{symbolCells}
-use Rattle.representation.specs.Spots.Spots.{Rest, held}
+use Rattle.representation.specs.Spots.Spots.{visitedAt, restAt, Rest, walkAt, held}
+use Rattle.representation.specs.Counts.Rows.{heads, some-rows}
 
 -- the rest of the tables, with counts behind the symbol rows
 abbrev pub withCounts : Rest → List ℕ → Rest
@@ -45,3 +50,23 @@ on-held f s g z c e =
     let rows = symbolCells (st .symbols) (st .asRead) (z .symbols) in
     let split = cells-++ (st .symbols) (st .asRead) (z .symbols) in
     ap (onCounts f) (split c) ∙ on-behind f rows c (rw (split c) at e) ∙ sym (split (f c))
+
+-- ---- rows of a held spot, one after the other
+
+module _ (one : List ℕ → Head → List ℕ) (s : Spot) (g : ℕ) (z : Rest) where
+  -- the visited ones behind some of them
+  pub visited-rows : (ps qs : List Head) (t : List ℕ) (from many : ℕ) → heads (visitedAt s) ≡ ps ++ qs → from ≡ length ps → many ≡ length qs
+      → turns many (nextRow one (held s g z .records)) (counting t from) .t ≡ all one t qs
+  unfolding held
+  visited-rows ps qs t from many e f m =
+      some-rows one (z .records) [] (visitedAt s) (free g ++ restAt s) ps qs [] t from many (e ∙ ap (_++_ ps) (sym (append-nil qs))) (omega arith) m
+
+  -- the first of those to visit
+  pub rest-rows : (qs ws : List Head) (t : List ℕ) (many : ℕ) → heads (restAt s) ≡ qs ++ ws → many ≡ length qs
+      → turns many (nextRow one (held s g z .records)) (counting t (held s g z .walk .gap .0)) .t ≡ all one t qs
+  unfolding held walkAt
+  rest-rows qs ws t many e m =
+      let before = visitedAt s ++ free g in
+      let rows : visitedAt s ++ (free g ++ restAt s) ≡ before ++ (restAt s ++ []) = simp (append-assoc, append-nil) in
+      rw rows
+      (some-rows one (z .records) before (restAt s) [] [] qs ws t _ many e (omega (arith, length-append (visitedAt s) (free g), length-free g)) m)

@@ -12,7 +12,7 @@ use Rattle.start.proofs.put_records.Tie as tie
 
 abbrev Inv-loop : tie.InvT-loop
 Inv-loop file records₀ free end tree at₀ k₀ records at k =
-    (free ≤ k) × (at ≤ 65535 + 11 * k) × (length records ≡ length records₀)
+    (free ≤ k) × (at ≤ 65535 + 13 * k) × (length records ≡ length records₀)
     × (turns (end - free) (nextRecord file) (filling records₀ tree free) ≡ turns (end - k) (nextRecord file) (filling records at k))
 
 abbrev μ-loop : tie.MeasureT-loop
