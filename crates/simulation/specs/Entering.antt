@@ -65,7 +65,7 @@ catches inSwitch (more h k r) p = (p .0 .handler, catches inSwitch r (p .2))
 
 -- ---- by the tag
 
-tag-is : (done : Forest) (h : Head) (k r : Forest) (path : List Crumb) (st : Store) (g : ℕ) (z : Rest)
+pub tag-is : (done : Forest) (h : Head) (k r : Forest) (path : List Crumb) (st : Store) (g : ℕ) (z : Rest)
     → (let q = held (at done h k r path st) g z in columnF (q .records) (q .walk .gap .0) 0 ≡ h .tag)
 unfolding rowF
 tag-is done h k r path st g z = ap (λ (x : Row). x .tag) (row-is done h k r path st g z)

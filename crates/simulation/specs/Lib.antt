@@ -6,6 +6,7 @@ pub mod Others
 pub mod Entering
 pub mod Visit
 pub mod Visits
+pub mod Parts
 pub mod Calls
 pub mod Started
 pub mod Rewritten

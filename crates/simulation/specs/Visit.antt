@@ -61,7 +61,7 @@ use Rattle.simulation.specs.Entering.{catches, rewrite-law, enter-kept}
 -- ---- where the walk stands
 
 -- before a record the innermost open record has children to enter
-not-leaving : (done : Forest) (h : Head) (k r : Forest) (path : List Crumb) (st : Store) (g : ℕ) (z : Rest)
+pub not-leaving : (done : Forest) (h : Head) (k r : Forest) (path : List Crumb) (st : Store) (g : ℕ) (z : Rest)
     → (let q = held (at done h k r path st) g z in isLeavingF (q .records) (q .walk) ≡ false)
 unfolding isLeavingF held walkAt visitedAt opensAt openRowsOf
 not-leaving done h k r [] st g z = refl
@@ -77,7 +77,7 @@ not-leaving done h k r (crumb h₁ before after ∷ path) st g z =
     (ne-eqb l 0 (λ e. omega arith))
 
 -- at the end of a StaticBlock it has none
-is-leaving : (kids : Forest) (h : Head) (before after : Forest) (path : List Crumb) (st : Store) (g : ℕ) (z : Rest)
+pub is-leaving : (kids : Forest) (h : Head) (before after : Forest) (path : List Crumb) (st : Store) (g : ℕ) (z : Rest)
     → (let q = held (leaving kids h before after path st) g z in isLeavingF (q .records) (q .walk) ≡ true)
 unfolding isLeavingF held walkAt visitedAt opensAt
 is-leaving kids h before after path st g z =

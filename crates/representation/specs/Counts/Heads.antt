@@ -26,7 +26,7 @@ unfoldable pub afterHeads : List Crumb → List Head
 afterHeads [] = []
 afterHeads (crumb h before after ∷ path) = headsOf after ++ afterHeads path
 
-open-heads : (path : List Crumb) (n left : ℕ) → heads (openRowsOf path n left) ≡ openHeads path
+pub open-heads : (path : List Crumb) (n left : ℕ) → heads (openRowsOf path n left) ≡ openHeads path
 unfolding openRowsOf openHeads heads
 open-heads [] n left = refl
 open-heads (crumb h before after ∷ path) n left =
