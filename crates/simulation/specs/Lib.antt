@@ -7,6 +7,7 @@ pub mod Entering
 pub mod Visit
 pub mod Visits
 pub mod Parts
+pub mod Counted
 pub mod Calls
 pub mod Started
 pub mod Rewritten

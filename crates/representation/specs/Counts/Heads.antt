@@ -3,13 +3,15 @@
 use mathlib.Core.Path.{_≡_, refl, sym, ap, ap₂, _∙_}
 use mathlib.Core.Bool.{Bool, true, false}
 use mathlib.Core.List.{List, [], _∷_, _++_, append-assoc, append-nil}
-use Prim.Native.Nat.{ℕ}
+use Prim.Native.Nat.{ℕ, _+_}
+use native.Mathlib.Omega.{arith}
 use lib.ListN.{length}
-use Rattle.meaning.specs.Tree.{if_then_else_, Head, Forest, none, more, one, Node, single, count, _&_}
+use Rattle.meaning.specs.Tree.{if_then_else_, Head, Forest, none, more, one, count, _&_}
+use Rattle.meaning.specs.Mentions.{mentions}
 use Rattle.meaning.specs.Scoping.{Store}
-use Rattle.meaning.specs.Walk.{isStaticBlock, Crumb, crumb, Spot, at, leaving, over, settle, opened, closed}
+use Rattle.meaning.specs.Walk.{isStaticBlock, Crumb, crumb, Spot, at, leaving, over, settle, plug, treeAt}
 use Rattle.tables.specs.declared.Row.{Row}
-use Rattle.mentions.specs.Sums.{headsOf}
+use Rattle.mentions.specs.Sums.{headsOf, namedBy, named-++, named-heads}
 use Rattle.representation.specs.Gap.Cells.{rowsOf}
 use Rattle.representation.specs.Spots.Spots.{openLine, openRowsOf, afterRowsOf, opensAt, visitedAt, restAt}
 use Rattle.representation.specs.Counts.Rows.{heads, heads-++, heads-rows, heads-&}
@@ -93,3 +95,48 @@ settle-stands [] done (more h k r) st = at-stands done h k r [] st
 settle-stands (crumb h before after ∷ path) done none st =
     settle-if (isStaticBlock h) done h before after path st refl (settle-stands path (before & one h done) after st)
 settle-stands (crumb h before after ∷ path) done (more h₁ k₁ r₁) st = at-stands done h₁ k₁ r₁ (crumb h before after ∷ path) st
+
+-- ---- mentions
+
+mentions-& : (y : ℕ) (f g : Forest) → mentions y (f & g) ≡ mentions y f + mentions y g
+unfolding mentions _&_
+mentions-& y none g = omega arith
+mentions-& y (more h k r) g = omega (arith, mentions-& y r g)
+
+plug-mentions : (y : ℕ) (path : List Crumb) (f : Forest)
+    → mentions y (plug f path) ≡ namedBy y (openHeads path) + (mentions y f + namedBy y (afterHeads path))
+unfolding plug openHeads afterHeads namedBy mentions
+plug-mentions y [] f = omega arith
+plug-mentions y (crumb h before after ∷ path) f =
+    omega (
+      arith,
+      plug-mentions y path (before & more h f after),
+      mentions-& y before (more h f after),
+      named-++ y (openHeads path) (headsOf before ++ h ∷ []),
+      named-++ y (headsOf before) (h ∷ []),
+      named-++ y (headsOf after) (afterHeads path),
+      named-heads y before,
+      named-heads y after,
+    )
+
+stands-mentions : (y : ℕ) {done f : Forest} {path : List Crumb} {s : Spot} (g : Forest) → Stands done f path s
+    → mentions y g ≡ mentions y done + mentions y f
+    → mentions y (plug g path) ≡ namedBy y (heads (visitedAt s)) + namedBy y (heads (restAt s))
+stands-mentions y {done} {f} {path} g i e =
+    rw (i .visited, i .rest)
+    (omega (
+      arith,
+      plug-mentions y path g,
+      named-++ y (openHeads path) (headsOf done),
+      named-++ y (headsOf f) (afterHeads path),
+      named-heads y done,
+      named-heads y f,
+    ))
+
+-- THE MENTIONS OF A SPOT'S TREE are those of its rows.
+pub spot-mentions : (y : ℕ) (s : Spot) → mentions y (treeAt s) ≡ namedBy y (heads (visitedAt s)) + namedBy y (heads (restAt s))
+unfolding treeAt plug mentions
+spot-mentions y (at done h k r path st) =
+    stands-mentions y (done & more h k r) (at-stands done h k r path st) (mentions-& y done (more h k r))
+spot-mentions y (leaving kids h before after path st) = stands-mentions y kids (leaving-stands kids h before after path st) (omega arith)
+spot-mentions y (over tree st) = stands-mentions y tree (over-stands tree st) (omega arith)
