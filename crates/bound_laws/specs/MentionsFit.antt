@@ -97,7 +97,12 @@ namings-fit b f k e =
     completed-keeps (λ (t : Forest). namings t ≤ 65535) s (omega (arith, w, m))
     (omega (arith, w, m, import-most (storeAt s .helper) (treeAt s)))
 
--- THE MENTIONS. So do those of each symbol.
+-- THE MENTIONS. So do those of each symbol, before the line is put, too.
+pub visits-mentions-fit : (b : List ℕ) (f : File) (k y : ℕ) → readFile b ≡ accepted f → 1 ≤ y → mentions y (treeAt (visits k (start f))) ≤ 65535
+visits-mentions-fit b f k y e l =
+    let t = treeAt (visits k (start f)) in
+    omega (arith, mentions-most y t l, weight-most plain t, mentioned-room b f k e)
+
 pub mentions-fit : (b : List ℕ) (f : File) (k y : ℕ) → readFile b ≡ accepted f → 1 ≤ y
     → mentions y (treeAt (completed (visits k (start f)))) ≤ 65535
 mentions-fit b f k y e l =

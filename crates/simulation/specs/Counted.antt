@@ -44,7 +44,7 @@ use Rattle.simulation.specs.Visits.{heldIn}
 
 -- ---- counts behind free rows
 
-free-++ : (n : ℕ) (z c : List ℕ) → freeSymbols n (z ++ c) ≡ freeSymbols n z ++ c
+pub free-++ : (n : ℕ) (z c : List ℕ) → freeSymbols n (z ++ c) ≡ freeSymbols n z ++ c
 unfolding freeSymbols
 free-++ zero z c = refl
 free-++ (suc n) z c = ap (λ (t : List ℕ). 0 ∷ 0 ∷ 0 ∷ 0 ∷ 0 ∷ t) (free-++ n z c)
@@ -89,7 +89,7 @@ module _ (x : Figures) (z : Rest) (n : ℕ) where
   abbrev pub countedIn : Spot → Tables
   countedIn s = withIn (countsFrom (λ y. mentions y (treeAt s)) n 1) s
 
-  on-counts : (f : List ℕ → List ℕ) (c : List ℕ) (s : Spot) → Placed → length (storeAt s .symbols) ≤ x .symbols → length c ≡ n
+  pub on-counts : (f : List ℕ → List ℕ) (c : List ℕ) (s : Spot) → Placed → length (storeAt s .symbols) ≤ x .symbols → length c ≡ n
       → onCounts f (withIn c s .symbols) ≡ withIn (f c) s .symbols
   unfolding held
   on-counts f c s placed most l =

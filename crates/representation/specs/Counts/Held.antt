@@ -54,12 +54,18 @@ on-held f s g z c e =
 -- ---- rows of a held spot, one after the other
 
 module _ (one : List ℕ → Head → List ℕ) (s : Spot) (g : ℕ) (z : Rest) where
-  -- the visited ones behind some of them
-  pub visited-rows : (ps qs : List Head) (t : List ℕ) (from many : ℕ) → heads (visitedAt s) ≡ ps ++ qs → from ≡ length ps → many ≡ length qs
+  -- some of the visited ones
+  pub some-visited : (ps qs ws : List Head) (t : List ℕ) (from many : ℕ) → heads (visitedAt s) ≡ ps ++ (qs ++ ws) → from ≡ length ps
+      → many ≡ length qs
       → turns many (nextRow one (held s g z .records)) (counting t from) .t ≡ all one t qs
   unfolding held
-  visited-rows ps qs t from many e f m =
-      some-rows one (z .records) [] (visitedAt s) (free g ++ restAt s) ps qs [] t from many (e ∙ ap (_++_ ps) (sym (append-nil qs))) (omega arith) m
+  some-visited ps qs ws t from many e f m =
+      some-rows one (z .records) [] (visitedAt s) (free g ++ restAt s) ps qs ws t from many e (omega arith) m
+
+  -- those behind some of them
+  pub visited-rows : (ps qs : List Head) (t : List ℕ) (from many : ℕ) → heads (visitedAt s) ≡ ps ++ qs → from ≡ length ps → many ≡ length qs
+      → turns many (nextRow one (held s g z .records)) (counting t from) .t ≡ all one t qs
+  visited-rows ps qs t from many e f m = some-visited ps qs [] t from many (e ∙ ap (_++_ ps) (sym (append-nil qs))) f m
 
   -- the first of those to visit
   pub rest-rows : (qs ws : List Head) (t : List ℕ) (many : ℕ) → heads (restAt s) ≡ qs ++ ws → many ≡ length qs
