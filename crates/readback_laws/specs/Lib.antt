@@ -12,3 +12,5 @@ pub mod Childless
 pub mod Written
 -- The Loads written are those read and one for each context.
 pub mod Loads
+-- The counts written are those of the tree, for a reader of the bytes.
+pub mod Counted

@@ -220,7 +220,7 @@ module _ (p : ℕ → Bool) where
 no-scope : (t : ℕ) → isRecord t ≡ true → eqb t Tag.Scope ≡ false
 no-scope t e = ne-eqb t Tag.Scope (λ d. omega (arith, leb-true t 29 e))
 
-no-symbol : (t : ℕ) → isRecord t ≡ true → eqb t Tag.Symbol ≡ false
+pub no-symbol : (t : ℕ) → isRecord t ≡ true → eqb t Tag.Symbol ≡ false
 no-symbol t e = ne-eqb t Tag.Symbol (λ d. omega (arith, leb-true t 29 e))
 
 -- Of the written fields, as many are records, scope rows and symbol rows as the file has.
