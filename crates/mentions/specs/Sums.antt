@@ -211,7 +211,7 @@ known-counts count n t e known =
     (λ i l. let d : 1 + i - 1 ≡ i = omega arith in rw d at (known (1 + i) (omega arith) (omega arith)))
 
 -- and the other way
-from-at : (count : ℕ → ℕ) (n y i : ℕ) → i < n → getD (countsFrom count n y) i 0 ≡ count (y + i)
+pub from-at : (count : ℕ → ℕ) (n y i : ℕ) → i < n → getD (countsFrom count n y) i 0 ≡ count (y + i)
 unfolding countsFrom
 from-at count zero y i l = absurd (omega arith)
 from-at count (suc n) y zero l = let z : y + 0 ≡ y = omega arith in rw z

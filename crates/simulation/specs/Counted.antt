@@ -1,11 +1,13 @@
 -- A visit that keeps the counts of symbols leaves those of the tree after it.
 -- Assumes nothing.
-use mathlib.Core.Path.{_≡_, refl, sym, ap, _∙_}
+use mathlib.Core.Path.{_≡_, refl, sym, ap, ap₂, _∙_}
 use mathlib.Core.Bool.{false}
 use mathlib.Core.List.{List, [], _∷_, _++_}
-use Prim.Native.Nat.{ℕ, zero, suc, _+_, _*_, _-_, _/_, _≤_}
+use Prim.Native.Nat.{ℕ, zero, suc, _+_, _*_, _-_, _/_, _≤_, _<_}
+use native.Mathlib.Nat.{zero-add}
 use native.Mathlib.Omega.{arith}
-use lib.ListN.{length, length-append}
+use lib.ListN.{length, getD, length-append}
+use lib.Seq.{getD-append-add}
 use Rattle.meaning.specs.Tree.{Head, size}
 use Rattle.meaning.specs.Mentions.{mentions}
 use Rattle.meaning.specs.Walk.{Spot, isOver, visit, treeAt, storeAt}
@@ -25,6 +27,7 @@ use Rattle.mentions.specs.Sums.{
   taken-at,
   countsFrom,
   known-counts,
+  from-at,
   count-at,
   counts-length,
 }
@@ -33,7 +36,8 @@ use Rattle.representation.specs.Store.Held.{symbolCells}
 use Rattle.representation.specs.Spots.Spots.{visitedAt, restAt, Rest, walkAt, held}
 use Rattle.representation.specs.Counts.Rows.{heads, heads-length}
 use Rattle.representation.specs.Counts.Heads.{spot-mentions}
-use Rattle.representation.specs.Counts.Held.{withCounts, cells-length, on-held, visited-rows, rest-rows}
+use Rattle.representation.specs.Counts.Held.{withCounts, cells-++, cells-length, on-held, visited-rows, rest-rows}
+use Rattle.representation.specs.Shown.Shown.{listFrom, countsIn}
 use Rattle.scoping_laws.specs.Created.Held.{freeSymbols}
 use Rattle.walk.specs.Visit.{visitF}
 use Rattle.walk.specs.Counted.{partF, discountPartF, countPartF, visitCountedF, visit-steps}
@@ -71,6 +75,19 @@ cap-most x a u e = omega arith
 two-capped : (x a b u v m : ℕ) → u ≡ capped x a → v ≡ capped u b → m ≡ x + a + b → m ≤ 65535 → v ≡ m
 unfolding capped
 two-capped x a b u v m e d s f = omega arith
+
+list-same : (f count : ℕ → ℕ) (n i y : ℕ) → ((j : ℕ) → j < n → f (i + j) ≡ count (y + j)) → listFrom f i n ≡ countsFrom count n y
+unfolding listFrom countsFrom
+list-same f count zero i y e = refl
+list-same f count (suc n) i y e =
+    let i₀ : i + 0 ≡ i = omega arith in
+    let y₀ : y + 0 ≡ y = omega arith in
+    ap₂ _∷_ (rw (i₀, y₀) at (e 0 (omega arith)))
+    (list-same f count n (i + 1) (suc y)
+    (λ j l.
+    let i₁ : i + 1 + j ≡ i + suc j = omega arith in
+    let y₁ : suc y + j ≡ y + suc j = omega arith in
+    rw (i₁, y₁) (e (suc j) (omega arith))))
 
 -- The tables of a spot, with n counts behind x's symbol rows and z.
 module _ (x : Figures) (z : Rest) (n : ℕ) where
@@ -268,3 +285,43 @@ module _ (x : Figures) (z : Rest) (n : ℕ) where
       visit-counted visits fits =
           sym (visit-steps (countedIn s) (withIn taken (visit s)) _ _ _ refl (sym discounted) (sym (visits (withCounts z taken))) (sym counted))
           ∙ ap (λ (c : List ℕ). withIn c (visit s)) (counts-after fits)
+
+  -- ---- what a reader finds
+
+  module _ (s : Spot) (placed : Placed) (most : length (storeAt s .symbols) ≤ x .symbols) where
+    -- the symbol rows, the free ones and z
+    abbrev rowsBefore : List ℕ
+    rowsBefore =
+        let st = storeAt s in
+        symbolCells (st .symbols) (st .asRead) (freeSymbols (x .symbols - length (st .symbols)) (z .symbols))
+
+    before-long : length rowsBefore ≡ before
+    before-long =
+        let st = storeAt s in
+        let free = x .symbols - length (st .symbols) in
+        cells-length (st .symbols) (st .asRead) (freeSymbols free (z .symbols)) ∙ omega (arith, free-length free (z .symbols))
+
+    behind-rows : (c : List ℕ) → withIn c s .symbols ≡ rowsBefore ++ c
+    unfolding held
+    behind-rows c =
+        let st = storeAt s in
+        let free = x .symbols - length (st .symbols) in
+        ap (symbolCells (st .symbols) (st .asRead)) (free-++ free (z .symbols) c)
+        ∙ cells-++ (st .symbols) (st .asRead) (freeSymbols free (z .symbols)) c
+
+    count-shown : (c : List ℕ) → length c ≡ n → (i : ℕ) → getD (withIn c s .symbols) (countsAt (withIn c s .symbols) + i) 0 ≡ getD c i 0
+    count-shown c l i =
+        let long : length (rowsBefore ++ c) ≡ before + n = length-append rowsBefore c ∙ omega (arith, before-long) in
+        rw (behind-rows c, placed-at (rowsBefore ++ c) before n long placed, ← before-long) (getD-append-add rowsBefore c i 0)
+
+    -- THE COUNTS of the symbol rows are those of the tree.
+    pub counts-shown : length (storeAt s .symbols) ≤ n
+        → countsIn (countedIn s) ≡ countsFrom (λ y. mentions y (treeAt s)) (length (storeAt s .symbols)) 1
+    unfolding countsIn held walkAt
+    counts-shown few =
+        let counts = countsFrom (λ y. mentions y (treeAt s)) n 1 in
+        list-same _ _ (length (storeAt s .symbols)) 0 1
+        (λ i l.
+        count-shown counts (counts-length (λ y. mentions y (treeAt s)) n 1) (0 + i)
+        ∙ ap (λ (j : ℕ). getD counts j 0) (zero-add i)
+        ∙ from-at (λ y. mentions y (treeAt s)) n 1 i (omega arith))

@@ -24,7 +24,7 @@ use Rattle.representation.specs.Counts.Rows.{heads, some-rows}
 abbrev pub withCounts : Rest → List ℕ → Rest
 withCounts z c = record { records = z .records; scopes = z .scopes; symbols = z .symbols ++ c }
 
-cells-++ : (ys rs : List Symbol) (z c : List ℕ) → symbolCells ys rs (z ++ c) ≡ symbolCells ys rs z ++ c
+pub cells-++ : (ys rs : List Symbol) (z c : List ℕ) → symbolCells ys rs (z ++ c) ≡ symbolCells ys rs z ++ c
 unfolding symbolCells
 cells-++ [] rs z c = refl
 cells-++ (y ∷ ys) rs z c =

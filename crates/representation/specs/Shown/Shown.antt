@@ -1,4 +1,4 @@
--- What a reader of the tables finds in them: the records of the tree in file order, the scope rows and the symbol rows.
+-- What a reader of the tables finds in them: the records of the tree in file order, the scope rows, the symbol rows, and how often these are named.
 -- Assumes nothing.
 use mathlib.Core.List.{List, [], _∷_, _++_}
 use Prim.Native.Nat.{ℕ, zero, suc, _+_, _*_, _-_}
@@ -6,7 +6,7 @@ use lib.ListN.{getD}
 use Rattle.tables.specs.Columns.SymbolTable
 use Rattle.meaning.specs.Tree.{Row, row}
 use Rattle.meaning.specs.File.{Scope, scopeRow, Symbol, symbolRow}
-use Rattle.tables.specs.Table.{rowF, headF}
+use Rattle.tables.specs.Table.{rowF, headF, countsAt}
 use Rattle.path.specs.Path.{Tables}
 
 -- so many of something, from the number i on
@@ -31,9 +31,13 @@ scopeIn t i = scopeRow (getD t (i * 2) 0) (getD t (i * 2 + 1) 0)
 unfoldable pub scopesIn : Tables → List Scope
 scopesIn q = listFrom (scopeIn (q .scopes)) 0 (q .walk .ctx .scopes)
 
--- the fifth number of a symbol is its scope as read
+-- the fifth number of a symbol row in the table is its scope as read
 abbrev pub symbolIn : List ℕ → ℕ → Symbol
 symbolIn t i = symbolRow (getD t (i * SymbolTable.Numbers) 0) (getD t (i * SymbolTable.Numbers + 1) 0) (getD t (i * SymbolTable.Numbers + 2) 0) (getD t (i * SymbolTable.Numbers + 3) 0)
 
 unfoldable pub symbolsIn : Tables → List Symbol
 symbolsIn q = listFrom (symbolIn (q .symbols)) 0 (q .walk .ctx .symbols)
+
+-- the counts of the symbol rows, which stand behind the rows for which the table has numbers
+unfoldable pub countsIn : Tables → List ℕ
+countsIn q = listFrom (λ i. getD (q .symbols) (countsAt (q .symbols) + i) 0) 0 (q .walk .ctx .symbols)
