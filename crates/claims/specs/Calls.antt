@@ -27,7 +27,7 @@ use Rattle.charge_laws.specs.Fit.Import.{calls-charged, calls-above}
 use Rattle.tables.specs.Loops.{turns}
 use Rattle.path.specs.Path.{Tables}
 use Rattle.representation.specs.Spots.Spots.{held}
-use Rattle.start.specs.Start.{lentIn, freeRows, zerosBehind}
+use Rattle.start.specs.Start.{lentIn, freeRows, countsBehind}
 use Rattle.start.specs.Filled.{admitted}
 use Rattle.walk.specs.Call.{visitCallF}
 use Rattle.walk.specs.Over.{isOverIn}
@@ -42,7 +42,7 @@ use Rattle.lowering.specs.Law.{final-tagged}
 
 -- the tables that start leaves of an admitted file, and those after k calls for a visit, each on exactly what the one before left
 abbrev pub firstTables : File → List ℕ → List ℕ → List ℕ → Tables
-firstTables f r s y = held (start f) (freeRows f) (zerosBehind f r s y)
+firstTables f r s y = held (start f) (freeRows f) (countsBehind f r s y)
 
 abbrev pub afterCalls : ℕ → File → List ℕ → List ℕ → List ℕ → Tables
 afterCalls k f r s y = turns k visitCallF (firstTables f r s y)

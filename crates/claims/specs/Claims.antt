@@ -11,7 +11,7 @@
 --   visit_some  answers and leaves `visitSomeF`: visits alone (`visitF`), for a loop over many,
 --   lower       answers and leaves `lowerF file records scopes symbols out`.
 -- The claims below are about these same definitions. `readFile`, `figuresOf`, `admit`, `visits`, `visitCalls`, `dues`, `importDues`,
--- `finalFigures`, `finalSpot`, `written` and `lower` are documents 01 and 02 (crate meaning); `visitCharges` tells the charges without the walk.
+-- `finalFigures`, `finalSpot`, `mentions`, `written` and `lower` are documents 01 and 02 (crate meaning); `visitCharges` tells the charges without the walk.
 -- A list of numbers stands for a lent slice; `lentIn r s y` are the rows of tables.
 -- Assumes nothing.
 use mathlib.Core.Path.{_≡_, refl, ap, _∙_}
@@ -23,6 +23,7 @@ use lib.Dec.{eqb, leb}
 use lib.ListN.{length, take, getD}
 use Rattle.meaning.specs.Numbers.Tag
 use Rattle.meaning.specs.Tree.{if_then_else_, hd, Forest, none, more, one, size, flatten}
+use Rattle.meaning.specs.Mentions.{mentions}
 use Rattle.meaning.specs.File.{File, numbersOf, written}
 use Rattle.meaning.specs.Reading.{Outcome, accepted, refused, readFile}
 use Rattle.meaning.specs.Grammar.{moduleLineRight, right}
@@ -39,6 +40,7 @@ use Rattle.charge_laws.specs.VisitCharges.{visitCharges}
 use Rattle.meaning.specs.Lowering.{Lent, Written, checkFile, figuresOf, admit, finalSpot, lower}
 use Rattle.cases.specs.Table.{table, table-holds}
 use Rattle.cases.specs.TableImport.{importTable, imports-hold}
+use Rattle.cases.specs.TableCounts.{countTable, counts-hold}
 use Rattle.cases.specs.TableDepth.{depthTable, depth-holds}
 use Rattle.charge_laws.specs.Counts.Figures.{joined}
 use Rattle.charge_laws.specs.Fit.Accepted.{accepted-dues}
@@ -68,7 +70,9 @@ use Rattle.readback_laws.specs.Back.{Childless, hints-back}
 use Rattle.readback_laws.specs.Childless.{calls-childless}
 use Rattle.readback_laws.specs.Written.{file-written}
 use Rattle.readback_laws.specs.Loads.Written.{isLoad, loads-written}
-use Rattle.representation.specs.Shown.Shown.{recordsIn, scopesIn, symbolsIn}
+use Rattle.parsing.specs.Counted.{readUncounted, symbolOffset, CountsRight, LowestWrong, CountRefused, count-refused, counts-right, count-wrong, counts-accepted, count-lowest}
+use Rattle.representation.specs.Shown.Shown.{recordsIn, scopesIn, symbolsIn, countsIn}
+use Rattle.claims.specs.Counts.{TrueCounts, TrueInBytes, counts-in-tables, counts-in-bytes, calls-mentions-fit}
 use Rattle.claims.specs.Letters.{ButLetters, letters-alone}
 use Rattle.claims.specs.Depth.{readDeep, depthFirst, readBefore, Changed, depth-is-first, answer-changed, still-accepted, once-accepted}
 use Rattle.claims.specs.Refusals.Numbers.{read-numbers, figures-numbers, admit-numbers, lower-numbers}
@@ -399,3 +403,49 @@ depth-accepts bytes f = (still-accepted bytes (answer-changed bytes), once-accep
 -- The cases as a table: at level 65 a wrong tag, length and number, a cut payload, three bytes that are no head, a cut head, no bytes.
 pub depth-cases-hold : map (λ c. lower (c .input) (c .rows) (c .output)) depthTable ≡ map (λ c. c .answer) depthTable
 depth-cases-hold = depth-holds
+
+-- ---- REQUEST 7 of document 02: how often a symbol is named
+
+-- After any number of calls, the import line's among them, the tables show for each symbol row how often the records of the tree name it
+-- (`mentions`); start's tables are those after 0 calls.
+pub counts-true : (bytes r s y : List ℕ) (f : File) → admit bytes (lentIn r s y) ≡ accepted f → (k : ℕ)
+    → TrueCounts (λ k f. countsIn (afterCalls k f r s y)) f k
+counts-true = counts-in-tables
+
+-- Each of these counts fits 16 bits.
+pub counts-fit : (bytes : List ℕ) (f : File) (k y : ℕ) → readFile bytes ≡ accepted f → 1 ≤ y → mentions y (treeAt (visitCalls k (start f))) ≤ 65535
+counts-fit = calls-mentions-fit
+
+-- A lowering that is accepted writes them: in the written bytes the fifth number of each symbol row is how often the records in these bytes name it,
+-- for a reader who counts field by field (`mentionsIn`).
+pub counts-written : (bytes r s y : List ℕ) (f : File) → admit bytes (lentIn r s y) ≡ accepted f → Bytes bytes
+    → TrueInBytes (written (fileAt (finalSpot f)))
+counts-written = counts-in-bytes
+
+-- THE NEW REFUSAL EXACTLY, said of any reader. `readUncounted` makes all checks of reading but the one of counts.
+pub record CountsChecked (read : List ℕ → Outcome File) : Type 0 where
+  -- what it refuses is refused as before
+  pub before : (bytes : List ℕ) (c p : ℕ) → readUncounted bytes ≡ refused c p → read bytes ≡ refused c p
+  -- what it accepts is accepted where every count is right,
+  pub right : (bytes : List ℕ) (f : File) → readUncounted bytes ≡ accepted f → CountsRight bytes f → read bytes ≡ accepted f
+  -- and else refused with 5 at the lowest row with a wrong one
+  pub wrong : (bytes : List ℕ) (f : File) (y : ℕ) → readUncounted bytes ≡ accepted f → LowestWrong bytes f y
+      → read bytes ≡ refused 5 (symbolOffset f y)
+  -- so an accepted file has right counts, and a file that is refused for its counts alone has a lowest wrong one
+  pub accepts : (bytes : List ℕ) (f : File) → read bytes ≡ accepted f → (readUncounted bytes ≡ accepted f) × CountsRight bytes f
+  pub refuses : (bytes : List ℕ) (f : File) (c p : ℕ) → readUncounted bytes ≡ accepted f → read bytes ≡ refused c p → CountRefused bytes f c p
+
+pub count-refusal : CountsChecked readFile
+count-refusal =
+    record {
+      before = count-refused;
+      right = counts-right;
+      wrong = count-wrong;
+      accepts = counts-accepted;
+      refuses = count-lowest;
+    }
+
+-- The cases as a table: every tag that names a symbol, 0, a Step that names one row twice, the lowest of several wrong counts, the checks before and
+-- behind it, and symbol rows of four and of six numbers.
+pub count-cases-hold : map (λ c. lower (c .input) (c .rows) (c .output)) countTable ≡ map (λ c. c .answer) countTable
+count-cases-hold = counts-hold

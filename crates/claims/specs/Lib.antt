@@ -5,6 +5,7 @@ pub mod Desk
 pub mod Depth
 pub mod Letters
 pub mod Import
+pub mod Counts
 pub mod ShutOut
 pub mod Claims
 pub mod Refusals

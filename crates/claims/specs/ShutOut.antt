@@ -4,7 +4,7 @@
 use mathlib.Core.Path.{_≡_, refl, ap, _∙_}
 use mathlib.Core.Bool.{Bool, true, false, not, _||_, _&&_}
 use mathlib.Core.List.{List, [], _∷_, _++_, map}
-use Prim.Native.Nat.{ℕ, zero, suc, _*_, _-_, _/_}
+use Prim.Native.Nat.{ℕ, zero, suc, _+_, _*_, _-_, _/_, _≤_, _<_}
 use native.Mathlib.Omega.{arith}
 use lib.ListN.{length, getD}
 use lib.Dec.{eqb}
@@ -12,7 +12,9 @@ use Rattle.meaning.specs.Numbers.Tag
 use Rattle.meaning.specs.Numbers.KnownName
 use Rattle.meaning.specs.Numbers.Letter
 use Rattle.meaning.specs.Tree.{if_then_else_, Head, hd, Forest, none, more, one, Node, single, size, _&_}
-use Rattle.meaning.specs.File.{File, Symbol, numbersOf, written}
+use Rattle.meaning.specs.Mentions.{mentions}
+use Rattle.meaning.specs.File.{File, Symbol, numbersOf, symbolBytes, written}
+use Rattle.meaning.specs.Grammar.{two}
 use Rattle.meaning.specs.Scoping.{Change}
 use Rattle.meaning.specs.Statements.{wrapInitializer}
 use Rattle.meaning.specs.Contexts.{takeUpCases, transformSwitchStatement}
@@ -27,23 +29,27 @@ use Rattle.meaning.specs.Examples.{nested, deep}
 use Rattle.meaning.specs.Hint.{hintOf, letterOf}
 use Rattle.spec_laws.specs.Tags.{clash}
 use Rattle.fields.specs.Lengths.{lengths}
+use Rattle.parsing.specs.Counted.{readUncounted, firstSymbol, symbolOffset, fifthNumber, CountRight, LowestWrong}
+use Rattle.mentions.specs.Sums.{countsFrom}
 use Rattle.path.specs.Path.{Tables}
 use Rattle.representation.specs.Spots.Spots.{Rest, held}
 use Rattle.walk.specs.Over.{isOverIn}
 use Rattle.simulation.specs.Visit.{over-told}
 use Rattle.hint_laws.specs.Hints.{sumOver, namesOf, ofInitializer, overDeclarators, shown, asInSource, usingsIn, asksFor, asked, called, callsIn, given}
-use Rattle.readback_laws.specs.ReadBack.{numbersIn, fieldsIn, fieldsOf}
+use Rattle.readback_laws.specs.ReadBack.{numbersIn, fieldsIn, fieldsOf, fieldCount}
+use Rattle.readback_laws.specs.Counted.{namesIn, often, mentionsIn, countsSaid}
 use Rattle.readback_laws.specs.Decoded.{recordsOf, rowOf, treesFrom, treeIn}
 use Rattle.claims.specs.Depth.{forestWith, readDeep, depthFirst, readBefore}
 use Rattle.claims.specs.Letters.{takeUpBefore, takeUpCasesBefore, switchBy, switchBefore, unlettered, ButLetters}
 use Rattle.claims.specs.Import.{imports, ImportLine}
-use Rattle.claims.specs.Claims.{DepthFirst}
+use Rattle.claims.specs.Counts.{TrueCounts, TrueInBytes}
+use Rattle.claims.specs.Claims.{DepthFirst, CountsChecked}
 
 -- ---- two files and what is seen of an answer
 
 -- 01's whole case: a using in a block, and none directly in Program
 abbrev whole : List ℕ
-whole = bytes "40:1,0 41:0,16 41:1,0 42:10,6,2,0 1:1,1 2:2,1 5:3,1 6:0,1,2 26:1 24:7,0"
+whole = bytes "40:1,0 41:0,16 41:1,0 42:10,6,2,0,1 1:1,1 2:2,1 5:3,1 6:0,1,2 26:1 24:7,0"
 
 -- an empty Program
 abbrev empty : List ℕ
@@ -76,7 +82,7 @@ whole-accepted : isAccepted (on lower whole) ≡ true
 unfolding computing
 whole-accepted = refl
 
-whole-length : fileLength (on lower whole) ≡ 209
+whole-length : fileLength (on lower whole) ≡ 215
 unfolding computing
 whole-length = refl
 
@@ -97,7 +103,7 @@ withFile file (refused c p) = refused c p
 unfoldable pub copying : Lowering
 copying file lent out = withFile file (lower file lent out)
 
-copied-length : fileLength (on copying whole) ≡ 74
+copied-length : fileLength (on copying whole) ≡ 76
 unfolding copying computing
 copied-length = refl
 
@@ -265,7 +271,7 @@ Weight = List ℕ → List ℕ → ℕ → ℕ
 
 -- a block with an `await using`
 abbrev awaited : List ℕ
-awaited = bytes "40:1,0 41:0,16 41:1,0 42:10,6,2,0 1:1,1 2:2,1 5:4,1 6:0,1,2 26:1 24:7,0"
+awaited = bytes "40:1,0 41:0,16 41:1,0 42:10,6,2,0,1 1:1,1 2:2,1 5:4,1 6:0,1,2 26:1 24:7,0"
 
 -- every using is taken for a plain one
 unfoldable pub askedPlain : Weight → Forest → ℕ
@@ -366,7 +372,7 @@ swapped-not-hinted e = omega (arith, twins-asked, twins-swapped, e ofEight)
 
 -- a module with a using and an exported value
 abbrev exporting : List ℕ
-exporting = bytes "40:1,1 41:0,17 42:10,6,1,0 1:1,2 5:3,1 6:0,1,2 26:1 24:7,0 18:1 24:5,0"
+exporting = bytes "40:1,1 41:0,17 42:10,6,1,0,1 1:1,2 5:3,1 6:0,1,2 26:1 24:7,0 18:1 24:5,0"
 
 -- the row of the first symbol with a name
 unfoldable pub rowNamed : ℕ → ℕ → List Symbol → ℕ
@@ -413,7 +419,7 @@ wrapped-not-hinted e = omega (arith, default-asked, default-wrapped, e anyCalled
 -- an `await using` in a Case, and a `using` in the next
 abbrev cases : List ℕ
 cases =
-    bytes "40:1,0 41:0,16 41:1,0 42:10,6,2,0 42:11,6,2,0 1:1,1 9:2,3 24:0,0 10:0,1 5:4,1 6:0,1,2 26:1 24:7,0 10:0,1 5:3,1 6:0,1,2 26:2 24:8,0"
+    bytes "40:1,0 41:0,16 41:1,0 42:10,6,2,0,1 42:11,6,2,0,1 1:1,1 9:2,3 24:0,0 10:0,1 5:4,1 6:0,1,2 26:1 24:7,0 10:0,1 5:3,1 6:0,1,2 26:2 24:8,0"
 
 abbrev firstHead : Forest → Head
 firstHead none = hd 0 0 0 0
@@ -506,7 +512,7 @@ switchByLetters = switchBy takeUpCases (λ k. callsA (takeUpCases 1 k))
 
 -- a Switch with an `await using` without an initializer
 abbrev bare : File
-bare = fileOf (readFile (bytes "40:1,0 41:0,16 41:1,0 42:10,6,2,0 1:1,1 9:2,2 24:0,0 10:0,1 5:4,1 6:0,1,1 26:1"))
+bare = fileOf (readFile (bytes "40:1,0 41:0,16 41:1,0 42:10,6,2,0,1 1:1,1 9:2,2 24:0,0 10:0,1 5:4,1 6:0,1,1 26:1"))
 
 -- the forms of all Steps
 unfoldable pub steps : Forest → ℕ
@@ -534,10 +540,10 @@ no-letter-step e =
 
 -- a block with a using, in a runtime module and in a script
 abbrev importing : File
-importing = fileOf (readFile (bytes "40:0,1 41:0,16 41:1,0 42:10,6,2,0 1:1,1 2:2,1 5:3,1 6:0,1,2 26:1 24:7,0"))
+importing = fileOf (readFile (bytes "40:0,1 41:0,16 41:1,0 42:10,6,2,0,1 1:1,1 2:2,1 5:3,1 6:0,1,2 26:1 24:7,0"))
 
 abbrev script : File
-script = fileOf (readFile (bytes "40:0,0 41:0,16 41:1,0 42:10,6,2,0 1:1,1 2:2,1 5:3,1 6:0,1,2 26:1 24:7,0"))
+script = fileOf (readFile (bytes "40:0,0 41:0,16 41:1,0 42:10,6,2,0,1 1:1,1 2:2,1 5:3,1 6:0,1,2 26:1 24:7,0"))
 
 -- how many records there are
 abbrev recordsAt : Spot → ℕ
@@ -693,3 +699,119 @@ deep-number = refl
 
 pub no-level-more : DepthFirst oneLevelMore → ⊥
 no-level-more d = omega (arith, more-number, deep-number, ap numberOf (d .deep tooDeepOnly))
+
+-- ---- counts that are not those of the tree (excluded by `counts-true`, `counts-written` and `count-refusal`)
+
+abbrev wholeFile : File
+wholeFile = fileOf (readFile whole)
+
+-- counts as they were read, and 0 for new symbols
+unfoldable pub staleCounts : ℕ → File → List ℕ
+staleCounts k f = countsFrom (λ y. mentions y (f .tree)) (length (storeAt (visitCalls k (start f)) .symbols)) 1
+
+-- the count of the context's symbol, the second, once the block is rewritten
+stale-count : getD (staleCounts 2 wholeFile) 1 0 ≡ 0
+unfolding staleCounts countsFrom computing
+stale-count = refl
+
+true-count : (let s = visitCalls 2 (start wholeFile) in getD (countsFrom (λ y. mentions y (treeAt s)) (length (storeAt s .symbols)) 1) 1 0 ≡ 4)
+unfolding countsFrom computing
+true-count = refl
+
+pub no-stale-counts : TrueCounts staleCounts wholeFile 2 → ⊥
+no-stale-counts e = omega (arith, stale-count, true-count, ap (λ (c : List ℕ). getD c 1 0) e)
+
+-- the lowered file with such counts
+abbrev staleFile : List ℕ
+staleFile =
+    bytes "40:1,0 41:0,16 41:1,0 41:1,2 41:3,0 41:1,0 42:10,6,2,0,1 42:5,1,1,1,0 42:2,17,4,0,0 1:1,1 11:3,3 2:2,2 5:0,1 6:0,1,2 26:2 28:1,0 5:2,1 6:0,1,2 26:1 27:0,2,1 24:7,0 12:3,1,0,2 26:3 2:4,1 29:0,2,3 2:5,1 29:1,2,0"
+
+stale-said : getD (countsSaid (fieldsOf staleFile)) 1 0 ≡ 0
+unfolding countsSaid fieldsOf fieldsIn numbersIn computing
+stale-said = refl
+
+named-there : mentionsIn 2 (fieldsOf staleFile) ≡ 4
+unfolding mentionsIn often namesIn fieldsOf fieldsIn numbersIn computing
+named-there = refl
+
+rows-there : fieldCount (λ t. eqb t Tag.Symbol) (fieldsOf staleFile) ≡ 3
+unfolding fieldCount fieldsOf fieldsIn numbersIn computing
+rows-there = refl
+
+pub no-stale-file : TrueInBytes staleFile → ⊥
+unfolding countsFrom
+no-stale-file e = omega (arith, stale-said, named-there, ap (λ (c : List ℕ). getD c 1 0) (rw rows-there at e))
+
+-- a file in which the second and the third row have wrong counts
+abbrev wrongCounts : List ℕ
+wrongCounts = bytes "40:1,0 41:0,16 42:10,6,1,0,0 42:11,6,1,0,1 42:12,6,1,0,1 1:1,0"
+
+abbrev miscounted : File
+miscounted = fileOf (readUncounted wrongCounts)
+
+but-for-counts : readUncounted wrongCounts ≡ accepted miscounted
+unfolding readUncounted computing
+but-for-counts = refl
+
+three-rows : length (miscounted .symbols) ≡ 3
+unfolding readUncounted computing
+three-rows = refl
+
+second-said : fifthNumber wrongCounts miscounted 2 ≡ 1
+unfolding readUncounted computing
+second-said = refl
+
+second-named : mentions 2 (miscounted .tree) ≡ 0
+unfolding readUncounted computing
+second-named = refl
+
+-- a reader that does not look at counts
+pub no-unread-counts : CountsChecked readUncounted → ⊥
+no-unread-counts c =
+    omega (arith, second-said, second-named, c .accepts wrongCounts miscounted but-for-counts .1 2 (omega arith) (omega (arith, three-rows)))
+
+-- a reader that refuses at the highest wrong row: its number, or 0 if there is none
+unfoldable pub highestWrong : List ℕ → (ℕ → ℕ) → ℕ → ℕ → ℕ → ℕ
+highestWrong f count zero y at = 0
+highestWrong f count (suc n) y at =
+    let higher = highestWrong f count n (suc y) (at + symbolBytes) in
+    if not (eqb higher 0) then higher else if eqb (two f (at + 11)) (count y) then 0 else y
+
+abbrev highest : List ℕ → File → Outcome File
+highest f g =
+    let y = highestWrong f (λ y. mentions y (g .tree)) (length (g .symbols)) 1 (firstSymbol g) in
+    if eqb y 0 then accepted g else refused 5 (symbolOffset g y)
+
+unfoldable pub readHighest : List ℕ → Outcome File
+readHighest f = readUncounted f >>= highest f
+
+-- the place of a refusal, 0 for none
+abbrev placeOf : Outcome File → ℕ
+placeOf (accepted f) = 0
+placeOf (refused c p) = p
+
+highest-place : placeOf (readHighest wrongCounts) ≡ 40
+unfolding readHighest highestWrong readUncounted computing
+highest-place = refl
+
+second-place : symbolOffset miscounted 2 ≡ 27
+unfolding readUncounted computing
+second-place = refl
+
+first-right : (j : ℕ) → 1 ≤ j → j < 2 → CountRight wrongCounts miscounted j
+unfolding readUncounted computing
+first-right zero l m = absurd (omega arith)
+first-right (suc zero) l m = refl
+first-right (suc (suc j)) l m = absurd (omega arith)
+
+second-wrong : LowestWrong wrongCounts miscounted 2
+second-wrong =
+    record {
+      from-one = omega arith;
+      a-row = omega (arith, three-rows);
+      wrong = λ e. omega (arith, second-said, second-named, e);
+      below = first-right;
+    }
+
+pub no-highest-row : CountsChecked readHighest → ⊥
+no-highest-row c = omega (arith, highest-place, second-place, ap placeOf (c .wrong wrongCounts miscounted 2 but-for-counts second-wrong))

@@ -3,20 +3,23 @@
 use mathlib.Core.Path.{_≡_, refl, sym, ap, ap₂, _∙_}
 use mathlib.Core.Bool.{Bool, true, false}
 use mathlib.Core.List.{List, [], _∷_, _++_, append-assoc}
-use Prim.Native.Nat.{ℕ, zero, suc, _+_, _*_, _%_, _≤_}
+use Prim.Native.Nat.{ℕ, zero, suc, _+_, _*_, _%_, _≤_, _<_}
 use native.Mathlib.Omega.{arith}
 use lib.ListN.{length, getD, take, drop}
+use lib.Seq.{getD-append-add}
 use lib.Dec.{leb}
 use borrow.Author.Tests.{leb-true, eqb-true}
 use Rattle.tables.specs.Columns.RecordTable
 use Rattle.tables.specs.Columns.SymbolTable
 use Rattle.meaning.specs.Tree.{if_then_else_, Head, Forest, none, more, count, row, flatten}
+use Rattle.meaning.specs.Mentions.{mentions}
 use Rattle.meaning.specs.File.{
   Scope,
   Symbol,
   numbersOf,
   hasChildren,
   ownNumbers,
+  twoBytes,
   field,
   recordNumbers,
   scopeFields,
@@ -27,14 +30,15 @@ use Rattle.meaning.specs.File.{
 use Rattle.meaning.specs.Scoping.{Store, noSymbol}
 use Rattle.meaning.specs.Walk.{over, storeAt, treeAt, fileAt}
 use Rattle.spec_laws.specs.Tags.{and-left, and-right}
-use Rattle.tables.specs.Table.{columnF, rowF}
+use Rattle.tables.specs.Table.{columnF, rowF, countsAt}
 use Rattle.tables.specs.declared.Row.{Row}
 use Rattle.representation.specs.Gap.Cells.{table, free, line, rowsOf}
 use Rattle.representation.specs.Store.Held.{scopeCells, symbolCells}
 use Rattle.representation.specs.Spots.Spots.{Rest, visitedAt, restAt, walkAt, held}
+use Rattle.representation.specs.Counts.Held.{withCounts, cells-length}
 use Rattle.writing.specs.Writing.{fieldWith, scopeField, symbolField, ownOr, recordField, rowsBytes, recordAt, fileBytes}
 use Rattle.readback_laws.specs.ReadBack.{isRecord, Tagged}
-use Rattle.readback_laws.specs.Length.{complete, record-complete}
+use Rattle.readback_laws.specs.Length.{complete, record-complete, numbers-length}
 
 -- ---- rows behind the first
 
@@ -57,7 +61,7 @@ next-scope p f t k =
     rw (e₀, e₁)
 
 first-scope : (p f : ℕ) (t : List ℕ) → scopeField (p ∷ f ∷ t) 0 ≡ field 41 (p ∷ f ∷ [])
-unfolding scopeField fieldWith numbersOf
+unfolding scopeField fieldWith numbersOf field
 first-scope p f t = refl
 
 scopes-are : (ss : List Scope) (z : List ℕ) → rowsBytes (scopeField (scopeCells ss z)) 0 (length ss) ≡ scopeFields ss
@@ -68,27 +72,58 @@ scopes-are (s ∷ ss) z =
     ap₂ _++_ (first-scope (s .parent) (s .flags) t)
     (behind-first (scopeField (s .parent ∷ s .flags ∷ t)) (scopeField t) (next-scope (s .parent) (s .flags) t) (length ss) ∙ scopes-are ss z)
 
-next-symbol : (a b c d e : ℕ) (t : List ℕ) (k : ℕ) → symbolField (a ∷ b ∷ c ∷ d ∷ e ∷ t) (k + 1) ≡ symbolField t k
-unfolding symbolField
-next-symbol a b c d e t k =
+-- a symbol row, with its count from a column
+unfoldable rowWith : List ℕ → (ℕ → ℕ) → ℕ → List ℕ
+rowWith t column k =
+    let at = k * SymbolTable.Numbers in
+    fieldWith 42 (getD t at 0) (getD t (at + 1) 0) (getD t (at + 2) 0) (getD t (at + 3) 0) ++ twoBytes (column k ∷ [])
+
+next-symbol : (a b c d e : ℕ) (t : List ℕ) (column : ℕ → ℕ) (k : ℕ)
+    → rowWith (a ∷ b ∷ c ∷ d ∷ e ∷ t) column (k + 1) ≡ rowWith t (λ i. column (i + 1)) k
+unfolding rowWith
+next-symbol a b c d e t column k =
     let e₀ : (k + 1) * SymbolTable.Numbers ≡ suc (suc (suc (suc (suc (k * SymbolTable.Numbers))))) = omega arith in
     let e₁ : suc (suc (suc (suc (suc (k * SymbolTable.Numbers))))) + 1 ≡ suc (suc (suc (suc (suc (k * SymbolTable.Numbers + 1))))) = omega arith in
     let e₂ : suc (suc (suc (suc (suc (k * SymbolTable.Numbers))))) + 2 ≡ suc (suc (suc (suc (suc (k * SymbolTable.Numbers + 2))))) = omega arith in
     let e₃ : suc (suc (suc (suc (suc (k * SymbolTable.Numbers))))) + 3 ≡ suc (suc (suc (suc (suc (k * SymbolTable.Numbers + 3))))) = omega arith in
     rw (e₀, e₁, e₂, e₃)
 
-first-symbol : (a b c d e : ℕ) (t : List ℕ) → symbolField (a ∷ b ∷ c ∷ d ∷ e ∷ t) 0 ≡ field 42 (a ∷ b ∷ c ∷ d ∷ [])
-unfolding symbolField fieldWith numbersOf
-first-symbol a b c d e t = refl
+first-symbol : (a b c d e : ℕ) (t : List ℕ) (column : ℕ → ℕ)
+    → rowWith (a ∷ b ∷ c ∷ d ∷ e ∷ t) column 0 ≡ field 42 (a ∷ b ∷ c ∷ d ∷ column 0 ∷ [])
+unfolding rowWith fieldWith numbersOf field twoBytes
+first-symbol a b c d e t column = refl
 
-symbols-are : (ys rs : List Symbol) (z : List ℕ) → rowsBytes (symbolField (symbolCells ys rs z)) 0 (length ys) ≡ symbolFields ys
+-- rows whose counts are known, from row n on
+symbols-are : (count column : ℕ → ℕ) (n : ℕ) (ys rs : List Symbol) (z : List ℕ) → ((k : ℕ) → k < length ys → column k ≡ count (n + k))
+    → rowsBytes (rowWith (symbolCells ys rs z) column) 0 (length ys) ≡ symbolFields count n ys
 unfolding rowsBytes symbolCells symbolFields
-symbols-are [] rs z = refl
-symbols-are (y ∷ ys) rs z =
+symbols-are count column n [] rs z known = refl
+symbols-are count column n (y ∷ ys) rs z known =
     let t = symbolCells ys (drop 1 rs) z in
     let r = getD rs 0 noSymbol .scope in
-    ap₂ _++_ (first-symbol (y .name) (y .flags) (y .scope) (y .made) r t)
-    (behind-first _ (symbolField t) (next-symbol (y .name) (y .flags) (y .scope) (y .made) r t) (length ys) ∙ symbols-are ys (drop 1 rs) z)
+    let n₀ : n + 0 ≡ n = omega arith in
+    let later : (k : ℕ) → k < length ys → column (k + 1) ≡ count (suc n + k) =
+    λ k l. let s : suc n + k ≡ n + (k + 1) = omega arith in rw s (known (k + 1) (omega arith)) in
+    ap₂ _++_
+    (first-symbol (y .name) (y .flags) (y .scope) (y .made) r t column
+    ∙ ap (λ (v : ℕ). field 42 (y .name ∷ y .flags ∷ y .scope ∷ y .made ∷ v ∷ [])) (rw n₀ at (known 0 (omega arith))))
+    (behind-first _ (rowWith t (λ i. column (i + 1))) (next-symbol (y .name) (y .flags) (y .scope) (y .made) r t column) (length ys)
+    ∙ symbols-are count (λ i. column (i + 1)) (suc n) ys (drop 1 rs) z later)
+
+-- what stands behind the rows
+behind-cells : (ys rs : List Symbol) (z : List ℕ) (i : ℕ) → getD (symbolCells ys rs z) (SymbolTable.Numbers * length ys + i) 0 ≡ getD z i 0
+unfolding symbolCells
+behind-cells [] rs z i = let e : SymbolTable.Numbers * 0 + i ≡ i = omega arith in rw e
+behind-cells (y ∷ ys) rs z i =
+    let n = SymbolTable.Numbers * length ys + i in
+    let e : SymbolTable.Numbers * suc (length ys) + i ≡ suc (suc (suc (suc (suc n)))) = omega arith in
+    rw e (behind-cells ys (drop 1 rs) z i)
+
+counts-behind : (ys rs : List Symbol) (z c : List ℕ) (k : ℕ)
+    → getD (symbolCells ys rs (z ++ c)) (length (symbolCells ys rs z) + k) 0 ≡ getD c k 0
+counts-behind ys rs z c k =
+    let e : length (symbolCells ys rs z) + k ≡ SymbolTable.Numbers * length ys + (length z + k) = omega (arith, cells-length ys rs z) in
+    rw e (behind-cells ys rs (z ++ c) (length z + k) ∙ getD-append-add z c k 0)
 
 -- ---- records
 
@@ -137,15 +172,16 @@ own-numbers (suc (suc (suc zero))) false a b c n h = refl
 own-numbers (suc (suc (suc (suc m)))) has a b c n h = absurd (omega arith)
 
 record-is : (h : Head) (n : ℕ) → isRecord (h .tag) ≡ true → recordField (line h n) ≡ field (h .tag) (recordNumbers (row h n))
-unfolding recordField fieldWith recordNumbers complete
+unfolding recordField fieldWith recordNumbers complete field
 record-is h n e =
     let t = h .tag in
     let c = record-complete t e in
     let few = leb (ownNumbers t) 3 in
     let all = ownNumbers t + (if hasChildren t then 1 else 0) in
-    let small : t % 256 ≡ t = omega (arith, leb-true t 29 e) in
+    let small : t % 32 ≡ t = omega (arith, leb-true t 29 e) in
     let sum : all ≡ numbersOf t = eqb-true all (numbersOf t) (and-right few _ c) in
-    rw (small, ← sum) (ap (field t) (own-numbers (ownNumbers t) (hasChildren t) (h .a) (h .b) (h .c) n (leb-true (ownNumbers t) 3 (and-left few _ c))))
+    let numbers = own-numbers (ownNumbers t) (hasChildren t) (h .a) (h .b) (h .c) n (leb-true (ownNumbers t) 3 (and-left few _ c)) in
+    rw small (ap₂ (λ (m : ℕ) (ns : List ℕ). t ∷ twoBytes (2 * m ∷ ns)) (sym (numbers-length (row h n) e)) (rw sum at numbers))
 
 tree-is : (f : Forest) → Tagged f → bytesOf (rowsOf f) ≡ recordFields (flatten f)
 unfolding bytesOf rowsOf flatten recordFields
@@ -156,13 +192,19 @@ tree-is (more h k r) q =
 
 -- ---- the file
 
--- THE BYTES of tables that hold the end of a walk are the file as written.
-pub held-bytes : (tree : Forest) (st : Store) (g : ℕ) (z : Rest) → Tagged tree
-    → let q = held (over tree st) g z in
-    fileBytes (q .records) (q .scopes) (q .symbols) (q .walk) ≡ written (fileAt (over tree st))
-unfolding held fileBytes walkAt visitedAt restAt written fileAt storeAt treeAt fieldWith numbersOf
-held-bytes tree st g z q =
+-- THE BYTES of tables that hold the end of a walk, with the counts of the symbols, are the file as written.
+pub held-bytes : (tree : Forest) (st : Store) (g : ℕ) (z : Rest) (c : List ℕ) → Tagged tree
+    → (let q = held (over tree st) g (withCounts z c) in
+    countsAt (q .symbols) ≡ length (held (over tree st) g z .symbols)
+    → ((k : ℕ) → k < length (st .symbols) → getD c k 0 ≡ mentions (1 + k) tree)
+    → fileBytes (q .records) (q .scopes) (q .symbols) (q .walk) ≡ written (fileAt (over tree st)))
+unfolding held fileBytes walkAt visitedAt restAt written fileAt storeAt treeAt fieldWith numbersOf symbolField rowWith field
+held-bytes tree st g z c q there known =
+    let t = symbolCells (st .symbols) (st .asRead) (z .symbols ++ c) in
+    let column : ℕ → ℕ = λ k. getD t (countsAt t + k) 0 in
+    let counts : (k : ℕ) → k < length (st .symbols) → column k ≡ mentions (1 + k) tree =
+    λ k l. rw there (counts-behind (st .symbols) (st .asRead) (z .symbols) c k ∙ known k l) in
     ap (_++_ (field 40 (st .mode ∷ st .isModule ∷ [])))
     (ap₂ _++_ (scopes-are (st .scopes) (z .scopes))
-    (ap₂ _++_ (symbols-are (st .symbols) (st .asRead) (z .symbols))
+    (ap₂ _++_ (symbols-are (λ y. mentions y tree) column 1 (st .symbols) (st .asRead) (z .symbols ++ c) counts)
     (records-are (rowsOf tree) (free g ++ []) (z .records) ∙ tree-is tree q)))

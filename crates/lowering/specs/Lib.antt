@@ -2,5 +2,6 @@
 pub mod Lower
 pub mod Flat
 pub mod Bytes
+pub mod Counted
 pub mod Law
 pub mod Answers

@@ -4,6 +4,7 @@
 // `admit_output` (the refusals), `start::fill` (the tables), `run` (the visits) and `finish` (the file).
 use checking::Surveyed;
 use figures::FinalFigures;
+use meaning::RecordId;
 use meaning::refusal;
 use path::Walk;
 ghost use mathlib.Core.Path.{_≡_};
@@ -71,7 +72,8 @@ pub fn run(
     w
 }
 
-// Once the walk is over: the import line, if it is due; the file in the tables, to the front of the output; the tables cleared.
+// Once the walk is over: the import line, if it is due; the counts of the symbols, which the visits leave 0; the file in the tables, to the
+// front of the output; the tables cleared.
 pub fn finish(
     walk: Walk,
     records: &mut [u16],
@@ -88,6 +90,7 @@ pub fn finish(
         ⌝ }
 {
     let whole = import_line::complete(records, walk);
+    mentions::count_rows(symbols, records, RecordId(0), whole.visited);
     writing::write(whole, records, scopes, symbols, out);
     start::clear(records);
     start::clear(scopes);

@@ -40,9 +40,9 @@ mentionsIn y [] = 0
 mentionsIn y (x ∷ xs) = often y (namesIn x) + mentionsIn y xs
 
 -- the fifth numbers of the symbol rows
-unfoldable pub countsIn : List Read → List ℕ
-countsIn [] = []
-countsIn (x ∷ xs) = if eqb (x .tag) Tag.Symbol then numberIn x 4 ∷ countsIn xs else countsIn xs
+unfoldable pub countsSaid : List Read → List ℕ
+countsSaid [] = []
+countsSaid (x ∷ xs) = if eqb (x .tag) Tag.Symbol then numberIn x 4 ∷ countsSaid xs else countsSaid xs
 
 -- ---- a written file
 
@@ -117,34 +117,34 @@ module _ (y : ℕ) (l : 1 ≤ y) where
 
 -- ---- the counts
 
-scopes-passed : (ss : List Scope) (rest : List Read) → countsIn (scopeReads ss ++ rest) ≡ countsIn rest
-unfolding countsIn scopeReads
+scopes-passed : (ss : List Scope) (rest : List Read) → countsSaid (scopeReads ss ++ rest) ≡ countsSaid rest
+unfolding countsSaid scopeReads
 scopes-passed [] rest = refl
 scopes-passed (s ∷ ss) rest = scopes-passed ss rest
 
 symbols-counted : (counts : ℕ → ℕ) (k : ℕ) (ys : List Symbol) (rest : List Read)
-    → countsIn (symbolReads counts k ys ++ rest) ≡ countsFrom counts (length ys) k ++ countsIn rest
-unfolding countsIn symbolReads countsFrom
+    → countsSaid (symbolReads counts k ys ++ rest) ≡ countsFrom counts (length ys) k ++ countsSaid rest
+unfolding countsSaid symbolReads countsFrom
 symbols-counted counts k [] rest = refl
 symbols-counted counts k (y ∷ ys) rest = ap (_∷_ (counts k)) (symbols-counted counts (suc k) ys rest)
 
-records-passed : (f : Forest) (rest : List Row) → Tagged f → countsIn (recordReads (flatten f ++ rest)) ≡ countsIn (recordReads rest)
-unfolding countsIn recordReads flatten
+records-passed : (f : Forest) (rest : List Row) → Tagged f → countsSaid (recordReads (flatten f ++ rest)) ≡ countsSaid (recordReads rest)
+unfolding countsSaid recordReads flatten
 records-passed none rest q = refl
 records-passed (more h k r) rest q =
     rw (no-symbol (h .tag) (q .0), append-assoc (flatten k) (flatten r) rest)
     (records-passed k (flatten r ++ rest) (q .1) ∙ records-passed r rest (q .2))
 
 -- THE COUNTS in the written bytes are those of the tree,
-counts-read : (g : File) → Tagged (g .tree) → countsIn (fieldsOf (written g)) ≡ countsFrom (λ y. mentions y (g .tree)) (length (g .symbols)) 1
-unfolding countsIn fieldsFor recordReads
+counts-read : (g : File) → Tagged (g .tree) → countsSaid (fieldsOf (written g)) ≡ countsFrom (λ y. mentions y (g .tree)) (length (g .symbols)) 1
+unfolding countsSaid fieldsFor recordReads
 counts-read g q =
     let counts : ℕ → ℕ = λ n. mentions n (g .tree) in
     let rows = flatten (g .tree) in
-    ap countsIn (read-back g)
+    ap countsSaid (read-back g)
     ∙ scopes-passed (g .scopes) (symbolReads counts 1 (g .symbols) ++ recordReads rows)
     ∙ symbols-counted counts 1 (g .symbols) (recordReads rows)
-    ∙ ap (λ (rs : List Row). countsFrom counts (length (g .symbols)) 1 ++ countsIn (recordReads rs)) (sym (append-nil rows))
+    ∙ ap (λ (rs : List Row). countsFrom counts (length (g .symbols)) 1 ++ countsSaid (recordReads rs)) (sym (append-nil rows))
     ∙ ap (_++_ (countsFrom counts (length (g .symbols)) 1)) (records-passed (g .tree) [] q)
     ∙ append-nil (countsFrom counts (length (g .symbols)) 1)
 
@@ -155,6 +155,6 @@ same-counts c d (suc n) y l e = ap₂ _∷_ (e y l) (same-counts c d n (suc y) (
 
 -- and of a reader who counts the records in these bytes.
 pub counts-said : (g : File) → Tagged (g .tree)
-    → let fields = fieldsOf (written g) in countsIn fields ≡ countsFrom (λ y. mentionsIn y fields) (length (g .symbols)) 1
+    → let fields = fieldsOf (written g) in countsSaid fields ≡ countsFrom (λ y. mentionsIn y fields) (length (g .symbols)) 1
 counts-said g q =
     counts-read g q ∙ same-counts _ _ (length (g .symbols)) 1 (omega arith) (λ y l. sym (mentions-back y l g))

@@ -59,7 +59,7 @@ last-length : (b : Bool) (n : ℕ) → length (if b then n ∷ [] else []) ≡ (
 last-length true n = refl
 last-length false n = refl
 
-numbers-length : (r : Row) → isRecord (r .head .tag) ≡ true → length (recordNumbers r) ≡ numbersOf (r .head .tag)
+pub numbers-length : (r : Row) → isRecord (r .head .tag) ≡ true → length (recordNumbers r) ≡ numbersOf (r .head .tag)
 unfolding complete recordNumbers
 numbers-length r e =
     let t = r .head .tag in
