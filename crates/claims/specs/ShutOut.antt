@@ -119,7 +119,7 @@ programOnly file lent out = do
   checkOutput out (finalFigures f)
   accepted (record { file = written (fileAt (visits 1 (start f))); figures = finalFigures f })
 
-program-length : fileLength (on programOnly whole) ≡ 74
+program-length : fileLength (on programOnly whole) ≡ 76
 unfolding programOnly computing
 program-length = refl
 

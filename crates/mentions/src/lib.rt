@@ -58,7 +58,11 @@ fn first_named(r: Row) -> SymbolId
 fn second_named(r: Row) -> SymbolId
     ensures { λ y. ⌜ y .0 ≡ secondNamed (headF r) ⌝ }
 {
-    if r.tag == tag::STEP { SymbolId(r.c) } else { SymbolId(0) }
+    if r.tag == tag::STEP {
+        SymbolId(r.c)
+    } else {
+        SymbolId(0)
+    }
 }
 
 // The mentions of a record are added.
