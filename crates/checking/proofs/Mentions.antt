@@ -3,7 +3,6 @@
 use mathlib.Core.Path.{_≡_, refl, sym, ap, _∙_}
 use mathlib.Core.List.{List, [], _∷_}
 use Prim.Native.Nat.{ℕ, zero, suc, _+_, _-_, _≤_, _<_}
-use native.Mathlib.Nat.{zero-add}
 use native.Mathlib.Omega.{arith}
 use lib.Dec.{eqb}
 use lib.ListN.{length, replicate}
@@ -18,7 +17,7 @@ use Rattle.meaning.specs.declared.Field.{Field}
 use Rattle.spec_laws.specs.Tags.{Seen, other, here, there, seen}
 use Rattle.parsing.specs.Parsed.{RecordAt, Parsed, parsed-none, parsed-more}
 use Rattle.parsing.specs.Counts.{parsed-bytes, parsed-ends, size-bytes}
-use Rattle.tables.specs.Loops.{turns}
+use Rattle.tables.specs.Loops.{turns, turns-more}
 use Rattle.mentions.specs.Counters.{addRecordF}
 use Rattle.mentions.specs.Sums.{headsOf, all, all-++, two-a-record, countsFrom, count-at, counts-length, counted-tree}
 use Rattle.checking.specs.declared.Layout.{Layout}
@@ -57,13 +56,6 @@ unfolding addRecordF
 added-same t h g e = rw (e .0, e .1)
 
 -- ---- the records
-
-turns-more : {A : Type 0} (n m : ℕ) (f : A → A) (x : A) → turns (n + m) f x ≡ turns m f (turns n f x)
-unfolding turns
-turns-more zero m f x = rw zero-add
-turns-more (suc n) m f x =
-    let e : suc n + m ≡ suc (n + m) = omega arith in
-    rw e (turns-more n m f (f x))
 
 module _ {f : List ℕ} {syms : ℕ} where
   count-one : {p : Place} {cur at : ℕ} {m : List ℕ} {h : Head} {k : Forest} (c : List ℕ) → RecordAt f syms p cur at m h k

@@ -110,21 +110,6 @@ symbols-are count column n (y ∷ ys) rs z known =
     (behind-first _ (rowWith t (λ i. column (i + 1))) (next-symbol (y .name) (y .flags) (y .scope) (y .made) r t column) (length ys)
     ∙ symbols-are count (λ i. column (i + 1)) (suc n) ys (drop 1 rs) z later)
 
--- what stands behind the rows
-behind-cells : (ys rs : List Symbol) (z : List ℕ) (i : ℕ) → getD (symbolCells ys rs z) (SymbolTable.Numbers * length ys + i) 0 ≡ getD z i 0
-unfolding symbolCells
-behind-cells [] rs z i = let e : SymbolTable.Numbers * 0 + i ≡ i = omega arith in rw e
-behind-cells (y ∷ ys) rs z i =
-    let n = SymbolTable.Numbers * length ys + i in
-    let e : SymbolTable.Numbers * suc (length ys) + i ≡ suc (suc (suc (suc (suc n)))) = omega arith in
-    rw e (behind-cells ys (drop 1 rs) z i)
-
-counts-behind : (ys rs : List Symbol) (z c : List ℕ) (k : ℕ)
-    → getD (symbolCells ys rs (z ++ c)) (length (symbolCells ys rs z) + k) 0 ≡ getD c k 0
-counts-behind ys rs z c k =
-    let e : length (symbolCells ys rs z) + k ≡ SymbolTable.Numbers * length ys + (length z + k) = omega (arith, cells-length ys rs z) in
-    rw e (behind-cells ys rs (z ++ c) (length z + k) ∙ getD-append-add z c k 0)
-
 -- ---- records
 
 unfoldable bytesOf : List Row → List ℕ
@@ -192,19 +177,16 @@ tree-is (more h k r) q =
 
 -- ---- the file
 
--- THE BYTES of tables that hold the end of a walk, with the counts of the symbols, are the file as written.
-pub held-bytes : (tree : Forest) (st : Store) (g : ℕ) (z : Rest) (c : List ℕ) → Tagged tree
-    → (let q = held (over tree st) g (withCounts z c) in
-    countsAt (q .symbols) ≡ length (held (over tree st) g z .symbols)
-    → ((k : ℕ) → k < length (st .symbols) → getD c k 0 ≡ mentions (1 + k) tree)
+-- THE BYTES of tables that hold the end of a walk, with the counts of its tree, are the file as written.
+pub held-bytes : (tree : Forest) (st : Store) (g : ℕ) (z : Rest) → Tagged tree
+    → (let q = held (over tree st) g z in
+    ((k : ℕ) → k < length (st .symbols) → getD (q .symbols) (countsAt (q .symbols) + k) 0 ≡ mentions (1 + k) tree)
     → fileBytes (q .records) (q .scopes) (q .symbols) (q .walk) ≡ written (fileAt (over tree st)))
 unfolding held fileBytes walkAt visitedAt restAt written fileAt storeAt treeAt fieldWith numbersOf symbolField rowWith field
-held-bytes tree st g z c q there known =
-    let t = symbolCells (st .symbols) (st .asRead) (z .symbols ++ c) in
+held-bytes tree st g z q known =
+    let t = symbolCells (st .symbols) (st .asRead) (z .symbols) in
     let column : ℕ → ℕ = λ k. getD t (countsAt t + k) 0 in
-    let counts : (k : ℕ) → k < length (st .symbols) → column k ≡ mentions (1 + k) tree =
-    λ k l. rw there (counts-behind (st .symbols) (st .asRead) (z .symbols) c k ∙ known k l) in
     ap (_++_ (field 40 (st .mode ∷ st .isModule ∷ [])))
     (ap₂ _++_ (scopes-are (st .scopes) (z .scopes))
-    (ap₂ _++_ (symbols-are (λ y. mentions y tree) column 1 (st .symbols) (st .asRead) (z .symbols ++ c) counts)
+    (ap₂ _++_ (symbols-are (λ y. mentions y tree) column 1 (st .symbols) (st .asRead) (z .symbols) known)
     (records-are (rowsOf tree) (free g ++ []) (z .records) ∙ tree-is tree q)))

@@ -11,7 +11,7 @@ use Rattle.checking.specs.declared.Surveyed.{Surveyed}
 use Rattle.checking.specs.declared.Surveyed.the-variants.{Fine, Refused as RefusedSurvey}
 use Rattle.tables.specs.Loops.{until}
 use Rattle.mentions.specs.Counters.{addRowsF, onCounts}
-use Rattle.path.specs.Path.{Tables}
+use Rattle.path.specs.Path.{Tables, tables}
 use Rattle.import_line.specs.Import.{completeIn}
 use Rattle.start.specs.Flat.{fillF}
 use Rattle.walk.specs.Visit.{visitF}
@@ -29,12 +29,14 @@ admitBy (RefusedSurvey c p) o = RefusedSurvey c p
 unfoldable pub runF : ℕ → Tables → Tables
 runF n q = until n isOverIn visitF q
 
--- the file in the tables, with the import line if it is due and the counts of the symbols, at the front of the output
+-- the counts of the symbols, of all rows visited
+unfoldable pub countVisitedF : Tables → Tables
+countVisitedF q =
+    tables (q .records) (q .scopes) (onCounts (addRowsF (q .records) 0 (q .walk .visited .0)) (q .symbols)) (q .walk)
+
+-- the file in the tables, with the import line if it is due and the counts, at the front of the output
 unfoldable pub finishF : Tables → List ℕ → List ℕ
-finishF q o =
-    let c = completeIn q in
-    let y = onCounts (addRowsF (c .records) 0 (c .walk .visited .0)) (c .symbols) in
-    sets o 0 (fileBytes (c .records) (c .scopes) y (c .walk))
+finishF q o = let c = countVisitedF (completeIn q) in sets o 0 (fileBytes (c .records) (c .scopes) (c .symbols) (c .walk))
 
 -- by the answer of admission: the tables filled, visited, written and cleared
 unfoldable pub lowerBy : Surveyed → List ℕ → List ℕ → List ℕ → List ℕ → List ℕ → Finished

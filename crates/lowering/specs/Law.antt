@@ -2,15 +2,15 @@
 -- Assumes nothing.
 use mathlib.Core.Path.{_≡_, refl, sym, ap, _∙_}
 use mathlib.Core.Bool.{Bool, true, false}
-use mathlib.Core.List.{List, _++_}
-use Prim.Native.Nat.{ℕ, _+_, _*_, _-_, _/_, _≤_, min}
+use mathlib.Core.List.{List, []}
+use Prim.Native.Nat.{ℕ, _*_, _-_, _≤_, min}
 use native.Mathlib.Omega.{arith}
 use lib.Dec.{leb}
-use lib.ListN.{length, replicate, length-replicate, replicate-append-replicate}
+use lib.ListN.{length, replicate, length-replicate}
 use lib.Seq.{sets}
 use borrow.Author.Tests.{leb-true, le-leb}
 use Rattle.meaning.specs.Numbers.Tag
-use Rattle.meaning.specs.Tree.{if_then_else_, Forest, none, more, size}
+use Rattle.meaning.specs.Tree.{if_then_else_, Forest, none, more}
 use Rattle.meaning.specs.Mentions.{mentions}
 use Rattle.meaning.specs.File.{File, written}
 use Rattle.meaning.specs.Reading.{Outcome, accepted, refused, _>>=_, _>>_, ensure, readFile}
@@ -28,28 +28,32 @@ use Rattle.figures.specs.Figures.{shownFigures}
 use Rattle.checking.specs.declared.Surveyed.{Surveyed}
 use Rattle.checking.specs.declared.Surveyed.the-variants.{Fine, Refused as RefusedSurvey}
 use Rattle.checking.specs.Survey.{layoutOf, surveyedOf}
-use Rattle.tables.specs.Columns.SymbolTable
 use Rattle.tables.specs.Table.{countsAt}
-use Rattle.representation.specs.Spots.Spots.{Rest, held}
-use Rattle.representation.specs.Counts.Held.{withCounts}
-use Rattle.scoping_laws.specs.Created.Held.{freeScopes, freeSymbols}
+use Rattle.mentions.specs.Counters.{addRecordF, addRowsF}
+use Rattle.mentions.specs.Sums.{headsOf, countsFrom, from-at, counts-length, counted-tree}
+use Rattle.representation.specs.Spots.Spots.{visitedAt, Rest, walkAt, held}
+use Rattle.representation.specs.Counts.Rows.{heads-length}
+use Rattle.representation.specs.Counts.Heads.{openHeads, over-stands}
+use Rattle.representation.specs.Counts.Held.{visited-rows}
 use Rattle.start.specs.Start.{lentIn}
 use Rattle.start.specs.Flat.{fillF}
 use Rattle.start.specs.Filled.{admitted, fill-law}
 use Rattle.simulation.specs.Visits.{heldIn, at-spot}
 use Rattle.simulation.specs.Calls.{complete-holds}
-use Rattle.simulation.specs.Started.{zerosAfter, visits-after-start}
+use Rattle.simulation.specs.Counted.{Placed, withIn, countedIn, on-counts, count-shown}
+use Rattle.simulation.specs.Started.{zerosAfter, zerosBefore, visits-after-start, uncounted, placed}
 use Rattle.writing.specs.Stored.{sets-front}
 use Rattle.bound_laws.specs.Last.{last-spot, last-over, final-over, final-figures}
 use Rattle.charge_laws.specs.Fit.Import.{some-records}
-use Rattle.path.specs.Path.{Tables}
+use Rattle.path.specs.Path.{Tables, tables}
+use Rattle.writing.specs.Writing.{fileBytes}
 use Rattle.import_line.specs.Import.{completeIn}
 use Rattle.readback_laws.specs.ReadBack.{Tagged}
 use Rattle.readback_laws.specs.Length.{tagged-length}
 use Rattle.lowering.specs.Lower.{finished, zerosFor, writtenOver, lowerOf, lowerF}
 use Rattle.walk.specs.Over.{until-over}
-use Rattle.lowering.specs.Flat.{admitBy, runF, finishF, lowerBy}
-use Rattle.lowering.specs.Counted.{countedBytes, counted-bytes}
+use Rattle.lowering.specs.Flat.{admitBy, runF, countVisitedF, finishF, lowerBy}
+use Rattle.lowering.specs.Bytes.{held-bytes}
 use Rattle.lowering.specs.declared.Lowered.the-variants.{Written as WrittenIn}
 
 -- ---- the bytes at the end
@@ -58,16 +62,33 @@ within-tagged : (f : Forest) → TreeWithin 65535 f → Tagged f
 within-tagged none p = tt
 within-tagged (more h k r) p = (le-leb (h .tag) Tag.Step (p .0 .0), within-tagged k (p .1), within-tagged r (p .2))
 
--- with n counters, all 0, behind the symbol rows
-over-bytes : (s : Spot) (g : ℕ) (z : Rest) (n : ℕ)
-    → (let before = SymbolTable.Numbers * length (storeAt s .symbols) + length (z .symbols) in
-    before ≡ (before + n) / SymbolTable.Lent * SymbolTable.Numbers)
-    → ((y : ℕ) → 1 ≤ y → mentions y (treeAt s) ≤ 65535) → length (storeAt s .symbols) ≤ n → isOver s ≡ true → Tagged (treeAt s)
-    → countedBytes (held s g (withCounts z (replicate n 0))) ≡ written (fileAt s)
+-- the tables at the end of a walk, with the counts of its tree
+over-bytes : (x : Figures) (z : Rest) (n : ℕ) (s : Spot) → isOver s ≡ true → Tagged (treeAt s) → Placed x z n → length (storeAt s .symbols) ≤ x .symbols
+    → length (storeAt s .symbols) ≤ n
+    → let q = countedIn x z n s in
+    fileBytes (q .records) (q .scopes) (q .symbols) (q .walk) ≡ written (fileAt s)
 unfolding isOver treeAt storeAt
-over-bytes (over tree st) g z n there fits enough e t = counted-bytes tree st g z n there fits enough t
-over-bytes (at d h k r p st) g z n there fits enough e t = absurd (clash refl e)
-over-bytes (leaving k h d r p st) g z n there fits enough e t = absurd (clash refl e)
+over-bytes x z n (over tree st) o t placed most few =
+    let s = over tree st in
+    let counts = countsFrom (λ y. mentions y tree) n 1 in
+    held-bytes tree st _ _ t
+    (λ k l.
+    count-shown x z n s placed most counts (counts-length (λ y. mentions y tree) n 1) k ∙ from-at (λ y. mentions y tree) n 1 k (omega arith))
+over-bytes x z n (at d h k r p st) o t placed most few = absurd (clash refl o)
+over-bytes x z n (leaving k h d r p st) o t placed most few = absurd (clash refl o)
+
+-- all rows are the tree's
+over-rows : (s : Spot) (g : ℕ) (z : Rest) (n : ℕ) → isOver s ≡ true → ((y : ℕ) → 1 ≤ y → mentions y (treeAt s) ≤ 65535)
+    → let q = held s g z in
+    addRowsF (q .records) 0 (q .walk .visited .0) (replicate n 0) ≡ countsFrom (λ y. mentions y (treeAt s)) n 1
+unfolding isOver treeAt addRowsF held walkAt openHeads
+over-rows (over tree st) g z n o fits =
+    let s = over tree st in
+    let stands = over-stands tree st .visited in
+    let all-rows : length (visitedAt s) ≡ length (headsOf tree) = sym (heads-length (visitedAt s)) ∙ ap length stands in
+    visited-rows addRecordF s g z [] (headsOf tree) (replicate n 0) 0 _ stands (omega arith) (omega arith) ∙ counted-tree tree n fits
+over-rows (at d h k r p st) g z n o fits = absurd (clash refl o)
+over-rows (leaving k h d r p st) g z n o fits = absurd (clash refl o)
 
 module _ (b r s y : List ℕ) (f : File) (bytes : Bytes b) (e : admit b (lentIn r s y) ≡ accepted f) where
   abbrev x : Figures
@@ -120,55 +141,25 @@ module _ (b r s y : List ℕ) (f : File) (bytes : Bytes b) (e : admit b (lentIn 
   all-symbols : length (storeAt (finalSpot f) .symbols) ≡ x .symbols
   all-symbols = omega (arith, at-spot (finalSpot f), ap (λ (v : Figures). v .symbols) (final-figures b f read))
 
-  -- the symbols have counters
-  symbols-lent : x .symbols ≤ length y / SymbolTable.Lent
-  unfolding lentIn
-  symbols-lent = admitted b r s y f e .3
+  few : length (storeAt (finalSpot f) .symbols) ≤ length y - countsAt y
+  unfolding lentIn countsAt
+  few = omega (arith, all-symbols, admitted b r s y f e .3)
 
-  abbrev padding : ℕ
-  padding = countsAt y - SymbolTable.Numbers * x .symbols
-
-  abbrev counters : ℕ
-  counters = length y - countsAt y
-
-  -- behind the symbol rows, free ones and counters, all 0
-  zeros-split : replicate {A = ℕ} (length y - SymbolTable.Numbers * x .symbols) 0 ≡ replicate {A = ℕ} padding 0 ++ replicate {A = ℕ} counters 0
-  unfolding countsAt
-  zeros-split =
-      let sum : length y - SymbolTable.Numbers * x .symbols ≡ padding + counters = omega (arith, symbols-lent) in
-      ap (λ (k : ℕ). replicate {A = ℕ} k 0) sum ∙ sym (replicate-append-replicate {A = ℕ} padding counters 0)
-
-  -- the rest of the tables but for the counters
-  abbrev padded : Rest
-  padded =
-      let z = zerosAfter f r s y in
-      record {
-        records = z .records;
-        scopes = freeScopes (x .scopes - length (storeAt (finalSpot f) .scopes)) (z .scopes);
-        symbols = replicate padding 0;
-      }
-
-  abbrev freeAtEnd : ℕ
-  freeAtEnd = x .records - size (treeAt (finalSpot f))
-
-  final-tables : heldIn x (zerosAfter f r s y) (finalSpot f) ≡ held (finalSpot f) freeAtEnd (withCounts padded (replicate counters 0))
-  unfolding freeSymbols
-  final-tables =
-      let free : x .symbols - length (storeAt (finalSpot f) .symbols) ≡ 0 = omega (arith, all-symbols) in
-      rw free
-      (ap (λ (t : List ℕ). held (finalSpot f) freeAtEnd (record { records = padded .records; scopes = padded .scopes; symbols = t })) zeros-split)
-
-  -- THE BYTES of the tables, counted, are the file as written.
-  final-bytes : countedBytes (heldIn x (zerosAfter f r s y) (finalSpot f)) ≡ written (fileAt (finalSpot f))
-  unfolding countsAt
-  final-bytes =
-      ap countedBytes final-tables
-      ∙ over-bytes (finalSpot f) freeAtEnd padded counters
-      (omega (arith, all-symbols, symbols-lent, length-replicate {A = ℕ} padding 0))
-      final-mentions
-      (omega (arith, all-symbols, symbols-lent))
-      (final-over b f read)
-      final-tagged
+  -- THE TABLES, COUNTED ONCE, are those that keep their counts at every visit.
+  counted-tables : countVisitedF (heldIn x (zerosAfter f r s y) (finalSpot f))
+      ≡ countedIn x (zerosBefore f r s y) (length y - countsAt y) (finalSpot f)
+  unfolding countVisitedF held
+  counted-tables =
+      let spot = finalSpot f in
+      let z = zerosBefore f r s y in
+      let n = length y - countsAt y in
+      let zeros = replicate {A = ℕ} n 0 in
+      let q = withIn x z n zeros spot in
+      let most : length (storeAt spot .symbols) ≤ x .symbols = omega (arith, all-symbols) in
+      ap countVisitedF (uncounted b r s y f e spot)
+      ∙ ap (λ (t : List ℕ). tables (q .records) (q .scopes) t (q .walk))
+      (on-counts x z n (addRowsF (q .records) 0 (q .walk .visited .0)) zeros spot (placed b r s y f e) most (length-replicate n 0)
+      ∙ ap (λ (c : List ℕ). withIn x z n c spot .symbols) (over-rows spot _ _ n (final-over b f read) final-mentions))
 
   -- the file at the front of the output
   finish-is : (o : List ℕ) → x .bytes ≤ length o
@@ -176,10 +167,13 @@ module _ (b r s y : List ℕ) (f : File) (bytes : Bytes b) (e : admit b (lentIn 
       ≡ writtenOver (written (fileAt (finalSpot f))) o
   unfolding finishF
   finish-is o fits =
+      let file : Tables → List ℕ = λ q. fileBytes (q .records) (q .scopes) (q .symbols) (q .walk) in
       rw small
-      (ap (λ (q : Tables). sets o 0 (countedBytes (completeIn q))) walked
-      ∙ ap (λ (q : Tables). sets o 0 (countedBytes q)) completed-tables
-      ∙ ap (sets o 0) final-bytes
+      (ap (λ (q : Tables). sets o 0 (file (countVisitedF (completeIn q)))) walked
+      ∙ ap (λ (q : Tables). sets o 0 (file (countVisitedF q))) completed-tables
+      ∙ ap (λ (q : Tables). sets o 0 (file q)) counted-tables
+      ∙ ap (sets o 0)
+      (over-bytes x (zerosBefore f r s y) (length y - countsAt y) (finalSpot f) (final-over b f read) final-tagged (placed b r s y f e) (omega (arith, all-symbols)) few)
       ∙ sets-front (written (fileAt (finalSpot f))) o (omega (arith, final-length)))
 
 -- ---- the answer

@@ -2,6 +2,5 @@
 pub mod Lower
 pub mod Flat
 pub mod Bytes
-pub mod Counted
 pub mod Law
 pub mod Answers

@@ -95,6 +95,11 @@ cap-sum : (x a b u v : ℕ) → u ≡ capped x a → v ≡ capped u b → v ≡ 
 unfolding capped
 cap-sum x a b u v e d = omega arith
 
+-- a sum that fits is whole
+pub whole-sum : (x y b u m : ℕ) → y ≡ x → u ≡ capped y b → m ≡ x + b → m ≤ largest → u ≡ m
+unfolding capped
+whole-sum x y b u m e d s h = omega arith
+
 cap-most : (x a u : ℕ) → u ≡ capped x a → u ≤ largest
 unfolding capped
 cap-most x a u e = omega arith
@@ -234,10 +239,6 @@ zero-at zero i = refl
 zero-at (suc n) zero = refl
 zero-at (suc n) (suc i) = zero-at n i
 
-cap-whole : (x n v : ℕ) → x ≡ 0 → n ≤ largest → v ≡ capped x n → v ≡ n
-unfolding capped
-cap-whole x n v e h d = omega arith
-
 -- THE RECORDS OF A TREE, ADDED TO NONE, come to its mentions.
 pub counted-tree : (f : Forest) (n : ℕ) → ((y : ℕ) → 1 ≤ y → mentions y f ≤ largest)
     → all addRecordF (replicate n 0) (headsOf f) ≡ countsFrom (λ y. mentions y f) n 1
@@ -246,5 +247,5 @@ counted-tree f n fits =
     known-counts (λ y. mentions y f) n (all addRecordF zeros (headsOf f))
     (all-length addRecordF record-added zeros (headsOf f) ∙ length-replicate n 0)
     (λ y some in-table.
-    cap-whole (counter zeros y) _ _ (zero-at n (y - 1)) (fits y some)
-    (rw (named-heads y f) at (added-at y some zeros (headsOf f) (omega (arith, length-replicate {A = ℕ} n 0)) (omega (arith, zero-at n (y - 1))))))
+    let added = added-at y some zeros (headsOf f) (omega (arith, length-replicate {A = ℕ} n 0)) (omega (arith, zero-at n (y - 1))) in
+    whole-sum 0 (counter zeros y) _ _ _ (zero-at n (y - 1)) added (omega (arith, named-heads y f)) (fits y some))

@@ -31,7 +31,7 @@ use Rattle.tables.specs.Table.{capped, cap-one, columnF, setColumnF}
 use Rattle.tables.specs.Stream.{Buf, emitF, takeBackF}
 use Rattle.tables.specs.declared.Row.{Row}
 use Rattle.mentions.specs.Counters.{addRecordF, addRowsF}
-use Rattle.mentions.specs.Sums.{headsOf, namedBy, all, all-length, record-added, added-at, countsFrom, known-counts, count-at, counts-length}
+use Rattle.mentions.specs.Sums.{headsOf, namedBy, all, all-length, record-added, added-at, whole-sum, countsFrom, known-counts, count-at, counts-length}
 use Rattle.path.specs.Path.{Tables, tables, onRecords, withCursorF}
 use Rattle.import_line.specs.Import.{importDueF, countChildF, writeImportF, addImportF, completeF, completeIn}
 use Rattle.representation.specs.Gap.Cells.{table, free, line, rowsOf, gapped, length-rows}
@@ -167,10 +167,6 @@ module _ (x : Figures) (z : Rest) (small : x .records ≤ 65535) where
 
 -- ---- with the counts of symbols (02, request 7)
 
-capped-whole : (x y b u m : ℕ) → y ≡ x → u ≡ capped y b → m ≡ x + b → m ≤ 65535 → u ≡ m
-unfolding capped
-capped-whole x y b u m e d s f = omega arith
-
 module _ (h : Head) (k r : Forest) (y : ℕ) where
   abbrev lineHeads : List Head
   lineHeads = hd Tag.ModuleLine LineForm.ImportHelper 0 0 ∷ hd Tag.Specifier y KnownName.Default 0 ∷ []
@@ -211,7 +207,7 @@ module _ (x : Figures) (z : Rest) (n : ℕ) (small : x .records ≤ 65535) (plac
         (λ y some in-table.
         let c = count-at (λ y. mentions y (more h k r)) n y some in-table in
         let m = line-mentions h k r (st .helper) y in
-        capped-whole _ _ _ _ _ c (added-at y some counts new (omega arith) (omega (arith, fits y some))) m (fits y some))
+        whole-sum _ _ _ _ _ c (added-at y some counts new (omega arith) (omega (arith, fits y some))) m (fits y some))
 
     line-put : importDue st ≡ true → size (treeAt next) ≤ x .records → ((y : ℕ) → 1 ≤ y → mentions y (treeAt next) ≤ 65535)
         → completeCountedIn (countedIn x z n now) ≡ countedIn x z n next

@@ -13,7 +13,7 @@ use Rattle.meaning.specs.Mentions.{mentions}
 use Rattle.meaning.specs.Walk.{Spot, isOver, visit, treeAt, storeAt}
 use Rattle.meaning.specs.Charges.{Figures}
 use Rattle.tables.specs.Columns.SymbolTable
-use Rattle.tables.specs.Table.{capped, countsAt}
+use Rattle.tables.specs.Table.{countsAt}
 use Rattle.mentions.specs.Counters.{addRecordF, takeRecordF, addRowsF, takeRowsF, onCounts}
 use Rattle.mentions.specs.Sums.{
   namedBy,
@@ -25,6 +25,7 @@ use Rattle.mentions.specs.Sums.{
   counter,
   added-at,
   taken-at,
+  whole-sum,
   countsFrom,
   known-counts,
   from-at,
@@ -67,14 +68,6 @@ placed-at t b n l e = rw l e
 left-over : (m v r kept old oldRest behind c d e : ℕ) → m ≡ v + r → v ≡ kept + old → r ≡ oldRest + behind → c ≡ m → d ≡ c - old → e ≡ d - oldRest
     → e ≡ kept + behind
 left-over m v r kept old oldRest behind c d e p q t u w y = omega arith
-
-cap-most : (x a u : ℕ) → u ≡ capped x a → u ≤ 65535
-unfolding capped
-cap-most x a u e = omega arith
-
-two-capped : (x a b u v m : ℕ) → u ≡ capped x a → v ≡ capped u b → m ≡ x + a + b → m ≤ 65535 → v ≡ m
-unfolding capped
-two-capped x a b u v m e d s f = omega arith
 
 list-same : (f count : ℕ → ℕ) (n i y : ℕ) → ((j : ℕ) → j < n → f (i + j) ≡ count (y + j)) → listFrom f i n ≡ countsFrom count n y
 unfolding listFrom countsFrom
@@ -250,9 +243,8 @@ module _ (x : Figures) (z : Rest) (n : ℕ) where
         let a = left y some in-table in
         let b = after-mentions y in
         let f = fits y some in
-        let c₃ = added-at y some taken (part .new) (omega (arith, taken-length)) (omega arith) in
-        let c₄ = added-at y some (all addRecordF taken (part .new)) (part .newRest) (omega (arith, new-length)) (cap-most _ _ _ c₃) in
-        two-capped _ _ _ _ _ _ c₃ c₄ (b ∙ ap (λ (i : ℕ). i + namedBy y (part .new) + namedBy y (part .newRest)) (sym a)) f)
+        let c₃ = whole-sum _ _ _ _ _ a (added-at y some taken (part .new) (omega (arith, taken-length)) (omega arith)) refl (omega arith) in
+        whole-sum _ _ _ _ _ c₃ (added-at y some (all addRecordF taken (part .new)) (part .newRest) (omega (arith, new-length)) (omega arith)) b f)
 
     -- ---- the tables
 
@@ -309,7 +301,7 @@ module _ (x : Figures) (z : Rest) (n : ℕ) where
         ap (symbolCells (st .symbols) (st .asRead)) (free-++ free (z .symbols) c)
         ∙ cells-++ (st .symbols) (st .asRead) (freeSymbols free (z .symbols)) c
 
-    count-shown : (c : List ℕ) → length c ≡ n → (i : ℕ) → getD (withIn c s .symbols) (countsAt (withIn c s .symbols) + i) 0 ≡ getD c i 0
+    pub count-shown : (c : List ℕ) → length c ≡ n → (i : ℕ) → getD (withIn c s .symbols) (countsAt (withIn c s .symbols) + i) 0 ≡ getD c i 0
     count-shown c l i =
         let long : length (rowsBefore ++ c) ≡ before + n = length-append rowsBefore c ∙ omega (arith, before-long) in
         rw (behind-rows c, placed-at (rowsBefore ++ c) before n long placed, ← before-long) (getD-append-add rowsBefore c i 0)

@@ -14,7 +14,7 @@ use Rattle.meaning.specs.Tree.{none, size, _&_}
 use Rattle.meaning.specs.Mentions.{mentions}
 use Rattle.meaning.specs.File.{File}
 use Rattle.meaning.specs.Reading.{accepted}
-use Rattle.meaning.specs.Walk.{storeOf, start, visits, plug, treeAt, storeAt}
+use Rattle.meaning.specs.Walk.{Spot, storeOf, start, visits, plug, treeAt, storeAt}
 use Rattle.meaning.specs.ImportLine.{completed}
 use Rattle.meaning.specs.Charges.{finalFigures}
 use Rattle.meaning.specs.Lowering.{admit}
@@ -23,6 +23,7 @@ use Rattle.charge_laws.specs.Fit.Final.{never-above}
 use Rattle.tables.specs.Loops.{turns}
 use Rattle.representation.specs.Spots.Spots.{Rest, held}
 use Rattle.representation.specs.Spots.Lengths.{store-settled}
+use Rattle.representation.specs.Counts.Held.{zeros-split}
 use Rattle.scoping_laws.specs.Created.Held.{freeScopes, freeSymbols}
 use Rattle.start.specs.Start.{lentIn, freeRows, zerosBehind, countsBehind}
 use Rattle.start.specs.Filled.{admitted}
@@ -30,7 +31,7 @@ use Rattle.walk.specs.Visit.{visitF}
 use Rattle.simulation.specs.Rows.{settled-size}
 use Rattle.walk.specs.Call.{visitCallF}
 use Rattle.simulation.specs.Visits.{heldIn, at-spot, visits-hold-tables}
-use Rattle.simulation.specs.Counted.{free-++, Placed, countedIn}
+use Rattle.simulation.specs.Counted.{free-++, Placed, withIn, countedIn}
 use Rattle.simulation.specs.Calls.{calls-hold-tables}
 
 -- ---- its free rows
@@ -115,7 +116,7 @@ module _ (bytes r s y : List ℕ) (f : File) (e : admit bytes (lentIn r s y) ≡
 
   -- ---- with the counts
 
-  abbrev counters : ℕ
+  abbrev pub counters : ℕ
   counters = length y - countsAt y
 
   rows-lent : SymbolTable.Numbers * finalFigures f .symbols ≤ countsAt y
@@ -130,6 +131,14 @@ module _ (bytes r s y : List ℕ) (f : File) (e : admit bytes (lentIn r s y) ≡
       omega (arith, length-replicate {A = ℕ} p 0, rows-lent) in
       let l : countsAt y + counters ≡ length y = omega (arith, counts-few y (countsAt y) refl) in
       rw (b, l)
+
+  -- where no visit has counted, the counts are 0
+  pub uncounted : (spot : Spot)
+      → heldIn (finalFigures f) (zerosAfter f r s y) spot ≡ withIn (finalFigures f) (zerosBefore f r s y) counters (replicate counters 0) spot
+  uncounted spot =
+      let z = zerosAfter f r s y in
+      ap (λ (t : List ℕ). heldIn (finalFigures f) (record { records = z .records; scopes = z .scopes; symbols = t }) spot)
+      (zeros-split y (finalFigures f .symbols) rows-lent)
 
   counts-started : held (start f) (freeRows f) (countsBehind f r s y) ≡ countedIn (finalFigures f) (zerosBefore f r s y) counters (start f)
   unfolding freeRows zerosBehind countsBehind lentIn storeOf visits

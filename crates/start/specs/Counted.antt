@@ -4,7 +4,7 @@ use mathlib.Core.Path.{_≡_, refl, sym, ap, _∙_}
 use mathlib.Core.List.{List, [], _++_, append-nil}
 use Prim.Native.Nat.{ℕ, _+_, _*_, _-_, _/_, _≤_}
 use native.Mathlib.Omega.{arith}
-use lib.ListN.{length, replicate, length-append, length-replicate, replicate-append-replicate}
+use lib.ListN.{length, replicate, length-append, length-replicate}
 use Rattle.meaning.specs.Tree.{Forest, none, size}
 use Rattle.meaning.specs.Mentions.{mentions}
 use Rattle.meaning.specs.File.{File}
@@ -15,7 +15,7 @@ use Rattle.meaning.specs.Lowering.{admit}
 use Rattle.parsing.specs.Counts.{size-bytes}
 use Rattle.charge_laws.specs.Totals.Fits.{accepted-room}
 use Rattle.tables.specs.Columns.SymbolTable
-use Rattle.tables.specs.Table.{countsAt, counts-few}
+use Rattle.tables.specs.Table.{countsAt}
 use Rattle.mentions.specs.Counters.{addRecordF, addRowsF, onCounts}
 use Rattle.mentions.specs.Sums.{headsOf, all, two-a-record, countsFrom, counted-tree}
 use Rattle.path.specs.Path.{Tables, tables}
@@ -24,7 +24,7 @@ use Rattle.representation.specs.Spots.Spots.{restAt, Rest, walkAt, held}
 use Rattle.representation.specs.Spots.Lengths.{store-settled}
 use Rattle.representation.specs.Counts.Rows.{heads-length}
 use Rattle.representation.specs.Counts.Heads.{afterHeads, settle-stands}
-use Rattle.representation.specs.Counts.Held.{withCounts, cells-length, on-held, rest-rows}
+use Rattle.representation.specs.Counts.Held.{withCounts, cells-length, zeros-split, on-held, rest-rows}
 use Rattle.start.specs.Start.{lentIn, freeRows, zerosBehind, countsBehind}
 use Rattle.start.specs.Flat.{countedF}
 use Rattle.start.specs.Filled.{read-most, admitted}
@@ -51,14 +51,11 @@ module _ (bytes r s y : List ℕ) (f : File) (e : admit bytes (lentIn r s y) ≡
   unfolding countsAt lentIn
   rows-lent = omega (arith, read-most f, admitted bytes r s y f e .3)
 
-  zeros-split : zerosBehind f r s y ≡ withCounts padded (replicate counters 0)
+  behind-split : zerosBehind f r s y ≡ withCounts padded (replicate counters 0)
   unfolding zerosBehind
-  zeros-split =
+  behind-split =
       let z = zerosBehind f r s y in
-      let n : length y - SymbolTable.Numbers * length (f .symbols) ≡ padding + counters = omega (arith, rows-lent, counts-few y (countsAt y) refl) in
-      let split : replicate {A = ℕ} (length y - SymbolTable.Numbers * length (f .symbols)) 0 ≡ replicate {A = ℕ} padding 0 ++ replicate {A = ℕ} counters 0 =
-      ap (λ (k : ℕ). replicate {A = ℕ} k 0) n ∙ sym (replicate-append-replicate {A = ℕ} padding counters 0) in
-      λ i. record { records = z .records; scopes = z .scopes; symbols = split i }
+      λ i. record { records = z .records; scopes = z .scopes; symbols = zeros-split y (length (f .symbols)) rows-lent i }
 
   abbrev first : List ℕ → Tables
   first c = held (start f) (freeRows f) (withCounts padded c)
@@ -98,7 +95,7 @@ module _ (bytes r s y : List ℕ) (f : File) (e : admit bytes (lentIn r s y) ≡
       let q = first zeros in
       let w = q .walk in
       let added = addRowsF (q .records) (w .gap .0) (w .end .0) in
-      ap (λ (z : Rest). countedF (held (start f) (freeRows f) z)) zeros-split
+      ap (λ (z : Rest). countedF (held (start f) (freeRows f) z)) behind-split
       ∙ ap (λ (t : List ℕ). tables (q .records) (q .scopes) t w)
       (on-held added (start f) (freeRows f) padded zeros (counts-there zeros (length-replicate counters 0)))
       ∙ ap (λ (c : List ℕ). tables (q .records) (q .scopes) (first c .symbols) w) (rows-law zeros)

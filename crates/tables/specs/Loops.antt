@@ -3,6 +3,7 @@
 use mathlib.Core.Path.{_≡_, refl, sym}
 use mathlib.Core.Bool.{Bool, true, false}
 use Prim.Native.Nat.{ℕ, zero, suc, _+_, _-_, _≤_, _<_}
+use native.Mathlib.Nat.{zero-add}
 use native.Mathlib.Omega.{arith}
 use Rattle.meaning.specs.Tree.{if_then_else_}
 
@@ -15,6 +16,13 @@ turns (suc n) f x = turns n f (f x)
 unfoldable pub until : {A : Type 0} → ℕ → (A → Bool) → (A → A) → A → A
 until zero stop f x = x
 until (suc n) stop f x = if stop x then x else until n stop f (f x)
+
+pub turns-more : {A : Type 0} (n m : ℕ) (f : A → A) (x : A) → turns (n + m) f x ≡ turns m f (turns n f x)
+unfolding turns
+turns-more zero m f x = rw zero-add
+turns-more (suc n) m f x =
+    let e : suc n + m ≡ suc (n + m) = omega arith in
+    rw e (turns-more n m f (f x))
 
 pub one-less : (n k : ℕ) → k < n → n - k ≡ suc (n - (k + 1))
 one-less n k h = omega arith

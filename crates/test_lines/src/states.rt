@@ -44,12 +44,6 @@ fn same_scope(tree: &[u8], at: usize, scopes: &[u16], k: u16) -> bool {
     number(tree, at, 1) == tables::get(scopes, row + 1)
 }
 
-// Where the counts of symbols begin: behind the five numbers of every row that is lent.
-fn counts_at(symbols: &[u16]) -> usize {
-    let rows = symbols.len() / 6;
-    if rows <= 65535 { rows * 5 } else { 0 }
-}
-
 fn same_symbol(tree: &[u8], at: usize, symbols: &[u16], k: u16) -> bool {
     let row = (k as usize) * 5;
     if number(tree, at, 0) != tables::get(symbols, row) {
@@ -64,7 +58,7 @@ fn same_symbol(tree: &[u8], at: usize, symbols: &[u16], k: u16) -> bool {
     if number(tree, at, 3) != tables::get(symbols, row + 3) {
         return false;
     }
-    let count = lines::plus(counts_at(symbols), k as usize);
+    let count = lines::plus(tables::counts_at(symbols), k as usize);
     number(tree, at, 4) == tables::get(symbols, count)
 }
 

@@ -27,13 +27,6 @@ over-stays q e =
 
 -- ---- visits until the walk is over
 
-pub turns-more : {A : Type 0} (n m : ℕ) (f : A → A) (x : A) → turns (n + m) f x ≡ turns m f (turns n f x)
-unfolding turns
-turns-more zero m f x = rw zero-add
-turns-more (suc n) m f x =
-    let e : suc n + m ≡ suc (n + m) = omega arith in
-    rw e (turns-more n m f (f x))
-
 stay : {A : Type 0} (n : ℕ) (f : A → A) (x : A) → f x ≡ x → turns n f x ≡ x
 unfolding turns
 stay zero f x e = refl

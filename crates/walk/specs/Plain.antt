@@ -12,11 +12,11 @@ use Rattle.meaning.specs.Tree.{if_then_else_, oneOf}
 use Rattle.spec_laws.specs.Tags.{clash, and-left, and-right, or-none}
 use Rattle.tables.specs.Columns.RecordTable
 use Rattle.tables.specs.Table.{columnF}
-use Rattle.tables.specs.Loops.{turns, until}
+use Rattle.tables.specs.Loops.{turns, turns-more, until}
 use Rattle.path.specs.Path.{Tables, tables, onRecords, enterF}
 use Rattle.path.specs.declared.Walk.{Walk}
 use Rattle.walk.specs.Visit.{rewriteF, leaveF, isLeavingF, isOverF, visitF}
-use Rattle.walk.specs.Over.{isOverIn, turns-more, until-over}
+use Rattle.walk.specs.Over.{isOverIn, until-over}
 
 -- the tags that may ask for a rewrite
 abbrev pub rewritten : List ℕ

@@ -1,5 +1,5 @@
 -- `lowering::finish` meets its contract. Assumes nothing.
-use Rattle.lowering.specs.Flat.{finishF}
+use Rattle.lowering.specs.Flat.{countVisitedF, finishF}
 use mathlib.Core.Path.{ap, _∙_}
 use Prim.Native.Nat.{ℕ}
 use lib.ListN.{replicate}
@@ -8,7 +8,7 @@ use Rattle.lowering.proofs.finish.Statement.{statement}
 use Rattle.lowering.proofs.finish.Tie as tie
 
 returns : tie.Need-returns
-unfolding finishF
+unfolding finishF countVisitedF
 returns c =
     let at-clear3 = c .before .before in
     let at-clear2 = at-clear3 .before .before .before .before in

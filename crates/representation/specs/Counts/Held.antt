@@ -2,16 +2,16 @@
 -- Assumes nothing.
 use mathlib.Core.Path.{_≡_, refl, sym, ap, ap₂, _∙_}
 use mathlib.Core.List.{List, [], _∷_, _++_, append-assoc, append-nil}
-use Prim.Native.Nat.{ℕ, _+_, _*_}
+use Prim.Native.Nat.{ℕ, _+_, _*_, _-_, _≤_}
 use native.Mathlib.Omega.{arith}
-use lib.ListN.{length, getD, drop, length-append}
+use lib.ListN.{length, getD, drop, replicate, length-append, replicate-append-replicate}
 use lib.Seq.{take-at, drop-at}
 use Rattle.meaning.specs.Tree.{Head}
 use Rattle.meaning.specs.File.{Symbol}
 use Rattle.meaning.specs.Scoping.{noSymbol}
 use Rattle.meaning.specs.Walk.{Spot, storeAt}
 use Rattle.tables.specs.Columns.SymbolTable
-use Rattle.tables.specs.Table.{countsAt}
+use Rattle.tables.specs.Table.{countsAt, counts-few}
 use Rattle.tables.specs.Loops.{turns}
 use Rattle.mentions.specs.Counters.{counting, nextRow, onCounts}
 use Rattle.mentions.specs.Sums.{all}
@@ -34,6 +34,16 @@ pub cells-length : (ys rs : List Symbol) (z : List ℕ) → length (symbolCells 
 unfolding symbolCells
 cells-length [] rs z = omega arith
 cells-length (y ∷ ys) rs z = omega (arith, cells-length ys (drop 1 rs) z)
+
+-- where the table is 0 behind m rows, so many are before the counts, and so many are counts
+pub zeros-split : (y : List ℕ) (m : ℕ) → SymbolTable.Numbers * m ≤ countsAt y
+    → replicate {A = ℕ} (length y - SymbolTable.Numbers * m) 0
+    ≡ replicate {A = ℕ} (countsAt y - SymbolTable.Numbers * m) 0 ++ replicate {A = ℕ} (length y - countsAt y) 0
+zeros-split y m h =
+    let before = countsAt y - SymbolTable.Numbers * m in
+    let counts = length y - countsAt y in
+    let n : length y - SymbolTable.Numbers * m ≡ before + counts = omega (arith, counts-few y (countsAt y) refl) in
+    ap (λ (k : ℕ). replicate {A = ℕ} k 0) n ∙ sym (replicate-append-replicate {A = ℕ} before counts 0)
 
 -- counts behind other numbers
 on-behind : (f : List ℕ → List ℕ) (a c : List ℕ) → countsAt (a ++ c) ≡ length a → onCounts f (a ++ c) ≡ a ++ f c
