@@ -159,7 +159,7 @@ module _ (b r s y : List ℕ) (f : File) (bytes : Bytes b) (e : admit b (lentIn 
       ap countVisitedF (uncounted b r s y f e spot)
       ∙ ap (λ (t : List ℕ). tables (q .records) (q .scopes) t (q .walk))
       (on-counts x z n (addRowsF (q .records) 0 (q .walk .visited .0)) zeros spot (placed b r s y f e) most (length-replicate n 0)
-      ∙ ap (λ (c : List ℕ). withIn x z n c spot .symbols) (over-rows spot _ _ n (final-over b f read) final-mentions))
+      ∙ ap (λ (c : List ℕ). withIn x z n c spot .symbols) (over-rows spot _ z n (final-over b f read) final-mentions))
 
   -- the file at the front of the output
   finish-is : (o : List ℕ) → x .bytes ≤ length o
