@@ -6,7 +6,6 @@ use mathlib.Core.List.{List, [], _∷_, _++_, append-assoc}
 use Prim.Native.Nat.{ℕ, zero, suc, _+_, _*_, _%_, _≤_, _<_}
 use native.Mathlib.Omega.{arith}
 use lib.ListN.{length, getD, take, drop}
-use lib.Seq.{getD-append-add}
 use lib.Dec.{leb}
 use borrow.Author.Tests.{leb-true, eqb-true}
 use Rattle.tables.specs.Columns.RecordTable
@@ -35,7 +34,6 @@ use Rattle.tables.specs.declared.Row.{Row}
 use Rattle.representation.specs.Gap.Cells.{table, free, line, rowsOf}
 use Rattle.representation.specs.Store.Held.{scopeCells, symbolCells}
 use Rattle.representation.specs.Spots.Spots.{Rest, visitedAt, restAt, walkAt, held}
-use Rattle.representation.specs.Counts.Held.{withCounts, cells-length}
 use Rattle.writing.specs.Writing.{fieldWith, scopeField, symbolField, ownOr, recordField, rowsBytes, recordAt, fileBytes}
 use Rattle.readback_laws.specs.ReadBack.{isRecord, Tagged}
 use Rattle.readback_laws.specs.Length.{complete, record-complete, numbers-length}

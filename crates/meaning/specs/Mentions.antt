@@ -1,6 +1,6 @@
 -- How often records name a symbol (02, request 7).
 -- Assumes nothing.
-use mathlib.Core.List.{List, [], _∷_}
+use mathlib.Core.List.{[], _∷_}
 use Prim.Native.Nat.{ℕ, _+_}
 use lib.Dec.{eqb}
 use Rattle.meaning.specs.Numbers.Tag

@@ -8,7 +8,7 @@ use lib.ListN.{length, getD}
 use lib.Dec.{eqb}
 use borrow.Author.Tests.{ne-eqb}
 use Rattle.meaning.specs.Numbers.Tag
-use Rattle.meaning.specs.Tree.{if_then_else_, oneOf, Head, hd, Forest, none, more, count, Row, row, flatten}
+use Rattle.meaning.specs.Tree.{if_then_else_, oneOf, hd, Forest, none, more, count, Row, row, flatten}
 use Rattle.meaning.specs.Mentions.{firstNamed, secondNamed, named, mentions}
 use Rattle.meaning.specs.File.{Scope, Symbol, File, numbersOf, hasChildren, ownNumbers, recordNumbers, written}
 use Rattle.mentions.specs.Sums.{countsFrom}

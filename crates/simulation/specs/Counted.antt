@@ -8,7 +8,7 @@ use native.Mathlib.Nat.{zero-add}
 use native.Mathlib.Omega.{arith}
 use lib.ListN.{length, getD, length-append}
 use lib.Seq.{getD-append-add}
-use Rattle.meaning.specs.Tree.{Head, size}
+use Rattle.meaning.specs.Tree.{size}
 use Rattle.meaning.specs.Mentions.{mentions}
 use Rattle.meaning.specs.Walk.{Spot, isOver, visit, treeAt, storeAt}
 use Rattle.meaning.specs.Charges.{Figures}

@@ -14,15 +14,13 @@ use Rattle.meaning.specs.Walk.{actOf, enterAs, enter, leave, Crumb, crumb, Spot
 use Rattle.spec_laws.specs.Tags.{clash, or-none}
 use Rattle.tables.specs.Table.{cap-one, endF}
 use Rattle.mentions.specs.Sums.{headsOf}
-use Rattle.representation.specs.Gap.Cells.{table, free, line, rowsOf, length-free}
+use Rattle.representation.specs.Gap.Cells.{free, rowsOf, length-free}
 use Rattle.representation.specs.Gap.Streams.{end-one}
 use Rattle.representation.specs.Spots.Spots.{openRowsOf, afterRowsOf, opensAt, visitedAt, restAt, Rest, walkAt, held}
-use Rattle.representation.specs.Spots.Scopes.{outer}
 use Rattle.representation.specs.Spots.Lengths.{inner-length, rest-at}
 use Rattle.representation.specs.Counts.Rows.{heads, heads-length, heads-&}
 use Rattle.representation.specs.Counts.Heads.{openHeads, afterHeads, open-heads, at-stands, leaving-stands, settle-stands}
 use Rattle.walk.specs.Plain.{rewritten}
-use Rattle.walk.specs.Visit.{isLeavingF}
 use Rattle.walk.specs.Counted.{partF}
 use Rattle.simulation.specs.Entering.{tag-is}
 use Rattle.simulation.specs.Visit.{not-leaving, is-leaving}

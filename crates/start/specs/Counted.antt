@@ -1,25 +1,24 @@
 -- The counts of symbols that start leaves are those of the tree just read.
 -- Assumes nothing.
-use mathlib.Core.Path.{_≡_, refl, sym, ap, _∙_}
+use mathlib.Core.Path.{_≡_, sym, ap, _∙_}
 use mathlib.Core.List.{List, [], _++_, append-nil}
-use Prim.Native.Nat.{ℕ, _+_, _*_, _-_, _/_, _≤_}
+use Prim.Native.Nat.{ℕ, _+_, _*_, _-_, _≤_}
 use native.Mathlib.Omega.{arith}
 use lib.ListN.{length, replicate, length-append, length-replicate}
-use Rattle.meaning.specs.Tree.{Forest, none, size}
+use Rattle.meaning.specs.Tree.{none}
 use Rattle.meaning.specs.Mentions.{mentions}
 use Rattle.meaning.specs.File.{File}
 use Rattle.meaning.specs.Reading.{accepted}
 use Rattle.meaning.specs.Walk.{storeAt, storeOf, start}
-use Rattle.meaning.specs.Charges.{finalFigures}
 use Rattle.meaning.specs.Lowering.{admit}
 use Rattle.parsing.specs.Counts.{size-bytes}
 use Rattle.charge_laws.specs.Totals.Fits.{accepted-room}
 use Rattle.tables.specs.Columns.SymbolTable
 use Rattle.tables.specs.Table.{countsAt}
-use Rattle.mentions.specs.Counters.{addRecordF, addRowsF, onCounts}
+use Rattle.mentions.specs.Counters.{addRecordF, addRowsF}
 use Rattle.mentions.specs.Sums.{headsOf, all, two-a-record, countsFrom, counted-tree}
 use Rattle.path.specs.Path.{Tables, tables}
-use Rattle.representation.specs.Gap.Cells.{table, free, rowsOf, length-free}
+use Rattle.representation.specs.Gap.Cells.{table}
 use Rattle.representation.specs.Spots.Spots.{restAt, Rest, walkAt, held}
 use Rattle.representation.specs.Spots.Lengths.{store-settled}
 use Rattle.representation.specs.Counts.Rows.{heads-length}

@@ -1,16 +1,15 @@
 -- The records in the rows of a spot: those of the visited rows and of the rest, and what a visit does to them.
 -- Assumes nothing.
-use mathlib.Core.Path.{_≡_, refl, sym, ap, ap₂, _∙_}
+use mathlib.Core.Path.{_≡_, refl, ap, ap₂, _∙_}
 use mathlib.Core.Bool.{Bool, true, false}
 use mathlib.Core.List.{List, [], _∷_, _++_, append-assoc, append-nil}
 use Prim.Native.Nat.{ℕ, _+_}
 use native.Mathlib.Omega.{arith}
 use lib.ListN.{length}
-use Rattle.meaning.specs.Tree.{if_then_else_, Head, Forest, none, more, one, count, _&_}
+use Rattle.meaning.specs.Tree.{if_then_else_, Head, Forest, none, more, one, _&_}
 use Rattle.meaning.specs.Mentions.{mentions}
 use Rattle.meaning.specs.Scoping.{Store}
 use Rattle.meaning.specs.Walk.{isStaticBlock, Crumb, crumb, Spot, at, leaving, over, settle, plug, treeAt}
-use Rattle.tables.specs.declared.Row.{Row}
 use Rattle.mentions.specs.Sums.{headsOf, namedBy, named-++, named-heads}
 use Rattle.representation.specs.Gap.Cells.{rowsOf}
 use Rattle.representation.specs.Spots.Spots.{openLine, openRowsOf, afterRowsOf, opensAt, visitedAt, restAt}

@@ -1,5 +1,4 @@
 -- `writing::put_symbol` meets its contract. Assumes nothing.
-use mathlib.Core.Path.{_∙_, sym}
 use native.Mathlib.Omega.{arith}
 use Rattle.writing.specs.Writing.{symbolField}
 use Rattle.tables.specs.Table.{counts-few}

@@ -1,6 +1,5 @@
 -- `writing::put_whole` meets its contract. Assumes nothing.
 use mathlib.Core.Path.{refl}
-use Prim.Native.Nat.{_%_}
 use native.Mathlib.Omega.{arith}
 use Rattle.writing.specs.Stored.{record-few}
 use Rattle.writing.proofs.Laws.{next-whole}
