@@ -1,7 +1,8 @@
 // Scope and symbol rows in lent tables: what the Rust calls `ctx.scoping()`.
 //
 // A scope row takes two numbers, parent and flags; a symbol row five: name, flags, scope, made, and the scope that was read. Rows are
-// numbered from 1, new ones come behind the others, and the tables are 0 behind the last row.
+// numbered from 1, new ones come behind the others, and the tables are 0 behind the last row, up to the counts of symbols (`tables::counts_at`),
+// which nothing here looks at.
 use meaning::ScopeId;
 use meaning::SymbolId;
 use meaning::symbol_flag;
