@@ -173,9 +173,11 @@ abbrev pub rows : Rows → Outcome Counted
 rows (Read k at) = accepted (record { number = k; next = at })
 rows (RefusedRows c p) = refused c p
 
--- The checks in their order: 1; field by field; 7; 5 for the lowest unnamed row; 5 for the lowest wrong count. The tree is read by `forest`.
-abbrev pub readWith : (List ℕ → ℕ → (ℕ → Place) → ℕ → ℕ → ℕ → ℕ → List ℕ → Outcome Records) → List ℕ → Outcome File
-readWith forest f = do
+-- The checks in their order: 1; field by field; 7; 5 for the lowest unnamed row; and `last`, which is handed the tree, the number of symbol rows and the
+-- offset of the first. The tree is read by `forest`.
+abbrev pub readThrough
+    : (List ℕ → ℕ → (ℕ → Place) → ℕ → ℕ → ℕ → ℕ → List ℕ → Outcome Records) → (Forest → ℕ → ℕ → Outcome (Unit {0})) → List ℕ → Outcome File
+readThrough forest last f = do
   ensure (leb (length f) mostBytes) Refusal.TooLong mostBytes
   settings ← field (fieldAt f Settings 0)
   ensure (leb (settings .a) Mode.Inline && leb (settings .b) 1) Refusal.WrongNumber 0
@@ -184,7 +186,7 @@ readWith forest f = do
   program ← forest f (symbols .number) (λ _. Program) 0 0 1 (symbols .next) (replicate (scopes .number) 0)
   ensure (leb (length f) (program .next)) Refusal.BytesBehind (program .next)
   ensure (leb (scopes .number) (unnamed (program .marks))) Refusal.WrongNumber (settingsBytes + scopeBytes * unnamed (program .marks))
-  checkCounts f (λ y. mentions y (program .forest)) (symbols .number) (scopes .next)
+  last (program .forest) (symbols .number) (scopes .next)
   accepted
       (record {
         mode = settings .a;
@@ -193,6 +195,10 @@ readWith forest f = do
         symbols = symbolsIn f (symbols .number) (scopes .next);
         tree = program .forest;
       })
+
+-- the last is 5 for the lowest wrong count (02, request 7)
+abbrev pub readWith : (List ℕ → ℕ → (ℕ → Place) → ℕ → ℕ → ℕ → ℕ → List ℕ → Outcome Records) → List ℕ → Outcome File
+readWith forest f = readThrough forest (λ tree n at. checkCounts f (λ y. mentions y tree) n at) f
 
 unfoldable pub readFile : List ℕ → Outcome File
 readFile f = readWith (readForest mostLevels) f

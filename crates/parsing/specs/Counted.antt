@@ -28,12 +28,11 @@ use Rattle.meaning.specs.Reading.{
   readScopes,
   readSymbols,
   readForest,
-  scopesIn,
-  symbolsIn,
   wrongCount,
   checkCounts,
   mostBytes,
   mostLevels,
+  readThrough,
   readFile,
 }
 use Rattle.meaning.specs.declared.Place.the-variants.{Settings, Program}
@@ -45,25 +44,9 @@ use Rattle.meaning.specs.declared.Rows.the-variants.{Read, Refused as RefusedRo
 use Rattle.parsing.specs.Fields.{field-is, scopes-are}
 use Rattle.parsing.specs.Files.{settings-are, scopes-length, symbols-length}
 
--- Reading without its last check: the steps of `readWith` but `checkCounts`.
+-- Reading without its last check.
 unfoldable pub readUncounted : List ℕ → Outcome File
-readUncounted f = do
-  ensure (leb (length f) mostBytes) Refusal.TooLong mostBytes
-  settings ← field (fieldAt f Settings 0)
-  ensure (leb (settings .a) Mode.Inline && leb (settings .b) 1) Refusal.WrongNumber 0
-  scopes ← rows (readScopes f (settings .next))
-  symbols ← rows (readSymbols f (scopes .number) (scopes .next))
-  program ← readForest mostLevels f (symbols .number) (λ _. Program) 0 0 1 (symbols .next) (replicate (scopes .number) 0)
-  ensure (leb (length f) (program .next)) Refusal.BytesBehind (program .next)
-  ensure (leb (scopes .number) (unnamed (program .marks))) Refusal.WrongNumber (settingsBytes + scopeBytes * unnamed (program .marks))
-  accepted
-      (record {
-        mode = settings .a;
-        isModule = settings .b;
-        scopes = scopesIn f (scopes .number) 1;
-        symbols = symbolsIn f (symbols .number) (scopes .next);
-        tree = program .forest;
-      })
+readUncounted f = readThrough (readForest mostLevels) (λ tree n at. accepted tt) f
 
 -- the offset of the first symbol row, behind the settings and the scope rows; that of row y, counted from 1
 abbrev pub firstSymbol : File → ℕ
