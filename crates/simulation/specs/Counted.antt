@@ -37,7 +37,7 @@ use Rattle.representation.specs.Store.Held.{symbolCells}
 use Rattle.representation.specs.Spots.Spots.{visitedAt, restAt, Rest, walkAt, held}
 use Rattle.representation.specs.Counts.Rows.{heads, heads-length}
 use Rattle.representation.specs.Counts.Heads.{spot-mentions}
-use Rattle.representation.specs.Counts.Held.{withCounts, cells-++, cells-length, on-held, visited-rows, rest-rows}
+use Rattle.representation.specs.Counts.Held.{withCounts, cells-++, cells-length, on-behind, visited-rows, rest-rows}
 use Rattle.representation.specs.Shown.Shown.{listFrom, countsIn}
 use Rattle.scoping_laws.specs.Created.Held.{freeSymbols}
 use Rattle.walk.specs.Visit.{visitF}
@@ -99,25 +99,45 @@ module _ (x : Figures) (z : Rest) (n : ℕ) where
   abbrev pub countedIn : Spot → Tables
   countedIn s = withIn (countsFrom (λ y. mentions y (treeAt s)) n 1) s
 
+  -- ---- the symbol table
+
+  module _ (s : Spot) (placed : Placed) (most : length (storeAt s .symbols) ≤ x .symbols) where
+    -- the symbol rows, the free ones and z
+    abbrev rowsBefore : List ℕ
+    rowsBefore =
+        let st = storeAt s in
+        symbolCells (st .symbols) (st .asRead) (freeSymbols (x .symbols - length (st .symbols)) (z .symbols))
+
+    before-long : length rowsBefore ≡ before
+    before-long =
+        let st = storeAt s in
+        let free = x .symbols - length (st .symbols) in
+        cells-length (st .symbols) (st .asRead) (freeSymbols free (z .symbols)) ∙ omega (arith, free-length free (z .symbols))
+
+    behind-rows : (c : List ℕ) → withIn c s .symbols ≡ rowsBefore ++ c
+    unfolding held
+    behind-rows c =
+        let st = storeAt s in
+        let free = x .symbols - length (st .symbols) in
+        ap (symbolCells (st .symbols) (st .asRead)) (free-++ free (z .symbols) c)
+        ∙ cells-++ (st .symbols) (st .asRead) (freeSymbols free (z .symbols)) c
+
+    counts-there : (c : List ℕ) → length c ≡ n → countsAt (rowsBefore ++ c) ≡ before
+    counts-there c l =
+        let long : length (rowsBefore ++ c) ≡ before + n = length-append rowsBefore c ∙ omega (arith, before-long) in
+        placed-at (rowsBefore ++ c) before n long placed
+
+    -- the counts changed
+    on-rows : (f : List ℕ → List ℕ) (c : List ℕ) → length c ≡ n → onCounts f (withIn c s .symbols) ≡ withIn (f c) s .symbols
+    on-rows f c l = ap (onCounts f) (behind-rows c) ∙ on-behind f rowsBefore c (counts-there c l ∙ sym before-long) ∙ sym (behind-rows (f c))
+
+    -- and read
+    pub count-shown : (c : List ℕ) → length c ≡ n → (i : ℕ) → getD (withIn c s .symbols) (countsAt (withIn c s .symbols) + i) 0 ≡ getD c i 0
+    count-shown c l i = rw (behind-rows c, counts-there c l, ← before-long) (getD-append-add rowsBefore c i 0)
+
   pub on-counts : (f : List ℕ → List ℕ) (c : List ℕ) (s : Spot) → Placed → length (storeAt s .symbols) ≤ x .symbols → length c ≡ n
       → onCounts f (withIn c s .symbols) ≡ withIn (f c) s .symbols
-  unfolding held
-  on-counts f c s placed most l =
-      let g = x .records - size (treeAt s) in
-      let rows = x .scopes - length (storeAt s .scopes) in
-      let free = x .symbols - length (storeAt s .symbols) in
-      let st = storeAt s in
-      let split : (d : List ℕ) → withFree rows free (withCounts z d) ≡ withCounts (withFree rows free z) d =
-      λ d i. record { records = z .records; scopes = withFree rows free z .scopes; symbols = free-++ free (z .symbols) d i } in
-      let v = freeSymbols free (z .symbols) in
-      let long : length (symbolCells (st .symbols) (st .asRead) v) ≡ before =
-      cells-length (st .symbols) (st .asRead) v ∙ omega (arith, free-length free (z .symbols)) in
-      let all-long : length (symbolCells (st .symbols) (st .asRead) (v ++ c)) ≡ before + n =
-      cells-length (st .symbols) (st .asRead) (v ++ c) ∙ omega (arith, length-append v c, free-length free (z .symbols)) in
-      ap (λ (r : Rest). onCounts f (held s g r .symbols)) (split c)
-      ∙ on-held f s g (withFree rows free z) c
-      (placed-at _ before n all-long placed ∙ sym long)
-      ∙ ap (λ (r : Rest). held s g r .symbols) (sym (split (f c)))
+  on-counts f c s placed most l = on-rows s placed most f c l
 
   -- ---- one visit
 
@@ -281,31 +301,6 @@ module _ (x : Figures) (z : Rest) (n : ℕ) where
   -- ---- what a reader finds
 
   module _ (s : Spot) (placed : Placed) (most : length (storeAt s .symbols) ≤ x .symbols) where
-    -- the symbol rows, the free ones and z
-    abbrev rowsBefore : List ℕ
-    rowsBefore =
-        let st = storeAt s in
-        symbolCells (st .symbols) (st .asRead) (freeSymbols (x .symbols - length (st .symbols)) (z .symbols))
-
-    before-long : length rowsBefore ≡ before
-    before-long =
-        let st = storeAt s in
-        let free = x .symbols - length (st .symbols) in
-        cells-length (st .symbols) (st .asRead) (freeSymbols free (z .symbols)) ∙ omega (arith, free-length free (z .symbols))
-
-    behind-rows : (c : List ℕ) → withIn c s .symbols ≡ rowsBefore ++ c
-    unfolding held
-    behind-rows c =
-        let st = storeAt s in
-        let free = x .symbols - length (st .symbols) in
-        ap (symbolCells (st .symbols) (st .asRead)) (free-++ free (z .symbols) c)
-        ∙ cells-++ (st .symbols) (st .asRead) (freeSymbols free (z .symbols)) c
-
-    pub count-shown : (c : List ℕ) → length c ≡ n → (i : ℕ) → getD (withIn c s .symbols) (countsAt (withIn c s .symbols) + i) 0 ≡ getD c i 0
-    count-shown c l i =
-        let long : length (rowsBefore ++ c) ≡ before + n = length-append rowsBefore c ∙ omega (arith, before-long) in
-        rw (behind-rows c, placed-at (rowsBefore ++ c) before n long placed, ← before-long) (getD-append-add rowsBefore c i 0)
-
     -- THE COUNTS of the symbol rows are those of the tree.
     pub counts-shown : length (storeAt s .symbols) ≤ n
         → countsIn (countedIn s) ≡ countsFrom (λ y. mentions y (treeAt s)) (length (storeAt s .symbols)) 1
@@ -314,6 +309,6 @@ module _ (x : Figures) (z : Rest) (n : ℕ) where
         let counts = countsFrom (λ y. mentions y (treeAt s)) n 1 in
         list-same _ _ (length (storeAt s .symbols)) 0 1
         (λ i l.
-        count-shown counts (counts-length (λ y. mentions y (treeAt s)) n 1) (0 + i)
+        count-shown s placed most counts (counts-length (λ y. mentions y (treeAt s)) n 1) (0 + i)
         ∙ ap (λ (j : ℕ). getD counts j 0) (zero-add i)
         ∙ from-at (λ y. mentions y (treeAt s)) n 1 i (omega arith))

@@ -46,7 +46,7 @@ zeros-split y m h =
     ap (λ (k : ℕ). replicate {A = ℕ} k 0) n ∙ sym (replicate-append-replicate {A = ℕ} before counts 0)
 
 -- counts behind other numbers
-on-behind : (f : List ℕ → List ℕ) (a c : List ℕ) → countsAt (a ++ c) ≡ length a → onCounts f (a ++ c) ≡ a ++ f c
+pub on-behind : (f : List ℕ → List ℕ) (a c : List ℕ) → countsAt (a ++ c) ≡ length a → onCounts f (a ++ c) ≡ a ++ f c
 unfolding onCounts
 on-behind f a c e = rw e (ap₂ _++_ (take-at a c (length a) refl) (ap f (drop-at a c (length a) refl)))
 
