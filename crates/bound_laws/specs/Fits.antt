@@ -239,7 +239,7 @@ most-++ : (b : ℕ) (rs qs : List Row) → AtMost b rs → AtMost b qs → AtMos
 most-++ b [] qs e d = d
 most-++ b (r ∷ rs) qs e d = (e .0, most-++ b rs qs (e .1) d)
 
-rows-most-n : (b : ℕ) (f : Forest) → size f ≤ b → AtMost b (flatten f)
+pub rows-most-n : (b : ℕ) (f : Forest) → size f ≤ b → AtMost b (flatten f)
 unfolding flatten size
 rows-most-n b none e = tt
 rows-most-n b (more h k r) e = (

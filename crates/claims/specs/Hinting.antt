@@ -1,6 +1,6 @@
 -- What a lowered tree calls is what its source asks for.
 -- Assumes nothing.
-use mathlib.Core.Path.{_≡_, refl, sym, _∙_}
+use mathlib.Core.Path.{_≡_, refl, sym, ap, _∙_}
 use mathlib.Core.Bool.{Bool, true, false, not, _&&_}
 use mathlib.Core.List.{List}
 use Prim.Native.Nat.{ℕ, _+_, _*_}
@@ -12,11 +12,10 @@ use Rattle.meaning.specs.Tree.{if_then_else_, Head, Forest, none, more, _&_}
 use Rattle.meaning.specs.File.{File}
 use Rattle.meaning.specs.Reading.{accepted, readFile}
 use Rattle.meaning.specs.Statements.{isUsing}
-use Rattle.meaning.specs.Walk.{Spot, at, leaving, over, isOver, visits, start, treeAt, storeAt}
+use Rattle.meaning.specs.Walk.{Spot, isOver, treeAt, storeAt}
 use Rattle.meaning.specs.ImportLine.{withImport, completed}
 use Rattle.meaning.specs.Charges.{finalFigures}
 use Rattle.meaning.specs.Lowering.{lastSpot, finalSpot}
-use Rattle.spec_laws.specs.Tags.{clash}
 use Rattle.spec_laws.specs.Calls.{completed-keeps}
 use Rattle.hint_laws.specs.Hints.{sumOver, overDeclarators, takesUp, ofSource, asked, called, callsIn, given}
 use Rattle.hint_laws.specs.Requested.Asked.{OldCalls, accepted-old, overs-none, calls-in-none, asked-by-kind, asked-of-source}
@@ -68,12 +67,6 @@ unfolding AllQuiet Settled Quiet
 quiet-settled none q = tt
 quiet-settled (more h k r) q = (q .0 .0, quiet-settled k (q .1), quiet-settled r (q .2))
 
-quiet-end : (b : List ℕ) (f : File) → readFile b ≡ accepted f → (k : ℕ) (s : Spot) → visits k (start f) ≡ s → isOver s ≡ true → AllQuiet (treeAt s)
-unfolding isOver treeAt
-quiet-end b f q k (over tree st) e o = over-quiet k b f tree st q e
-quiet-end b f q k (at d h k₁ r p st) e o = absurd (clash refl o)
-quiet-end b f q k (leaving k₁ h d r p st) e o = absurd (clash refl o)
-
 -- ---- the import line calls nothing
 
 module _ (w : List ℕ → List ℕ → ℕ → ℕ) (read : ℕ) where
@@ -115,7 +108,7 @@ module _ (w : List ℕ → List ℕ → ℕ → ℕ) (b : List ℕ) (f : File) (
   last-hints : given w read (treeAt (lastSpot f)) ≡ asked w (f .tree)
   last-hints =
       let n = 2 * finalFigures f .records in
-      let q : AllQuiet (treeAt (lastSpot f)) = quiet-end b f e n (lastSpot f) (sym (last-spot f)) (last-over b f e) in
+      let q : AllQuiet (treeAt (lastSpot f)) = rw (last-spot f) (over-quiet b f n e (ap isOver (sym (last-spot f)) ∙ last-over b f e)) in
       sym (at-end (treeAt (lastSpot f)) q) ∙ (rw (last-spot f) (visits-balance w b f n e)) ∙ at-source
 
   -- WHAT THE LOWERED TREE CALLS IS WHAT THE SOURCE ASKS FOR: the import line calls nothing.

@@ -42,7 +42,7 @@ use Rattle.meaning.specs.Charges.{Figures, finalFigures}
 use Rattle.meaning.specs.Lowering.{admit, finalSpot}
 use Rattle.spec_laws.specs.Tags.{clash, and-right}
 use Rattle.spec_laws.specs.Trees.{Bytes, visits-last}
-use Rattle.spec_laws.specs.Calls.{completed-store, not-yet, calls-are}
+use Rattle.spec_laws.specs.Calls.{completed-store, not-yet, completed-none, calls-are}
 use Rattle.charge_laws.specs.Counts.Left.{over-stays}
 use Rattle.charge_laws.specs.Growth.Items.{
   Anything,
@@ -104,12 +104,6 @@ pub record ImportLine (calls : ℕ → File → Spot) (f : File) (k : ℕ) : Typ
 -- where k calls lead
 abbrev pub calls : ℕ → File → Spot
 calls k f = visitCalls k (start f)
-
-completed-none : (s : Spot) → importDue (storeAt s) ≡ false → completed s ≡ s
-unfolding completed storeAt
-completed-none (over tree st) e = rw e
-completed-none (at d h k r p st) e = refl
-completed-none (leaving k h d r p st) e = refl
 
 completed-tree : (s : Spot) → isOver s ≡ true → importDue (storeAt s) ≡ true → treeAt (completed s) ≡ withImport (storeAt s .helper) (treeAt s)
 unfolding completed isOver treeAt storeAt

@@ -8,9 +8,8 @@ use native.Mathlib.Omega.{arith}
 use lib.Dec.{leb}
 use lib.ListN.{length, replicate, length-replicate}
 use lib.Seq.{sets}
-use borrow.Author.Tests.{leb-true, le-leb}
-use Rattle.meaning.specs.Numbers.Tag
-use Rattle.meaning.specs.Tree.{if_then_else_, Forest, none, more}
+use borrow.Author.Tests.{leb-true}
+use Rattle.meaning.specs.Tree.{if_then_else_}
 use Rattle.meaning.specs.Mentions.{mentions}
 use Rattle.meaning.specs.File.{File, written}
 use Rattle.meaning.specs.Reading.{Outcome, accepted, refused, _>>=_, _>>_, ensure, readFile}
@@ -20,9 +19,7 @@ use Rattle.meaning.specs.Charges.{Figures, figuresAt, finalFigures}
 use Rattle.meaning.specs.Lowering.{Lent, checkOutput, admit, admitOutput, lastSpot, finalSpot, Written, lower}
 use Rattle.spec_laws.specs.Tags.{clash}
 use Rattle.charge_laws.specs.Totals.Fits.{accepted-fits}
-use Rattle.bound_laws.specs.Numbers.{TreeWithin}
 use Rattle.spec_laws.specs.Trees.{Bytes}
-use Rattle.bound_laws.specs.Completed.{calls-fit}
 use Rattle.bound_laws.specs.MentionsFit.{mentions-fit}
 use Rattle.figures.specs.Figures.{shownFigures}
 use Rattle.checking.specs.declared.Surveyed.{Surveyed}
@@ -49,6 +46,7 @@ use Rattle.path.specs.Path.{Tables, tables}
 use Rattle.writing.specs.Writing.{fileBytes}
 use Rattle.import_line.specs.Import.{completeIn}
 use Rattle.readback_laws.specs.ReadBack.{Tagged}
+use Rattle.readback_laws.specs.Accepted.{calls-tagged}
 use Rattle.readback_laws.specs.Length.{tagged-length}
 use Rattle.lowering.specs.Lower.{finished, zerosFor, writtenOver, lowerOf, lowerF}
 use Rattle.walk.specs.Over.{until-over}
@@ -57,10 +55,6 @@ use Rattle.lowering.specs.Bytes.{held-bytes}
 use Rattle.lowering.specs.declared.Lowered.the-variants.{Written as WrittenIn}
 
 -- ---- the bytes at the end
-
-within-tagged : (f : Forest) → TreeWithin 65535 f → Tagged f
-within-tagged none p = tt
-within-tagged (more h k r) p = (le-leb (h .tag) Tag.Step (p .0 .0), within-tagged k (p .1), within-tagged r (p .2))
 
 -- the tables at the end of a walk, with the counts of its tree
 over-bytes : (x : Figures) (z : Rest) (n : ℕ) (s : Spot) → isOver s ≡ true → Tagged (treeAt s) → Placed x z n → length (storeAt s .symbols) ≤ x .symbols
@@ -102,7 +96,7 @@ module _ (b r s y : List ℕ) (f : File) (bytes : Bytes b) (e : admit b (lentIn 
 
   pub final-tagged : Tagged (treeAt (finalSpot f))
   unfolding finalSpot
-  final-tagged = rw (last-spot f) (within-tagged (treeAt (completed (visits n (start f)))) (calls-fit b f n bytes read))
+  final-tagged = rw (last-spot f) (calls-tagged b f n bytes read)
 
   -- THE LENGTH of the file written is the figure.
   pub final-length : length (written (fileAt (finalSpot f))) ≡ x .bytes

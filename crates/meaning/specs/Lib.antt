@@ -6,6 +6,7 @@ pub mod File
 pub mod Grammar
 pub mod Reading
 pub mod Scoping
+pub mod Agreement
 pub mod Shapes
 pub mod HelperLoader
 pub mod Statements

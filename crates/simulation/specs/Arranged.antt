@@ -2,6 +2,5 @@
 pub mod Mix
 pub mod Arrange
 pub mod Plan
-pub mod Scopes
 pub mod Rewrite
 pub mod Program

@@ -45,6 +45,13 @@ not-yet (over tree st) o = absurd (clash o refl)
 not-yet (at d h k r p st) o = refl
 not-yet (leaving k h d r p st) o = refl
 
+-- nor where it is not due
+pub completed-none : (s : Spot) → importDue (storeAt s) ≡ false → completed s ≡ s
+unfolding completed storeAt
+completed-none (over tree st) e = rw e
+completed-none (at d h k r p st) e = refl
+completed-none (leaving k h d r p st) e = refl
+
 -- ---- calls
 
 pub calls-complete : (k : ℕ) (s : Spot) → visitCalls k (completed s) ≡ completed (visits k s)
@@ -65,9 +72,13 @@ settled-complete none st e = rw e
 settled-complete (more h k r) st e = refl
 
 -- before the first visit no helper is loaded
+pub none-loaded : (f : File) → importDue (storeOf f) ≡ false
+unfolding storeOf importDue
+none-loaded f = no-load (eqb (f .mode) Mode.Runtime) (eqb (f .isModule) 1)
+
 pub start-complete : (f : File) → completed (start f) ≡ start f
-unfolding start storeOf importDue
-start-complete f = settled-complete (f .tree) (storeOf f) (no-load (eqb (f .mode) Mode.Runtime) (eqb (f .isModule) 1))
+unfolding start
+start-complete f = settled-complete (f .tree) (storeOf f) (none-loaded f)
 
 -- AFTER k CALLS the walk stands where k visits lead, with the line once it is over.
 pub calls-are : (k : ℕ) (f : File) → visitCalls k (start f) ≡ completed (visits k (start f))

@@ -46,7 +46,7 @@ unfolding Quiet
 quiet-for-of h k p e = ((λ t. absurd (clash p t)), (λ _. e))
 
 -- whose first child is no using
-first-held : (h : Head) (k r : Forest) → isUsing h ≡ false → heldUsing (more h k r) ≡ false
+pub first-held : (h : Head) (k r : Forest) → isUsing h ≡ false → heldUsing (more h k r) ≡ false
 unfolding heldUsing
 first-held h k none e = refl
 first-held h k (more h₂ k₂ none) e = refl

@@ -1,12 +1,13 @@
 -- When the walk is over, no using is left that should have been taken up.
 -- Assumes nothing.
-use mathlib.Core.Path.{_≡_, subst}
+use mathlib.Core.Path.{_≡_, refl}
+use mathlib.Core.Bool.{true}
 use mathlib.Core.List.{List, [], _∷_}
 use Prim.Native.Nat.{ℕ, zero, suc}
 use Rattle.meaning.specs.Tree.{Forest, none, more, one, _&_}
 use Rattle.meaning.specs.File.{File}
 use Rattle.meaning.specs.Reading.{accepted, readFile}
-use Rattle.meaning.specs.Scoping.{Store}
+use Rattle.meaning.specs.Statements.{isUsing, anyUsing}
 use Rattle.meaning.specs.Walk.{
   enter,
   leave,
@@ -15,20 +16,25 @@ use Rattle.meaning.specs.Walk.{
   at,
   leaving,
   over,
+  isOver,
   currentScope,
   hoistScope,
   visit,
   visits,
   storeOf,
   start,
+  treeAt,
 }
+use Rattle.meaning.specs.ImportLine.{withImport, completed}
+use Rattle.spec_laws.specs.Tags.{clash}
+use Rattle.spec_laws.specs.Calls.{completed-keeps}
 use Rattle.charge_laws.specs.Counts.Visits.{&-assoc}
 use Rattle.charge_laws.specs.Counts.Pending.{Pending, pending-visit, pending-start}
 use Rattle.charge_laws.specs.Fit.Accepted.{accepted-fit}
 use Rattle.hint_laws.specs.Outline.{same-&}
-use Rattle.hint_laws.specs.Lowered.Quiet.{AllQuiet, quiet-&}
+use Rattle.hint_laws.specs.Lowered.Quiet.{Quiet, AllQuiet, calm, quiet-&}
 use Rattle.hint_laws.specs.Lowered.Paths.{QuietPath, QuietAt, quiet-settle, path-same}
-use Rattle.hint_laws.specs.Lowered.Entered.{enter-opens}
+use Rattle.hint_laws.specs.Lowered.Entered.{first-held, enter-opens}
 use Rattle.hint_laws.specs.Lowered.Left.{leave-quiet}
 
 -- one visit, and any number
@@ -57,8 +63,31 @@ pub visits-quiet : (k : ℕ) (b : List ℕ) (f : File) → readFile b ≡ accept
 unfolding start AllQuiet QuietPath
 visits-quiet k b f e = quiet-visits k (start f) (pending-start f (accepted-fit b f e)) (quiet-settle [] none (f .tree) (storeOf f) tt tt)
 
+-- ---- the end
+
+over-at : (s : Spot) → isOver s ≡ true → QuietAt s → AllQuiet (treeAt s)
+unfolding isOver treeAt QuietAt
+over-at (over tree st) o q = q
+over-at (at d h k r p st) o q = absurd (clash refl o)
+over-at (leaving k h d r p st) o q = absurd (clash refl o)
+
 -- So the lowered tree is quiet: no using is left that is to be taken up.
-pub over-quiet : (k : ℕ) (b : List ℕ) (f : File) (tree : Forest) (st : Store) → readFile b ≡ accepted f → visits k (start f) ≡ over tree st
-    → AllQuiet tree
-unfolding QuietAt
-over-quiet k b f tree st e o = subst QuietAt o (visits-quiet k b f e)
+pub over-quiet : (b : List ℕ) (f : File) (k : ℕ) → readFile b ≡ accepted f → isOver (visits k (start f)) ≡ true
+    → AllQuiet (treeAt (visits k (start f)))
+over-quiet b f k e o = over-at (visits k (start f)) o (visits-quiet k b f e)
+
+-- The import line is no using, before whatever it is put.
+import-quiet : (y : ℕ) (tree : Forest) → AllQuiet tree → AllQuiet (withImport y tree)
+unfolding withImport AllQuiet Quiet anyUsing isUsing _&_
+import-quiet y none q = tt
+import-quiet y (more h k r) q = (
+  ((λ e. q .0 .0 e), (λ e. first-held _ _ k refl)),
+  (calm _ _ refl refl, (calm _ _ refl refl, tt, tt), q .1),
+  q .2,
+)
+
+pub completed-quiet : (b : List ℕ) (f : File) (k : ℕ) → readFile b ≡ accepted f → isOver (visits k (start f)) ≡ true
+    → AllQuiet (treeAt (completed (visits k (start f))))
+completed-quiet b f k e o =
+    let q = over-quiet b f k e o in
+    completed-keeps AllQuiet (visits k (start f)) q (import-quiet _ _ q)

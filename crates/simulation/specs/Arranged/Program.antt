@@ -35,7 +35,7 @@ use Rattle.rewrite_program.specs.Program.{enterProgramF}
 use Rattle.simulation.specs.Rewritten.Standing.{before, behind, toList, row-is, list-here}
 use Rattle.simulation.specs.Rewritten.Replaced.{withFree, rewritten, start-law, start-room, replaced-law}
 use Rattle.simulation.specs.Arranged.Plan.{items-size, plan-program-law}
-use Rattle.simulation.specs.Arranged.Scopes.{items-same}
+use Rattle.spec_laws.specs.SameScopes.{items-scopes}
 use Rattle.simulation.specs.Arranged.Rewrite.{blockRow, rewrite-items-law}
 use Rattle.spec_laws.specs.Trees.{count-size}
 
@@ -66,7 +66,7 @@ module _ (done : Forest) (h : Head) (k r : Forest) (path : List Crumb) (st : Sto
 
   scopes-are : q .scopes ≡ scopeCells (st′ .scopes) (freeScopes 1 (z .scopes))
   unfolding held storeAt
-  scopes-are = ap (λ (ss : List Scope). scopeCells ss (freeScopes 1 (z .scopes))) (sym (items-same k st))
+  scopes-are = ap (λ (ss : List Scope). scopeCells ss (freeScopes 1 (z .scopes))) (sym (items-scopes k st))
 
   symbols-are : q .symbols ≡ symbolCells (st .symbols) (st .asRead) (freeSymbols (itemsSymbols k) (z .symbols))
   unfolding held storeAt

@@ -9,9 +9,10 @@ use lib.Dec.{eqb}
 use lib.ListN.{length}
 use Rattle.meaning.specs.Numbers.Tag
 use Rattle.meaning.specs.Tree.{if_then_else_, Head, Forest, one, single, count, size}
-use Rattle.meaning.specs.Scoping.{Store, Change, return, moveBinding, moveBindings}
+use Rattle.meaning.specs.Scoping.{Store, Change, return, moveBindings}
 use Rattle.meaning.specs.Contexts.{namesIn, lastBlockScope, anyPartUsing, moveCatchNames, transformTryParts}
 use Rattle.spec_laws.specs.Trees.{transformHandler}
+use Rattle.spec_laws.specs.SameScopes.{moved-scopes}
 use Rattle.charge_laws.specs.Totals.Roles.{Lacks}
 use Rattle.tables.specs.Table.{cap-one, capped, columnF}
 use Rattle.tables.specs.Stream.{Buf, copyRowF}
@@ -43,11 +44,6 @@ moved-agreed : (b : Bool) (ys : List ℕ) (scope : ℕ) (st : Store) → Agreed 
 moved-agreed true ys scope st a = bindings-agreed st a ys scope
 moved-agreed false ys scope st a = a
 
-scopes-kept : (ys : List ℕ) (scope : ℕ) (st : Store) → moveBindings ys scope st .1 .scopes ≡ st .scopes
-unfolding moveBindings moveBinding
-scopes-kept [] scope st = refl
-scopes-kept (y ∷ ys) scope st = scopes-kept ys scope (moveBinding y scope st .1)
-
 -- once the parts of a Catch are written, by whether they got no rows
 abbrev handled : Bool → ℕ → ℕ → PartingF → PartingF
 handled b list n o =
@@ -68,7 +64,7 @@ handled-law false z zs zy a f g v st q =
       last-block-law z f a (free g ++ v) t e q,
       move-names-law z zy scope t f a (free g ++ v) st e q,
       bindings-ctx st (namesIn f) scope,
-      scopes-kept (namesIn f) scope st,
+      moved-scopes (namesIn f) scope st,
     )
 
 -- ---- a Catch

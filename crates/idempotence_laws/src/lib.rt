@@ -1,0 +1,1 @@
+// Theorems, no code: a file that lowering wrote is lowered to itself.
