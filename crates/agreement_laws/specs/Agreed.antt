@@ -13,13 +13,12 @@ use Rattle.meaning.specs.Tree.{if_then_else_, hd, Forest, none, more, one, _&_}
 use Rattle.meaning.specs.File.{Scope, File}
 use Rattle.meaning.specs.Grammar.{isRow, scopeOf, below}
 use Rattle.meaning.specs.Agreement.{namesScope, enclosingScopes, ScopesAgree}
-use Rattle.meaning.specs.Scoping.{Store, rowAt, noScope}
+use Rattle.meaning.specs.Scoping.{rowAt, noScope}
 use Rattle.meaning.specs.Reading.{accepted, readFile}
-use Rattle.meaning.specs.Walk.{Spot, visits, start, storeOf, plug, treeAt, storeAt}
+use Rattle.meaning.specs.Walk.{visits, start, storeOf, plug, treeAt, storeAt}
 use Rattle.meaning.specs.ImportLine.{withImport, completed}
 use Rattle.spec_laws.specs.Calls.{completed-keeps}
 use Rattle.charge_laws.specs.Counts.Pending.{pending-start}
-use Rattle.charge_laws.specs.Counts.Figures.{settled}
 use Rattle.charge_laws.specs.Fit.Accepted.{accepted-fit}
 use Rattle.charge_laws.specs.Fit.Root.{accepted-program}
 use Rattle.agreement_laws.specs.Weights.{Weight, demanded, offered, Offers}

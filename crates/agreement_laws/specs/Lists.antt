@@ -8,13 +8,13 @@ use lib.Dec.{eqb}
 use Rattle.meaning.specs.Numbers.Tag
 use Rattle.meaning.specs.Numbers.Kind
 use Rattle.meaning.specs.Numbers.Mode
-use Rattle.meaning.specs.Tree.{if_then_else_, Head, hd, Forest, none, more, _&_}
+use Rattle.meaning.specs.Tree.{if_then_else_, Head, Forest, more, _&_}
 use Rattle.meaning.specs.Grammar.{scopeOf, below}
 use Rattle.meaning.specs.Agreement.{namesScope}
 use Rattle.meaning.specs.Scoping.{Store}
 use Rattle.meaning.specs.Shapes.{declaration}
 use Rattle.meaning.specs.HelperLoader.{loadRuntime, loadExternal, helperLoad}
-use Rattle.meaning.specs.Statements.{isUsing, asTakenUp, takeUp, makeContext, transformStatements}
+use Rattle.meaning.specs.Statements.{asTakenUp, takeUp, makeContext, transformStatements}
 use Rattle.charge_laws.specs.Growth.Trees.{using-tag}
 use Rattle.charge_laws.specs.Growth.Taken.{Taken, nothing, passed, as-const, in-declarator, called, taken, TakenIn, in-list, around}
 use Rattle.agreement_laws.specs.Weights.{Weight, demanded}

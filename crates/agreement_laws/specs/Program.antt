@@ -15,9 +15,8 @@ use Rattle.meaning.specs.Numbers.KnownName
 use Rattle.meaning.specs.Tree.{if_then_else_, Head, hd, Forest, none, more, one, _&_}
 use Rattle.meaning.specs.Grammar.{scopeOf, below}
 use Rattle.meaning.specs.Agreement.{namesScope}
-use Rattle.meaning.specs.Scoping.{Store, symbolIn, createSymbol, setSymbolFlags, setFlagsOf, insertScopeBelow}
-use Rattle.meaning.specs.Shapes.{block, declaration, exportNamed, specifier, classExpression}
-use Rattle.meaning.specs.Statements.{isUsing}
+use Rattle.meaning.specs.Scoping.{Store, setFlagsOf, insertScopeBelow}
+use Rattle.meaning.specs.Shapes.{block, declaration, classExpression}
 use Rattle.meaning.specs.Program.{
   preserveClassExpressionName,
   transformClassDecl,
@@ -56,7 +55,6 @@ use Rattle.charge_laws.specs.Growth.Items.{
 use Rattle.agreement_laws.specs.Weights.{Weight, demanded, Offers, offers-same}
 use Rattle.agreement_laws.specs.Rows.{never-0}
 use Rattle.agreement_laws.specs.Demands.{demanded-none, demanded-more, demanded-&, below-offers}
-use Rattle.agreement_laws.specs.Lists.{of-declaration}
 use Rattle.agreement_laws.specs.Tries.{block-demands, below-row, below-new, Keeps}
 
 -- what stays and what moves demand together what the items demand

@@ -1,7 +1,7 @@
 -- Each visit keeps the scope rows in agreement with the tree, and so does the import line.
 -- Assumes nothing.
 use mathlib.Core.Path.{_≡_, refl, sym, ap, subst, _∙_}
-use mathlib.Core.List.{List, [], _∷_}
+use mathlib.Core.List.{List, _∷_}
 use Prim.Native.Nat.{ℕ, zero, suc, _+_}
 use native.Mathlib.Omega.{arith}
 use Rattle.meaning.specs.Tree.{Head, Forest, none, more, one, Node, _&_}

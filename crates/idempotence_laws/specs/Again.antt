@@ -3,19 +3,17 @@
 use mathlib.Core.Path.{_≡_, sym, ap, subst, _∙_}
 use mathlib.Core.List.{List}
 use Prim.Native.Nat.{ℕ, _*_}
-use Rattle.meaning.specs.Tree.{Forest}
 use Rattle.meaning.specs.File.{File, written}
 use Rattle.meaning.specs.Reading.{accepted, readFile}
-use Rattle.meaning.specs.Walk.{Spot, isOver, start, visits, treeAt, fileAt}
+use Rattle.meaning.specs.Walk.{isOver, start, visits, fileAt}
 use Rattle.meaning.specs.ImportLine.{completed}
-use Rattle.meaning.specs.Charges.{Figures, finalFigures}
-use Rattle.meaning.specs.Lowering.{lastSpot, finalSpot}
+use Rattle.meaning.specs.Charges.{finalFigures}
+use Rattle.meaning.specs.Lowering.{finalSpot}
 use Rattle.spec_laws.specs.Trees.{Bytes}
 use Rattle.bound_laws.specs.Last.{last-spot, last-over}
 use Rattle.hint_laws.specs.Lowered.Quiet.{AllQuiet}
 use Rattle.hint_laws.specs.Lowered.Visits.{completed-quiet}
 use Rattle.readback_laws.specs.ReadBack.{Tagged}
-use Rattle.readback_laws.specs.Decoded.{treeIn}
 use Rattle.readback_laws.specs.Back.{plain, Childless, tree-back}
 use Rattle.readback_laws.specs.Childless.{calls-childless}
 use Rattle.readback_laws.specs.Written.{file-written}

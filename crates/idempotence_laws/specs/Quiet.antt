@@ -1,7 +1,7 @@
 -- A file in which no using is left to take up is left as it is by the walk, and its final figures are its own counts.
 -- Assumes nothing.
 use mathlib.Core.Path.{_≡_, refl, sym, ap, subst, _∙_}
-use mathlib.Core.Bool.{Bool, true, false, _||_, _&&_}
+use mathlib.Core.Bool.{Bool, true, false, _&&_}
 use mathlib.Core.List.{List, [], _∷_}
 use Prim.Native.Nat.{ℕ, zero, suc, _*_}
 use native.Mathlib.Omega.{arith}
@@ -9,7 +9,7 @@ use lib.Dec.{eqb}
 use borrow.Author.Tests.{eqb-true, eq-eqb}
 use Rattle.meaning.specs.Numbers.Tag
 use Rattle.meaning.specs.Tree.{if_then_else_, Head, Forest, none, more, one, node, _&_}
-use Rattle.meaning.specs.File.{Symbol, File}
+use Rattle.meaning.specs.File.{File}
 use Rattle.meaning.specs.Scoping.{Store}
 use Rattle.meaning.specs.Reading.{accepted, readFile}
 use Rattle.meaning.specs.Statements.{anyUsing}
@@ -17,7 +17,6 @@ use Rattle.meaning.specs.Contexts.{anyPartUsing, anyCaseUsing, forList}
 use Rattle.meaning.specs.Walk.{
   Act,
   keep,
-  actOf,
   enterAs,
   isStaticBlock,
   enter,
@@ -40,8 +39,8 @@ use Rattle.meaning.specs.Walk.{
   storeAt,
   fileAt,
 }
-use Rattle.meaning.specs.ImportLine.{importDue, completed}
-use Rattle.meaning.specs.Charges.{figures, figuresIn, figuresAt, finalFigures}
+use Rattle.meaning.specs.ImportLine.{importDue}
+use Rattle.meaning.specs.Charges.{figuresIn, figuresAt, finalFigures}
 use Rattle.meaning.specs.Lowering.{lastSpot, finalSpot}
 use Rattle.spec_laws.specs.Tags.{clash}
 use Rattle.spec_laws.specs.Bools.{and-false}

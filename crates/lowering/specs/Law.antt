@@ -13,8 +13,7 @@ use Rattle.meaning.specs.Tree.{if_then_else_}
 use Rattle.meaning.specs.Mentions.{mentions}
 use Rattle.meaning.specs.File.{File, written}
 use Rattle.meaning.specs.Reading.{Outcome, accepted, refused, _>>=_, _>>_, ensure, readFile}
-use Rattle.meaning.specs.Walk.{Spot, at, leaving, over, isOver, visits, start, treeAt, storeAt, fileAt}
-use Rattle.meaning.specs.ImportLine.{completed}
+use Rattle.meaning.specs.Walk.{Spot, at, leaving, over, isOver, treeAt, storeAt, fileAt}
 use Rattle.meaning.specs.Charges.{Figures, figuresAt, finalFigures}
 use Rattle.meaning.specs.Lowering.{Lent, checkOutput, admit, admitOutput, lastSpot, finalSpot, Written, lower}
 use Rattle.spec_laws.specs.Tags.{clash}

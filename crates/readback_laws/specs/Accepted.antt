@@ -3,7 +3,7 @@
 use mathlib.Core.Path.{_≡_, refl, sym, ap, subst, _∙_}
 use mathlib.Core.Bool.{Bool, true, false}
 use mathlib.Core.List.{List, []}
-use Prim.Native.Nat.{ℕ, zero, suc}
+use Prim.Native.Nat.{ℕ, suc}
 use lib.Dec.{ltb}
 use borrow.Author.Tests.{le-leb}
 use Rattle.meaning.specs.Numbers.Tag
@@ -36,7 +36,7 @@ within-tagged (more h k r) p = (le-leb (h .tag) Tag.Step (p .0 .0), within-tagge
 
 -- Wherever calls for visits lead, all records have tags of records.
 pub calls-tagged : (b : List ℕ) (f : File) (k : ℕ) → Bytes b → readFile b ≡ accepted f → Tagged (treeAt (completed (visits k (start f))))
-calls-tagged b f k bytes e = within-tagged _ (calls-fit b f k bytes e)
+calls-tagged b f k bytes e = within-tagged (treeAt (completed (visits k (start f)))) (calls-fit b f k bytes e)
 
 -- ---- the tree just read
 

@@ -1,9 +1,9 @@
 -- What the walk of an accepted file leaves is written in bytes: no number of it is above 65,535.
 -- Assumes nothing.
-use mathlib.Core.Path.{_≡_, ap}
+use mathlib.Core.Path.{_≡_}
 use mathlib.Core.Bool.{Bool, true, false}
 use mathlib.Core.List.{List, [], _∷_, _++_}
-use Prim.Native.Nat.{ℕ, zero, suc, _+_, _*_, _≤_}
+use Prim.Native.Nat.{ℕ, zero, suc, _*_, _≤_}
 use native.Mathlib.Omega.{arith}
 use lib.ListN.{length, take, length-append}
 use Rattle.meaning.specs.Numbers.Tag
@@ -24,7 +24,6 @@ use Rattle.meaning.specs.File.{
   written,
 }
 use Rattle.meaning.specs.Reading.{accepted, readFile}
-use Rattle.meaning.specs.Scoping.{Store}
 use Rattle.meaning.specs.Walk.{Spot, visits, start, treeAt, storeAt, fileAt}
 use Rattle.meaning.specs.ImportLine.{completed}
 use Rattle.spec_laws.specs.Trees.{Bytes}
@@ -90,7 +89,8 @@ take-numbers : (n a b c : ℕ) → a ≤ 65535 → b ≤ 65535 → c ≤ 65535
 take-numbers zero a b c p q r = (tt, omega arith)
 take-numbers (suc zero) a b c p q r = ((p, tt), omega arith)
 take-numbers (suc (suc zero)) a b c p q r = ((p, (q, tt)), omega arith)
-take-numbers (suc (suc (suc n))) a b c p q r = ((p, (q, (r, tt))), omega arith)
+take-numbers (suc (suc (suc zero))) a b c p q r = ((p, (q, (r, tt))), omega arith)
+take-numbers (suc (suc (suc (suc n)))) a b c p q r = ((p, (q, (r, tt))), omega arith)
 
 record-bytes : (r : Row) → HeadWithin 65535 (r .head) → r .n ≤ 65535 → AllBytes (field (r .head .tag) (recordNumbers r))
 unfolding recordNumbers

@@ -8,6 +8,7 @@ use Rattle.meaning.specs.Tree.{Forest, none, more, one, _&_}
 use Rattle.meaning.specs.File.{File}
 use Rattle.meaning.specs.Reading.{accepted, readFile}
 use Rattle.meaning.specs.Statements.{isUsing, anyUsing}
+use Rattle.meaning.specs.Shapes.{importHelper}
 use Rattle.meaning.specs.Walk.{
   enter,
   leave,
@@ -76,15 +77,15 @@ pub over-quiet : (b : List ℕ) (f : File) (k : ℕ) → readFile b ≡ accepted
     → AllQuiet (treeAt (visits k (start f)))
 over-quiet b f k e o = over-at (visits k (start f)) o (visits-quiet k b f e)
 
--- The import line is no using, before whatever it is put.
+-- The import line is no using, and none stands in it.
+line-quiet : (y : ℕ) (k : Forest) → AllQuiet k → AllQuiet (importHelper y & k)
+unfolding AllQuiet _&_
+line-quiet y k q = (calm _ _ refl refl, (calm _ _ refl refl, tt, tt), q)
+
 import-quiet : (y : ℕ) (tree : Forest) → AllQuiet tree → AllQuiet (withImport y tree)
 unfolding withImport AllQuiet Quiet anyUsing isUsing _&_
 import-quiet y none q = tt
-import-quiet y (more h k r) q = (
-  ((λ e. q .0 .0 e), (λ e. first-held _ _ k refl)),
-  (calm _ _ refl refl, (calm _ _ refl refl, tt, tt), q .1),
-  q .2,
-)
+import-quiet y (more h k r) q = ((q .0 .0, (λ e. first-held _ _ k refl)), line-quiet y k (q .1), q .2)
 
 pub completed-quiet : (b : List ℕ) (f : File) (k : ℕ) → readFile b ≡ accepted f → isOver (visits k (start f)) ≡ true
     → AllQuiet (treeAt (completed (visits k (start f))))
