@@ -2,10 +2,10 @@
 -- Assumes nothing.
 use mathlib.Core.Path.{_≡_, refl}
 use mathlib.Core.Bool.{true}
-use mathlib.Core.List.{List, [], _∷_, _++_}
+use mathlib.Core.List.{List, [], _∷_, _++_, map}
 use Prim.Native.Nat.{ℕ, zero, suc}
 use Prim.Native.String.{String}
-use lib.ListN.{take}
+use lib.ListN.{length, take}
 use Rattle.meaning.specs.Numbers.Tag
 use Rattle.meaning.specs.Numbers.Kind
 use Rattle.meaning.specs.Numbers.Letter
@@ -17,7 +17,8 @@ use Rattle.meaning.specs.Scoping.{getBinding, findBinding, blockScopedIn
 use Rattle.meaning.specs.Shapes.{call, load}
 use Rattle.meaning.specs.Statements.{takeUp}
 use Rattle.meaning.specs.Contexts.{anyCaseAwaitUsing}
-use Rattle.meaning.specs.Walk.{storeOf, start, visits}
+use Rattle.meaning.specs.Agreement.{enclosingScopes}
+use Rattle.meaning.specs.Walk.{storeOf, start, visits, treeAt, storeAt}
 use Rattle.meaning.specs.ImportLine.{visitCalls}
 use Rattle.meaning.specs.Charges.{Line, importLine, figures, figuresAt}
 use Rattle.meaning.specs.Due.{importDues}
@@ -150,6 +151,41 @@ nearest-scope = refl
 pub moving-rows : blockScopedIn rows 2 rows 1 ≡ 2 ∷ 4 ∷ []
 unfolding computing
 moving-rows = refl
+
+-- ---- scope rows and tree
+
+-- the scopes around the records that name each of so many rows, from row s on
+unfoldable pub enclosing : ℕ → ℕ → Forest → List (List ℕ)
+enclosing zero s tree = []
+enclosing (suc n) s tree = enclosingScopes s 0 tree ∷ enclosing n (suc s) tree
+
+-- for each row after some visits: the scopes around the records that name it, and its parent
+abbrev around : ℕ → Outcome File → List (List ℕ)
+around k (accepted f) = let s = visits k (start f) in enclosing (length (storeAt s .scopes)) 1 (treeAt s)
+around k (refused c p) = []
+
+abbrev parents : ℕ → Outcome File → List (List ℕ)
+parents k (accepted f) = map (λ r. r .parent ∷ []) (storeAt (visits k (start f)) .scopes)
+parents k (refused c p) = []
+
+-- a Try with a Catch: its Block stands in the Catch
+abbrev caught : List ℕ
+caught = bytes "40:1,0 41:0,16 41:1,0 41:1,2 41:3,0 1:1,1 11:1,2 2:2,0 12:3,0,0,1 2:4,0"
+
+pub catch-names
+    : (around 0 (readFile caught) ≡ (0 ∷ []) ∷ (1 ∷ []) ∷ (1 ∷ []) ∷ (3 ∷ []) ∷ []) × (parents 0 (readFile caught) ≡ around 0 (readFile caught))
+unfolding enclosing computing
+catch-names = (refl, refl)
+
+-- a Body with a Block and a using: at the fourth visit the Block comes below the new scope 4
+abbrev blockInBody : List ℕ
+blockInBody = bytes "40:1,0 41:0,16 41:1,8 41:2,0 42:20,64,1,0,1 42:10,6,2,0,1 1:1,1 13:0,2,1,2 24:1,0 14:2 2:3,0 5:3,1 6:0,1,2 26:2 24:7,0"
+
+pub block-moves
+    : (around 4 (readFile blockInBody) ≡ (0 ∷ []) ∷ (1 ∷ []) ∷ (4 ∷ []) ∷ (2 ∷ []) ∷ (2 ∷ []) ∷ (5 ∷ []) ∷ (2 ∷ []) ∷ [])
+    × (parents 4 (readFile blockInBody) ≡ around 4 (readFile blockInBody))
+unfolding enclosing computing
+block-moves = (refl, refl)
 
 -- ---- rewrites
 

@@ -27,7 +27,7 @@ use Rattle.readback_laws.specs.ReadBack.{
   Tagged,
 }
 use Rattle.readback_laws.specs.Length.{complete, record-complete}
-use Rattle.readback_laws.specs.Decoded.{rowOf, recordsOf, treesFrom, treeIn}
+use Rattle.readback_laws.specs.Decoded.{rowOf, recordsOf, treesFrom, treeOf, treeIn}
 use Rattle.spec_laws.specs.Bools.{if-same}
 
 -- a record's head as it is written: numbers that are not its own are 0
@@ -155,14 +155,16 @@ flatten-size (more h k r) =
     let j = flatten-size r in
     (omega (arith, length-append (flatten k) (flatten r)), omega arith)
 
+-- The tree of the records of a tree is that tree.
+pub tree-flat : (f : Forest) → treeOf (flatten f) ≡ f
+tree-flat f =
+    let s = flatten-size f in
+    ap (λ (e : Forest × List Row). e .0) (all-back f (length (flatten f)) (length (flatten f)) (omega arith) (omega arith))
+
 -- The tree read off the written bytes is the tree, with 0 for what is not written.
 pub tree-back : (g : File) → Tagged (g .tree) → Childless (g .tree) → treeIn (written g) ≡ plain (g .tree)
 unfolding treeIn
-tree-back g q c =
-    let f = plain (g .tree) in
-    let s = flatten-size f in
-    ap (λ (rs : List Row). treesFrom (length rs) (length rs) rs .0) (rows-back g q c)
-    ∙ ap (λ (e : Forest × List Row). e .0) (all-back f (length (flatten f)) (length (flatten f)) (omega arith) (omega arith))
+tree-back g q c = ap (λ (rs : List Row). treeOf rs) (rows-back g q c) ∙ tree-flat (plain (g .tree))
 
 -- ---- the hints
 

@@ -36,8 +36,10 @@ unfoldable pub treesFrom : ℕ → ℕ → List Row → Forest × List Row
 treesFrom zero n rs = (none, rs)
 treesFrom (suc fuel) n rs = treesBy (treesFrom fuel) n rs
 
+-- the tree of some records in file order
+abbrev pub treeOf : List Row → Forest
+treeOf rs = treesFrom (length rs) (length rs) rs .0
+
 -- THE TREE of a file's bytes.
 unfoldable pub treeIn : List ℕ → Forest
-treeIn bytes =
-    let rs = recordsOf (fieldsOf bytes) in
-    treesFrom (length rs) (length rs) rs .0
+treeIn bytes = treeOf (recordsOf (fieldsOf bytes))
