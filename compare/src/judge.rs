@@ -13,6 +13,8 @@ pub struct Counts {
     pub valid: u64,
     pub lowered: u64,
     pub unchanged: u64,
+    pub again: u64,
+    pub grown: u64,
     pub refused: [u64; 11],
     pub contexts: u64,
     pub walks: u64,
@@ -27,6 +29,8 @@ impl Counts {
         self.valid += other.valid;
         self.lowered += other.lowered;
         self.unchanged += other.unchanged;
+        self.again += other.again;
+        self.grown += other.grown;
         for (n, m) in self.refused.iter_mut().zip(other.refused) {
             *n += m;
         }
@@ -42,6 +46,10 @@ impl Counts {
         println!(
             "{} lowered with {} contexts, {} written with none",
             self.lowered, self.contexts, self.unchanged
+        );
+        println!(
+            "{} of the written files lowered again, {} too long or too deep to be read",
+            self.again, self.grown
         );
         for number in 1..=10 {
             println!("{} lowerings refused with {number}", self.refused[number]);
@@ -124,6 +132,7 @@ impl Judge {
                 } else {
                     self.counts.lowered += 1;
                 }
+                self.again(number, file, rng, &written, figures);
             }
             Err(refusal) => {
                 let same = answer.map_err(refusal_of) == Err(refusal) && memory == before;
@@ -131,6 +140,34 @@ impl Judge {
                 self.counts.refused[usize::from(refusal.number).min(10)] += 1;
             }
         }
+    }
+
+    /// What was written is lowered to itself, with just the rows and bytes that it has; or reading refuses it, with 1 or 6.
+    fn again(&mut self, number: u64, file: &[u8], rng: &mut Rng, written: &[u8], first: Figures) {
+        if let Err(refusal) = desk::check(written) {
+            self.counts.grown += 1;
+            let same = matches!(refusal.number, 1 | 6);
+            self.expect(same, "the reading of what was written", number, file);
+            return;
+        }
+        self.counts.again += 1;
+        let figures = Figures {
+            contexts: 0,
+            ..first
+        };
+        let lent = Lent {
+            records: first.records as usize,
+            scopes: first.scopes as usize,
+            symbols: first.symbols as usize,
+            out: written.len(),
+        };
+        let mut memory = Memory::new(rng, lent);
+        let mut output = std::mem::take(&mut memory.output);
+        let answer = desk::lower(written, memory.tables(), &mut output).map(figures_of);
+        let same = answer == Ok(figures)
+            && output == written
+            && reference::lower(written, lent) == Ok((written.to_vec(), figures));
+        self.expect(same, "a second lowering", number, file);
     }
 
     fn walk(&mut self, number: u64, file: &[u8], rng: &mut Rng, lent: Lent) {

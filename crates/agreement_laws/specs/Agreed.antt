@@ -1,6 +1,6 @@
 -- IN AN ACCEPTED FILE, AND BETWEEN ANY TWO CALLS FOR A VISIT, THE SCOPE ROWS AGREE WITH THE TREE.
 -- Assumes nothing.
-use mathlib.Core.Path.{_≡_, refl, sym, ap, _∙_}
+use mathlib.Core.Path.{_≡_, refl, sym, ap, subst, _∙_}
 use mathlib.Core.Bool.{Bool, true, false, _&&_}
 use mathlib.Core.List.{List, [], _∷_, _++_}
 use Prim.Native.Nat.{ℕ, zero, suc, _+_, _≤_, _<_}
@@ -19,6 +19,7 @@ use Rattle.meaning.specs.Walk.{visits, start, storeOf, plug, treeAt, storeAt}
 use Rattle.meaning.specs.ImportLine.{withImport, completed}
 use Rattle.spec_laws.specs.Calls.{completed-keeps}
 use Rattle.charge_laws.specs.Counts.Pending.{pending-start}
+use Rattle.charge_laws.specs.Counts.Figures.{settled}
 use Rattle.charge_laws.specs.Fit.Accepted.{accepted-fit}
 use Rattle.charge_laws.specs.Fit.Root.{accepted-program}
 use Rattle.agreement_laws.specs.Weights.{Weight, demanded, offered, Offers}
@@ -142,13 +143,20 @@ offers-agree ss tree o root =
 
 -- ---- a file
 
+-- JUST READ,
+pub read-agrees : (b : List ℕ) (f : File) → readFile b ≡ accepted f → ScopesAgree (f .scopes) (f .tree)
+unfolding visits start storeOf plug _&_
+read-agrees b f e =
+    let just-read = settled [] none (f .tree) (storeOf f) .0 in
+    offers-agree (f .scopes) (f .tree) (read-offers b f e) (subst Rooted just-read (accepted-program b f 0 e))
+
 module _ (b : List ℕ) (f : File) (k : ℕ) (e : readFile b ≡ accepted f) where
   spot-offers : AgreeAt (visits k (start f))
   unfolding start storeOf plug _&_
   spot-offers =
       visits-agree k (start f) (pending-start f (accepted-fit b f e)) (at-settled none (f .tree) [] (storeOf f) (read-offers b f e))
 
-  -- AFTER ANY NUMBER OF VISITS of an accepted file's walk,
+  -- after any number of visits of an accepted file's walk,
   pub visits-scopes-agree : let s = visits k (start f) in ScopesAgree (storeAt s .scopes) (treeAt s)
   visits-scopes-agree = offers-agree _ _ spot-offers (accepted-program b f k e)
 

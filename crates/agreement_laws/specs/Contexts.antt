@@ -5,6 +5,7 @@ use Prim.Native.Nat.{ℕ, _+_}
 use native.Mathlib.Omega.{arith}
 use Rattle.meaning.specs.Numbers.Tag
 use Rattle.meaning.specs.Numbers.Kind
+use Rattle.meaning.specs.Numbers.ScopeFlag
 use Rattle.meaning.specs.Tree.{Head, hd, Forest, none, one, _&_}
 use Rattle.meaning.specs.Grammar.{scopeOf, below}
 use Rattle.meaning.specs.Scoping.{
@@ -90,17 +91,17 @@ pub static-keeps : (cur a b c : ℕ) (k : Forest) (st : Store) → Keeps cur (hd
 unfolding exitStaticBlock demanded namesScope scopeOf moveBinding
 static-keeps cur a b c k st R o =
     let t = transformStatements a a k st in
-    let new = insertScopeBetween a 4 (t .1) in
+    let new = insertScopeBetween a ScopeFlag.StaticBlock (t .1) in
     let st₂ = moveBinding (t .0 .usingCtx) (new .0) (new .1) .1 in
     let o₁ =
-    between-block a cur 4 k (t .0 .statements) (t .1) R (transformed a a k st)
+    between-block a cur ScopeFlag.StaticBlock k (t .0 .statements) (t .1) R (transformed a a k st)
     (offers-same (transformed-scopes a a k st) (λ w. omega (arith, o w)))
     in
     let o₂ =
-    try-offers a (t .0 .statements) (t .0 .usingCtx) (new .0) (t .0 .needsAwait) (setScopeFlags a 1 st₂ .1) (λ w. w (new .0) cur + R w)
-    (flags-offer a 1 st₂ (λ w. demanded w (new .0) (block a (t .0 .statements)) + (w (new .0) cur + R w)) o₁)
+    try-offers a (t .0 .statements) (t .0 .usingCtx) (new .0) (t .0 .needsAwait) (setScopeFlags a ScopeFlag.Strict st₂ .1) (λ w. w (new .0) cur + R w)
+    (flags-offer a ScopeFlag.Strict st₂ (λ w. demanded w (new .0) (block a (t .0 .statements)) + (w (new .0) cur + R w)) o₁)
     in
-    let e = below-row cur (new .0) (between-row a 4 (t .1)) in
+    let e = below-row cur (new .0) (between-row a ScopeFlag.StaticBlock (t .1)) in
     λ w. rw e (omega (arith, o₂ w))
 
 pub part-keeps : (cur cur′ hoist a b c : ℕ) (k : Forest) (st : Store)

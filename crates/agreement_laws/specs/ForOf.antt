@@ -6,6 +6,7 @@ use Prim.Native.Nat.{ℕ, _+_}
 use native.Mathlib.Omega.{arith}
 use Rattle.meaning.specs.Numbers.Tag
 use Rattle.meaning.specs.Numbers.Kind
+use Rattle.meaning.specs.Numbers.SymbolFlag
 use Rattle.meaning.specs.Tree.{Head, hd, Forest, none, more, one, _&_}
 use Rattle.meaning.specs.Grammar.{scopeOf, below}
 use Rattle.meaning.specs.Scoping.{Store, symbolIn, createSymbol, insertScopeBelow, moveBinding}
@@ -59,7 +60,7 @@ module _ (cur a b c : ℕ) (h₁ : Head) (k₁ : Forest) (h₂ : Head) (k₂ : F
   pub insert-keeps : Keeps cur (hd Tag.ForOf a b c) sides st (enterForOfStatement false (hd Tag.ForOf a b c) sides st)
   unfolding enterForOfStatement insertUsing createSymbol moveBinding
   insert-keeps R o =
-      let temp = createSymbol (symbolIn st (boundSymbol k₁) .name) 6 a 1 st in
+      let temp = createSymbol (symbolIn st (boundSymbol k₁) .name) (SymbolFlag.BlockScoped + SymbolFlag.Const) a 1 st in
       let using′ = declaration (h₁ .a) (boundSymbol k₁) (read (temp .0)) in
       let alike = alike-more h₃ k₃ (using′ & k₃) none none (held (h₁ .a) (boundSymbol k₁) (temp .0) k₃) (λ w s. refl) in
       λ w.
@@ -72,7 +73,7 @@ module _ (cur a b c : ℕ) (h₁ : Head) (k₁ : Forest) (h₂ : Head) (k₂ : F
   pub wrap-keeps : Keeps cur (hd Tag.ForOf a b c) sides st (enterForOfStatement true (hd Tag.ForOf a b c) sides st)
   unfolding enterForOfStatement wrapBody createSymbol moveBinding
   wrap-keeps R o =
-      let temp = createSymbol (symbolIn st (boundSymbol k₁) .name) 6 a 1 st in
+      let temp = createSymbol (symbolIn st (boundSymbol k₁) .name) (SymbolFlag.BlockScoped + SymbolFlag.Const) a 1 st in
       let using′ = declaration (h₁ .a) (boundSymbol k₁) (read (temp .0)) in
       let list = using′ & one h₃ k₃ in
       let new = insertScopeBelow a (one h₃ k₃) (temp .1) in

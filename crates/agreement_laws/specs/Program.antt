@@ -11,7 +11,6 @@ use Rattle.meaning.specs.Numbers.Tag
 use Rattle.meaning.specs.Numbers.Kind
 use Rattle.meaning.specs.Numbers.Form
 use Rattle.meaning.specs.Numbers.SymbolFlag
-use Rattle.meaning.specs.Numbers.KnownName
 use Rattle.meaning.specs.Tree.{if_then_else_, Head, hd, Forest, none, more, one, _&_}
 use Rattle.meaning.specs.Grammar.{scopeOf, below}
 use Rattle.meaning.specs.Agreement.{namesScope}

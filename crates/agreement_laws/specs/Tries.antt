@@ -5,6 +5,9 @@ use mathlib.Core.Bool.{Bool}
 use Prim.Native.Nat.{ℕ, _+_}
 use native.Mathlib.Omega.{arith}
 use borrow.Author.Tests.{ne-eqb}
+use Rattle.meaning.specs.Numbers.ScopeFlag
+use Rattle.meaning.specs.Numbers.SymbolFlag
+use Rattle.meaning.specs.Numbers.KnownName
 use Rattle.meaning.specs.Tree.{Head, Forest, one, Node, single, _&_}
 use Rattle.meaning.specs.Grammar.{scopeOf, below}
 use Rattle.meaning.specs.Scoping.{Store, createChildScope, createSymbol, insertScopeBetween, insertScopeBelow}
@@ -15,6 +18,7 @@ use Rattle.agreement_laws.specs.Weights.{Weight, demanded, Offers}
 use Rattle.agreement_laws.specs.Rows.{never-0, child-offers, between-offers}
 use Rattle.agreement_laws.specs.Lists.{Alike}
 
+-- a Block demands its row, and below it what its list does
 pub block-demands : (w : Weight) (cur s : ℕ) (list : Forest) → demanded w cur (block s list) ≡ w s cur + demanded w (below cur s) list
 unfolding demanded namesScope scopeOf
 block-demands w cur s list = omega arith
@@ -39,17 +43,16 @@ pub try-offers : (scope : ℕ) (list : Forest) (ctx cur : ℕ) (needsAwait : Boo
     (λ w. demanded w cur (single (createTryStmt scope list ctx cur needsAwait st .0)) + R w)
 unfolding createTryStmt createCatchClause createFinallyBlock createSymbol demanded namesScope scopeOf _&_
 try-offers scope list ctx cur needsAwait st R o =
-    let one′ = createChildScope cur 2 st in
-    let two = createChildScope (one′ .0) 0 (one′ .1) in
-    let y = createSymbol 2 17 (two .0) 0 (two .1) in
-    let three = createChildScope cur 0 (y .1) in
-    let o₁ = child-offers cur 2 st (λ w. demanded w cur (block scope list) + R w) o in
-    let o₂ = child-offers (one′ .0) 0 (one′ .1) (λ w. w (one′ .0) cur + (demanded w cur (block scope list) + R w)) o₁ in
+    let catch = createChildScope cur ScopeFlag.Catch st in
+    let body = createChildScope (catch .0) 0 (catch .1) in
+    let y = createSymbol KnownName.Underscore (SymbolFlag.FunctionScoped + SymbolFlag.Catch) (body .0) 0 (body .1) in
+    let o₁ = child-offers cur ScopeFlag.Catch st (λ w. demanded w cur (block scope list) + R w) o in
+    let o₂ = child-offers (catch .0) 0 (catch .1) (λ w. w (catch .0) cur + (demanded w cur (block scope list) + R w)) o₁ in
     let o₃ =
     child-offers cur 0 (y .1)
-    (λ w. w (two .0) (one′ .0) + (w (one′ .0) cur + (demanded w cur (block scope list) + R w))) o₂
+    (λ w. w (body .0) (catch .0) + (w (catch .0) cur + (demanded w cur (block scope list) + R w))) o₂
     in
-    let e = below-row cur (one′ .0) (new-row cur 2 st) in
+    let e = below-row cur (catch .0) (new-row cur ScopeFlag.Catch st) in
     λ w. rw e (omega (arith, o₃ w))
 
 -- ---- what comes of a record

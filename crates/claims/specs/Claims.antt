@@ -26,6 +26,7 @@ use Rattle.meaning.specs.Tree.{if_then_else_, hd, Forest, none, more, one, size
 use Rattle.meaning.specs.Mentions.{mentions}
 use Rattle.meaning.specs.File.{File, numbersOf, written}
 use Rattle.meaning.specs.Reading.{Outcome, accepted, refused, readFile}
+use Rattle.meaning.specs.Agreement.{ScopesAgree}
 use Rattle.meaning.specs.Grammar.{moduleLineRight, right}
 use Rattle.meaning.specs.Scoping.{Store}
 use Rattle.meaning.specs.Statements.{makeContext}
@@ -65,14 +66,18 @@ use Rattle.hint_laws.specs.Hints.{asked, given}
 use Rattle.bound_laws.specs.Last.{last-spot}
 use Rattle.readback_laws.specs.ReadBack.{fieldsOf, fieldCount, isRecord}
 use Rattle.fields.specs.Lengths.{lengths, noTags, lengths-count, lengths-right, lengths-none}
-use Rattle.readback_laws.specs.Decoded.{treeIn}
+use Rattle.readback_laws.specs.Decoded.{treeOf, treeIn}
 use Rattle.readback_laws.specs.Back.{Childless, hints-back}
 use Rattle.readback_laws.specs.Childless.{calls-childless}
 use Rattle.readback_laws.specs.Written.{file-written}
 use Rattle.readback_laws.specs.Loads.Written.{isLoad, loads-written}
+use Rattle.agreement_laws.specs.Agreed.{read-agrees}
+use Rattle.idempotence_laws.specs.Fields.{fieldFigures}
 use Rattle.parsing.specs.Counted.{readUncounted, symbolOffset, CountsRight, LowestWrong, CountRefused, count-refused, counts-right, count-wrong, counts-accepted, count-lowest}
 use Rattle.representation.specs.Shown.Shown.{recordsIn, scopesIn, symbolsIn, countsIn}
 use Rattle.claims.specs.Counts.{TrueCounts, TrueInBytes, counts-in-tables, counts-in-bytes, calls-mentions-fit}
+use Rattle.claims.specs.Agreement.{scopes-in-tables}
+use Rattle.claims.specs.Twice.{Wrote, LowersTwice, lowering-twice, lowering-again}
 use Rattle.claims.specs.Letters.{ButLetters, letters-alone}
 use Rattle.claims.specs.Depth.{readDeep, depthFirst, readBefore, Changed, depth-is-first, answer-changed, still-accepted, once-accepted}
 use Rattle.claims.specs.Refusals.Numbers.{read-numbers, figures-numbers, admit-numbers, lower-numbers}
@@ -157,7 +162,7 @@ unfolding lowerF
 always-answered bytes r s y o =
     let answered : Outcome Written → Lowered = λ a. lowerOf a r s y o .answer in
     ⊎-map
-    (λ (f, e, w). (f, e, ap answered w))
+    (λ (f, e, long, w). (f, e, ap answered w))
     (λ (c, p, e). let n = lower-numbers bytes (lentIn r s y) (length o) c p e in (c, p, n .0, n .1, ap answered e))
     (lower-total bytes (lentIn r s y) (length o))
 
@@ -449,3 +454,29 @@ count-refusal =
 -- behind it, and symbol rows of four and of six numbers.
 pub count-cases-hold : map (λ c. lower (c .input) (c .rows) (c .output)) countTable ≡ map (λ c. c .answer) countTable
 count-cases-hold = counts-hold
+
+-- ---- REQUEST 14 of document 02: lowering twice, and scope rows that agree with the tree
+
+-- After any number of calls, the import line's among them, the scope rows and the tree that the tables show agree as 01 asks of a file
+-- (`ScopesAgree`): every row is named by exactly one record, Program names row 1, and a row's parent is the scope of the nearest enclosing record
+-- that has one. Start's tables are those after 0 calls.
+pub scopes-agree : (bytes r s y : List ℕ) (f : File) → admit bytes (lentIn r s y) ≡ accepted f → (k : ℕ)
+    → let tables = afterCalls k f r s y in ScopesAgree (scopesIn tables) (treeOf (recordsIn tables))
+scopes-agree = scopes-in-tables
+
+-- So they do in every file that reading accepts.
+pub read-scopes-agree : (bytes : List ℕ) (f : File) → readFile bytes ≡ accepted f → ScopesAgree (f .scopes) (f .tree)
+read-scopes-agree = read-agrees
+
+-- A file that lowering wrote and reading accepts is lowered to itself, byte for byte: it may have grown past 64 levels or 65,535 bytes, and then
+-- reading refuses it. The answer is the counts of its own fields, no context, and its length. Where rows or output are too few for these, and only there, it is
+-- refused with 9 or 10 (`ToItself`).
+pub lowers-to-itself : LowersTwice lowerF
+lowers-to-itself = lowering-twice
+
+-- As much memory as the first lowering had is enough.
+pub lowers-again : (bytes r s y o file : List ℕ) (g : File) → Bytes bytes → Wrote lowerF bytes r s y o file → readFile file ≡ accepted g
+    → (r′ s′ y′ o′ : List ℕ) → length r ≤ length r′ → length s ≤ length s′ → length y ≤ length y′ → length o ≤ length o′
+    → lowerF file r′ s′ y′ o′
+    ≡ finished (WrittenIn (shownFigures (fieldFigures file))) (zerosFor r′) (zerosFor s′) (zerosFor y′) (writtenOver file o′)
+lowers-again = lowering-again

@@ -6,6 +6,8 @@ pub mod Depth
 pub mod Letters
 pub mod Import
 pub mod Counts
+pub mod Agreement
+pub mod Twice
 pub mod ShutOut
 pub mod Claims
 pub mod Refusals

@@ -1,33 +1,41 @@
 -- What 01 shuts out by name: each wrong lowering is written down here and refuted on a file, it is not 01's. And what the claims on requests
 -- shut out.
 -- Assumes nothing.
-use mathlib.Core.Path.{_≡_, refl, ap, _∙_}
+use mathlib.Core.Path.{_≡_, refl, sym, ap, _∙_}
 use mathlib.Core.Bool.{Bool, true, false, not, _||_, _&&_}
 use mathlib.Core.List.{List, [], _∷_, _++_, map}
 use Prim.Native.Nat.{ℕ, zero, suc, _+_, _*_, _-_, _/_, _≤_, _<_}
 use native.Mathlib.Omega.{arith}
-use lib.ListN.{length, getD}
-use lib.Dec.{eqb}
+use lib.ListN.{length, getD, take, replicate}
+use lib.Dec.{eqb, leb}
+use borrow.Author.Tests.{leb-true}
 use Rattle.meaning.specs.Numbers.Tag
 use Rattle.meaning.specs.Numbers.KnownName
 use Rattle.meaning.specs.Numbers.Letter
 use Rattle.meaning.specs.Tree.{if_then_else_, Head, hd, Forest, none, more, one, Node, single, size, _&_}
 use Rattle.meaning.specs.Mentions.{mentions}
-use Rattle.meaning.specs.File.{File, Symbol, numbersOf, symbolBytes, written}
-use Rattle.meaning.specs.Grammar.{two}
-use Rattle.meaning.specs.Scoping.{Change}
+use Rattle.meaning.specs.File.{File, Scope, scopeRow, Symbol, numbersOf, symbolBytes, written}
+use Rattle.meaning.specs.Grammar.{two, isRow}
+use Rattle.meaning.specs.Scoping.{Change, rowAt, noScope}
+use Rattle.meaning.specs.Agreement.{enclosingScopes, ScopesAgree}
 use Rattle.meaning.specs.Statements.{wrapInitializer}
 use Rattle.meaning.specs.Contexts.{takeUpCases, transformSwitchStatement}
 use Rattle.meaning.specs.Reading.{Outcome, accepted, refused, _>>=_, _>>_, readForest, mostLevels, readWith, readFile}
 use Rattle.meaning.specs.Walk.{Spot, over, isOver, visit, visits, storeOf, start, treeAt, storeAt, fileAt}
 use Rattle.meaning.specs.ImportLine.{withImport, completed, visitCalls}
-use Rattle.meaning.specs.Charges.{Figures, figures, figuresAt, finalFigures}
+use Rattle.meaning.specs.Charges.{Figures, figures, _⊕_, figuresIn, figuresAt, finalFigures}
 use Rattle.meaning.specs.Lowering.{Lent, Written, checkOutput, checkFile, admit, lastSpot, finalSpot, lower}
 use Rattle.meaning.specs.Notation.{bytes}
 use Rattle.meaning.specs.Computing.{computing}
 use Rattle.meaning.specs.Examples.{nested, deep}
 use Rattle.meaning.specs.Hint.{hintOf, letterOf}
-use Rattle.spec_laws.specs.Tags.{clash}
+use Rattle.spec_laws.specs.Tags.{clash, and-left, and-right}
+use Rattle.spec_laws.specs.Trees.{Bytes}
+use Rattle.figures.specs.Figures.{shownFigures}
+use Rattle.start.specs.Start.{lentIn}
+use Rattle.lowering.specs.declared.Lowered.{Lowered}
+use Rattle.lowering.specs.declared.Lowered.the-variants.{Written as WrittenIn, Refused as RefusedIn}
+use Rattle.lowering.specs.Lower.{Finished, writtenOver, lowerOf}
 use Rattle.fields.specs.Lengths.{lengths}
 use Rattle.parsing.specs.Counted.{readUncounted, firstSymbol, symbolOffset, fifthNumber, CountRight, LowestWrong}
 use Rattle.mentions.specs.Sums.{countsFrom}
@@ -39,10 +47,14 @@ use Rattle.hint_laws.specs.Hints.{sumOver, namesOf, ofInitializer, overDeclarat
 use Rattle.readback_laws.specs.ReadBack.{numbersIn, fieldsIn, fieldsOf, fieldCount}
 use Rattle.readback_laws.specs.Counted.{namesIn, often, mentionsIn, countsSaid}
 use Rattle.readback_laws.specs.Decoded.{recordsOf, rowOf, treesFrom, treeIn}
+use Rattle.readback_laws.specs.Loads.Written.{isLoad}
+use Rattle.idempotence_laws.specs.Fields.{fieldFigures}
 use Rattle.claims.specs.Depth.{forestWith, readDeep, depthFirst, readBefore}
 use Rattle.claims.specs.Letters.{takeUpBefore, takeUpCasesBefore, switchBy, switchBefore, unlettered, ButLetters}
 use Rattle.claims.specs.Import.{imports, ImportLine}
 use Rattle.claims.specs.Counts.{TrueCounts, TrueInBytes}
+use Rattle.claims.specs.Twice.{Run, Wrote, LowersTwice}
+use Rattle.claims.specs.Refusals.Small.{Enough}
 use Rattle.claims.specs.Claims.{DepthFirst, CountsChecked}
 
 -- ---- two files and what is seen of an answer
@@ -55,9 +67,12 @@ whole = bytes "40:1,0 41:0,16 41:1,0 42:10,6,2,0,1 1:1,1 2:2,1 5:3,1 6:0,1,2 26:
 abbrev empty : List ℕ
 empty = bytes "40:1,0 41:0,16 1:1,0"
 
+abbrev lend : ℕ → ℕ → ℕ → Lent
+lend r s y = record { records = r; scopes = s; symbols = y }
+
 -- what `desklower` lends
 abbrev desk : Lent
-desk = record { records = 4096; scopes = 1024; symbols = 1024 }
+desk = lend 4096 1024 1024
 
 abbrev Lowering : Type 0
 Lowering = List ℕ → Lent → ℕ → Outcome Written
@@ -815,3 +830,286 @@ second-wrong =
 
 pub no-highest-row : CountsChecked readHighest → ⊥
 no-highest-row c = omega (arith, highest-place, second-place, ap placeOf (c .wrong wrongCounts miscounted 2 but-for-counts second-wrong))
+
+-- ---- scope rows that do not agree with the tree (excluded by `scopes-agree`)
+
+-- a Body with a Block and a using: the Block's row, the third, comes below the new scope 4
+abbrev blockInBody : File
+blockInBody =
+    fileOf (readFile (bytes "40:1,0 41:0,16 41:1,8 41:2,0 42:20,64,1,0,1 42:10,6,2,0,1 1:1,1 13:0,2,1,2 24:1,0 14:2 2:3,0 5:3,1 6:0,1,2 26:2 24:7,0"))
+
+-- where its fourth visit leads
+abbrev bodyEntered : Spot
+bodyEntered = visitCalls 4 (start blockInBody)
+
+-- the first number, 0 for none
+abbrev firstOf : List ℕ → ℕ
+firstOf ns = getD ns 0 0
+
+third-below : enclosingScopes 3 0 (treeAt bodyEntered) ≡ 4 ∷ []
+unfolding computing
+third-below = refl
+
+-- rows that were read keep the parents that they were read with
+unfoldable pub unmoved : List Scope → List Scope → List Scope
+unmoved [] ss = ss
+unmoved (r ∷ rs) [] = []
+unmoved (r ∷ rs) (s ∷ ss) = scopeRow (r .parent) (s .flags) ∷ unmoved rs ss
+
+abbrev unmovedRows : List Scope
+unmovedRows = unmoved (blockInBody .scopes) (storeAt bodyEntered .scopes)
+
+third-unmoved : (isRow (length unmovedRows) 3 ≡ true) × (rowAt noScope unmovedRows 3 .parent ≡ 2)
+unfolding unmoved computing
+third-unmoved = (refl, refl)
+
+pub no-unmoved-parent : ScopesAgree unmovedRows (treeAt bodyEntered) → ⊥
+no-unmoved-parent a =
+    omega (arith, third-unmoved .1, ap firstOf third-below, ap firstOf (a .rows 3 (third-unmoved .0)))
+
+-- a row more than records name
+abbrev idleRows : List Scope
+idleRows = storeAt bodyEntered .scopes ++ scopeRow 1 0 ∷ []
+
+eighth-idle : (isRow (length idleRows) 8 ≡ true) × (enclosingScopes 8 0 (treeAt bodyEntered) ≡ [])
+unfolding computing
+eighth-idle = (refl, refl)
+
+pub no-idle-row : ScopesAgree idleRows (treeAt bodyEntered) → ⊥
+no-idle-row a = omega (arith, ap (λ (ns : List ℕ). length ns) (eighth-idle .1), ap (λ (ns : List ℕ). length ns) (a .rows 8 (eighth-idle .0)))
+
+-- a Catch and the Block in it that share a row
+unfoldable pub sharing : ℕ → Forest → Forest
+sharing s none = none
+sharing s (more h k r) =
+    let inside = if eqb (h .tag) Tag.Catch then h .a else 0 in
+    more (if eqb (h .tag) Tag.Block && not (eqb s 0) then hd Tag.Block s 0 0 else h) (sharing inside k) (sharing s r)
+
+fifth-shared : (isRow (length (storeAt bodyEntered .scopes)) 5 ≡ true) × (enclosingScopes 5 0 (sharing 0 (treeAt bodyEntered)) ≡ 2 ∷ 5 ∷ [])
+unfolding sharing computing
+fifth-shared = (refl, refl)
+
+pub no-shared-row : ScopesAgree (storeAt bodyEntered .scopes) (sharing 0 (treeAt bodyEntered)) → ⊥
+no-shared-row a = omega (arith, ap (λ (ns : List ℕ). length ns) (fifth-shared .1), ap (λ (ns : List ℕ). length ns) (a .rows 5 (fifth-shared .0)))
+
+-- ---- lowerings that do not leave their own files as they are (excluded by `lowers-to-itself`)
+
+-- a lowering as it is called
+abbrev asRun : Lowering → Run
+asRun l file r s y o = lowerOf (l file (lentIn r s y) (length o)) r s y o
+
+-- so many zeros are lent
+abbrev zeros : ℕ → List ℕ
+zeros n = replicate n 0
+
+-- each byte of a list is at most 255
+unfoldable pub small : List ℕ → Bool
+small [] = true
+small (x ∷ xs) = leb x 255 && small xs
+
+small-bytes : (xs : List ℕ) → small xs ≡ true → Bytes xs
+unfolding small
+small-bytes [] e i = omega arith
+small-bytes (x ∷ xs) e zero = leb-true x 255 (and-left (leb x 255) (small xs) e)
+small-bytes (x ∷ xs) e (suc i) = small-bytes xs (and-right (leb x 255) (small xs) e) i
+
+-- what a lowering wrote
+wrote-by : (l : Lowering) (file r s y o : List ℕ) (w : Written) → l file (lentIn r s y) (length o) ≡ accepted w
+    → take (w .figures .bytes) (writtenOver (w .file) o) ≡ w .file → Wrote (asRun l) file r s y o (w .file)
+wrote-by l file r s y o w e t = (
+  shownFigures (w .figures),
+  ap (λ (a : Outcome Written). lowerOf a r s y o .answer) e,
+  sym t ∙ sym (ap (λ (a : Outcome Written). take (w .figures .bytes) (lowerOf a r s y o .out)) e),
+)
+
+-- the whole case lowered
+abbrev wholeLowered : List ℕ
+wholeLowered =
+    bytes "40:1,0 41:0,16 41:1,0 41:1,2 41:3,0 41:1,0 42:10,6,2,0,1 42:5,1,1,1,4 42:2,17,4,0,2 1:1,1 11:3,3 2:2,2 5:0,1 6:0,1,2 26:2 28:1,0 5:2,1 6:0,1,2 26:1 27:0,2,1 24:7,0 12:3,1,0,2 26:3 2:4,1 29:0,2,3 2:5,1 29:1,2,0"
+
+whole-small : small whole ≡ true
+unfolding small computing
+whole-small = refl
+
+whole-read : readFile wholeLowered ≡ accepted (fileOf (readFile wholeLowered))
+unfolding computing
+whole-read = refl
+
+whole-own : fieldFigures wholeLowered ≡ figures 18 5 3 0 215
+unfolding fieldFigures fieldCount fieldsOf fieldsIn numbersIn computing
+whole-own = refl
+
+-- of a lowering that leaves its own files as they are: what it answers for one that it wrote, with the memory of the first call
+second-answer : (l : Lowering) (file r s y o : List ℕ) (w : Written) (g : File) → LowersTwice (asRun l) → small file ≡ true
+    → l file (lentIn r s y) (length o) ≡ accepted w → take (w .figures .bytes) (writtenOver (w .file) o) ≡ w .file
+    → readFile (w .file) ≡ accepted g → Enough (lentIn r s y) (fieldFigures (w .file)) → length (w .file) ≤ length o
+    → lowerOf (l (w .file) (lentIn r s y) (length o)) r s y o .answer ≡ WrittenIn (shownFigures (fieldFigures (w .file)))
+second-answer l file r s y o w g twice bytes e t read rows long =
+    ap (λ (f : Finished). f .answer)
+    (twice file r s y o (w .file) g (small-bytes file bytes) (wrote-by l file r s y o w e t) read .same r s y o rows long)
+
+-- just enough for the whole case
+whole-lent : lentIn (zeros 126) (zeros 10) (zeros 18) ≡ lend 18 5 3
+unfolding lentIn
+whole-lent = refl
+
+whole-enough : Enough (lentIn (zeros 126) (zeros 10) (zeros 18)) (fieldFigures wholeLowered)
+whole-enough = rw (whole-lent, whole-own) (omega arith, omega arith, omega arith)
+
+whole-length-is : length wholeLowered ≡ 215
+unfolding computing
+whole-length-is = refl
+
+whole-front : take 215 (writtenOver wholeLowered (zeros 215)) ≡ wholeLowered
+unfolding computing
+whole-front = refl
+
+abbrev wholeWritten : Written
+wholeWritten = record { file = wholeLowered; figures = figures 18 5 3 1 215 }
+
+abbrev wholeSecond : Lowering → Lowered
+wholeSecond l = lowerOf (l wholeLowered (lentIn (zeros 126) (zeros 10) (zeros 18)) 215) (zeros 126) (zeros 10) (zeros 18) (zeros 215) .answer
+
+whole-second : (l : Lowering) → l whole (lend 18 5 3) 215 ≡ accepted wholeWritten → LowersTwice (asRun l)
+    → wholeSecond l ≡ WrittenIn (shownFigures (fieldFigures wholeLowered))
+whole-second l e twice =
+    second-answer l whole (zeros 126) (zeros 10) (zeros 18) (zeros 215) wholeWritten (fileOf (readFile wholeLowered)) twice whole-small
+    (ap (λ (lent : Lent). l whole lent 215) whole-lent ∙ e)
+    whole-front whole-read whole-enough (omega (arith, whole-length-is))
+
+-- the contexts that were made before are counted again, by their Loads
+abbrev byLoads : Outcome Written → Outcome Written
+byLoads (accepted w) =
+    let x = w .figures in
+    accepted
+    (record {
+      file = w .file;
+      figures = figures (x .records) (x .scopes) (x .symbols) (fieldCount isLoad (fieldsOf (w .file))) (x .bytes);
+    })
+byLoads (refused c p) = refused c p
+
+unfoldable pub countingAgain : Lowering
+countingAgain file lent out = byLoads (lower file lent out)
+
+counting-first : countingAgain whole (lend 18 5 3) 215 ≡ accepted wholeWritten
+unfolding countingAgain fieldCount fieldsOf fieldsIn numbersIn computing
+counting-first = refl
+
+abbrev contextsIn : Lowered → ℕ
+contextsIn (WrittenIn x) = x .contexts
+contextsIn (RefusedIn c p) = 0
+
+counting-second : contextsIn (wholeSecond countingAgain) ≡ 1
+unfolding countingAgain lentIn fieldCount fieldsOf fieldsIn numbersIn computing
+counting-second = refl
+
+pub no-counting-again : LowersTwice (asRun countingAgain) → ⊥
+no-counting-again twice =
+    omega (
+      arith,
+      counting-second,
+      ap contextsIn (whole-second countingAgain counting-first twice),
+      ap (λ (x : Figures). x .contexts) whole-own,
+    )
+
+-- a file that was lowered before is refused
+unfoldable pub refusingLowered : Lowering
+refusingLowered file lent out = if leb 1 (fieldCount isLoad (fieldsOf file)) then refused 8 0 else lower file lent out
+
+refusing-first : refusingLowered whole (lend 18 5 3) 215 ≡ accepted wholeWritten
+unfolding refusingLowered fieldCount fieldsOf fieldsIn numbersIn computing
+refusing-first = refl
+
+abbrev recordsTold : Lowered → ℕ
+recordsTold (WrittenIn x) = x .records
+recordsTold (RefusedIn c p) = 0
+
+refusing-second : recordsTold (wholeSecond refusingLowered) ≡ 0
+unfolding refusingLowered fieldCount fieldsOf fieldsIn numbersIn computing
+refusing-second = refl
+
+pub no-refusing-lowered : LowersTwice (asRun refusingLowered) → ⊥
+no-refusing-lowered twice =
+    omega (
+      arith,
+      refusing-second,
+      ap recordsTold (whole-second refusingLowered refusing-first twice),
+      ap (λ (x : Figures). x .records) whole-own,
+    )
+
+-- the import line is put wherever a Load of the helper stands, also one that was read
+unfoldable pub firstLoad : Forest → ℕ
+firstLoad none = 0
+firstLoad (more h k r) =
+    let inside = firstLoad k in
+    if eqb (h .tag) Tag.Load then h .b else if eqb inside 0 then firstLoad r else inside
+
+abbrev withLine : File → File
+withLine f =
+    let y = firstLoad (f .tree) in
+    if eqb (f .mode) 0 && eqb (f .isModule) 1 && not (eqb y 0) then withTree f (withImport y (f .tree)) else f
+
+unfoldable pub importingAgain : Lowering
+importingAgain file lent out = do
+  f ← admit file lent
+  accepted
+      (record {
+        file = written (withLine (fileAt (lastSpot f)));
+        figures = figuresIn (withLine (fileAt (lastSpot f))) ⊕ figures 0 0 0 (finalFigures f .contexts) 0;
+      })
+
+abbrev moduleFile : List ℕ
+moduleFile = bytes "40:0,1 41:0,16 41:1,0 42:10,6,2,0,1 1:1,1 2:2,1 5:3,1 6:0,1,2 26:1 24:7,0"
+
+abbrev moduleLowered : List ℕ
+moduleLowered =
+    bytes "40:0,1 41:0,16 41:1,0 41:1,2 41:3,0 41:1,0 42:10,6,2,0,1 42:5,1,1,1,4 42:5,32,1,1,2 42:2,17,4,0,2 1:1,2 17:4,0,1 20:3,3 11:3,3 2:2,2 5:0,1 6:0,1,2 26:2 28:0,3 5:2,1 6:0,1,2 26:1 27:0,2,1 24:7,0 12:3,1,0,2 26:4 2:4,1 29:0,2,4 2:5,1 29:1,2,0"
+
+abbrev moduleWritten : Written
+moduleWritten = record { file = moduleLowered; figures = figures 20 5 4 1 244 }
+
+module-first : importingAgain moduleFile (lend 20 5 4) 244 ≡ accepted moduleWritten
+unfolding importingAgain firstLoad computing
+module-first = refl
+
+module-lent : lentIn (zeros 140) (zeros 10) (zeros 24) ≡ lend 20 5 4
+unfolding lentIn
+module-lent = refl
+
+module-own : fieldFigures moduleLowered ≡ figures 20 5 4 0 244
+unfolding fieldFigures fieldCount fieldsOf fieldsIn numbersIn computing
+module-own = refl
+
+module-small : small moduleFile ≡ true
+unfolding small computing
+module-small = refl
+
+module-read : readFile moduleLowered ≡ accepted (fileOf (readFile moduleLowered))
+unfolding computing
+module-read = refl
+
+module-length : length moduleLowered ≡ 244
+unfolding computing
+module-length = refl
+
+module-front : take 244 (writtenOver moduleLowered (zeros 244)) ≡ moduleLowered
+unfolding computing
+module-front = refl
+
+-- the second call puts a second line
+module-again
+    : recordsTold (lowerOf (importingAgain moduleLowered (lentIn (zeros 140) (zeros 10) (zeros 24)) 244) (zeros 140) (zeros 10) (zeros 24) (zeros 244) .answer) ≡ 22
+unfolding importingAgain firstLoad lentIn computing
+module-again = refl
+
+pub no-importing-again : LowersTwice (asRun importingAgain) → ⊥
+no-importing-again twice =
+    omega (
+      arith,
+      module-again,
+      ap recordsTold
+          (second-answer importingAgain moduleFile (zeros 140) (zeros 10) (zeros 24) (zeros 244) moduleWritten (fileOf (readFile moduleLowered)) twice module-small
+          (ap (λ (lent : Lent). importingAgain moduleFile lent 244) module-lent ∙ module-first)
+          module-front module-read (rw (module-lent, module-own) (omega arith, omega arith, omega arith)) (omega (arith, module-length))),
+      ap (λ (x : Figures). x .records) module-own,
+    )

@@ -40,7 +40,7 @@ use Rattle.simulation.specs.Tried.Children.{children-law}
 use Rattle.simulation.specs.Tried.Try.{try-plan, try-law}
 use Rattle.scoping_laws.specs.Itemized.Items.{itemsRows, itemsSymbols}
 use Rattle.scoping_laws.specs.Itemized.Program.{items-store}
-use Rattle.simulation.specs.Arranged.Scopes.{items-same}
+use Rattle.spec_laws.specs.SameScopes.{items-scopes}
 use Rattle.simulation.specs.Arranged.Program.{program-law}
 use Rattle.walk.specs.Visit.{planNextF, rewriteProgramF, rewriteTryF, rewriteForOfF}
 use Rattle.simulation.specs.Rewrite.{Takes, By, done-by, kept-by, counts-some, line-takes}
@@ -87,7 +87,7 @@ module _ (done : Forest) (h : Head) (k r : Forest) (path : List Crumb) (st : Sto
       let st′ = programItems k st .1 in
       let new = scope-below (h .a) (s .moved) st′ in (
         omega (arith, program-pays h k st x .records),
-        omega (arith, new .scopes, ap length (items-same k st)),
+        omega (arith, new .scopes, ap length (items-scopes k st)),
         omega (arith, rw (and-false (missing st′)) at (new .symbols), items-store k st x a .1),
       )
 

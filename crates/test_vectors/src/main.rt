@@ -1,8 +1,10 @@
-// Replays vectors, and prints how many agreed. A file of data/ is text, read line by line; its form says what a line is (checks.rt, walks.rt,
-// lowerings.rt, corners.rt). A further file is one line more in `replay_scope` or `replay_requests`.
+// Replays vectors, and prints how many agreed; then lowers the files of all vectors twice. A file of data/ is text, read line by line; its form says
+// what a line is (checks.rt, walks.rt, lowerings.rt, corners.rt, twice.rt). A further file is one line more in `replay_scope` or `replay_requests`, and
+// one in `replay_twice`.
 mod checks;
 mod corners;
 mod lowerings;
+mod twice;
 mod walks;
 
 use test_lines::lines;
@@ -22,6 +24,14 @@ enum Form {
     Walks,
     Lowerings,
     Corners,
+    TwiceChecks,
+    TwiceWalks,
+    TwiceLowerings,
+    TwiceCorners,
+}
+
+fn tell_twice() {
+    lines::put(b": what is written for each file, lowered again\n");
 }
 
 // What is compared.
@@ -35,6 +45,10 @@ fn tell_form(form: Form) {
             b": what lower answers, the written file, and every number of the lent memory\n",
         ),
         Form::Corners => lines::put(b": what lower makes of each file\n"),
+        Form::TwiceChecks => tell_twice(),
+        Form::TwiceWalks => tell_twice(),
+        Form::TwiceLowerings => tell_twice(),
+        Form::TwiceCorners => tell_twice(),
     }
 }
 
@@ -50,6 +64,10 @@ fn tell_seen(form: Form, seen: Seen) {
         Form::Walks => tell_counts(b"states ", seen),
         Form::Lowerings => tell_counts(b"lowerings ", seen),
         Form::Corners => lines::put_number(b"lowered ", seen.all),
+        Form::TwiceChecks => tell_counts(b"lowered again ", seen),
+        Form::TwiceWalks => tell_counts(b"lowered again ", seen),
+        Form::TwiceLowerings => tell_counts(b"lowered again ", seen),
+        Form::TwiceCorners => tell_counts(b"lowered again ", seen),
     }
     lines::put(b"\n");
 }
@@ -61,6 +79,10 @@ fn replay_line(text: &[u8], at: usize, end: usize, form: Form, seen: Seen) -> Se
         Form::Walks => walks::replay(lines::part(text, at, text.len()), seen),
         Form::Lowerings => lines::add(seen, lowerings::agrees(lines::part(text, at, end))),
         Form::Corners => corners::show_line(lines::part(text, at, end), seen),
+        Form::TwiceChecks => twice::add_digits(lines::part(text, at, end), 0, seen),
+        Form::TwiceWalks => twice::add_walk(lines::part(text, at, end), seen),
+        Form::TwiceLowerings => twice::add_lowering(lines::part(text, at, end), seen),
+        Form::TwiceCorners => twice::add_corner(lines::part(text, at, end), seen),
     }
 }
 
@@ -146,10 +168,26 @@ fn replay_requests(room: &mut [u8]) {
     replay(b"count_visits.txt", Form::Walks, room);
 }
 
+// The files of all vectors, lowered twice.
+fn replay_twice(room: &mut [u8]) {
+    replay(b"check.txt", Form::TwiceChecks, room);
+    replay(b"visits.txt", Form::TwiceWalks, room);
+    replay(b"lower.txt", Form::TwiceLowerings, room);
+    replay(b"depth.txt", Form::TwiceLowerings, room);
+    replay(b"letters.txt", Form::TwiceLowerings, room);
+    replay(b"letter_visits.txt", Form::TwiceWalks, room);
+    replay(b"imports.txt", Form::TwiceLowerings, room);
+    replay(b"import_visits.txt", Form::TwiceWalks, room);
+    replay(b"counts.txt", Form::TwiceLowerings, room);
+    replay(b"count_visits.txt", Form::TwiceWalks, room);
+    replay(b"corners.txt", Form::TwiceCorners, room);
+}
+
 fn replay_all(room: &mut [u8]) {
     replay_scope(room);
     replay_requests(room);
     replay(b"corners.txt", Form::Corners, room);
+    replay_twice(room);
 }
 
 fn main() {

@@ -21,6 +21,10 @@ use Rattle.claims.specs.Refusals.Numbers.{check-numbers}
 abbrev pub Short : Lent → Figures → Type 0
 Short lent g = (lent .records < g .records) ⊎ ((lent .scopes < g .scopes) ⊎ (lent .symbols < g .symbols))
 
+-- none is
+abbrev pub Enough : Lent → Figures → Type 0
+Enough lent g = (g .records ≤ lent .records) × (g .scopes ≤ lent .scopes) × (g .symbols ≤ lent .symbols)
+
 -- the first that is short: 0 records, 1 scopes, 2 symbols
 unfoldable pub firstShort : Lent → Figures → ℕ
 firstShort lent g = if ltb (lent .records) (g .records) then 0 else if ltb (lent .scopes) (g .scopes) then 1 else 2
@@ -88,6 +92,11 @@ pub small-not-admitted : (b : List ℕ) (lent : Lent) (f : File) → checkFile b
 unfolding admit
 small-not-admitted b lent f e h = rw (e, rows-refused lent (finalFigures f) h)
 
+-- With enough it is admitted.
+pub enough-admitted : (b : List ℕ) (lent : Lent) (f : File) → checkFile b ≡ accepted f → Enough lent (finalFigures f) → admit b lent ≡ accepted f
+unfolding admit checkRows
+enough-admitted b lent f e h = rw (e, le-leb _ _ (h .0), le-leb _ _ (h .1), le-leb _ _ (h .2))
+
 -- No other file is refused so.
 pub not-admitted-small : (b : List ℕ) (lent : Lent) (p : ℕ) → admit b lent ≡ refused 9 p
     → (f : File) × (checkFile b ≡ accepted f) × Short lent (finalFigures f) × (p ≡ firstShort lent (finalFigures f))
@@ -149,7 +158,7 @@ not-admitted b lent out c p e = rw e
 -- it is admitted, and the output is long enough
 abbrev pub Lowers : List ℕ → Lent → ℕ → Type 0
 Lowers b lent out =
-    (f : File) × (admit b lent ≡ accepted f)
+    (f : File) × (admit b lent ≡ accepted f) × (finalFigures f .bytes ≤ out)
     × (lower b lent out ≡ accepted (record { file = written (fileAt (finalSpot f)); figures = finalFigures f }))
 
 abbrev pub Refuses : List ℕ → Lent → ℕ → Type 0
@@ -157,7 +166,7 @@ Refuses b lent out = (c : ℕ) × (p : ℕ) × (lower b lent out ≡ refused c p
 
 by-length : (b : List ℕ) (lent : Lent) (out : ℕ) (f : File) (c : Bool) → leb (finalFigures f .bytes) out ≡ c → admit b lent ≡ accepted f
     → Lowers b lent out ⊎ Refuses b lent out
-by-length b lent out f true l e = inl (f, e, enough-output b lent out f e (leb-true _ _ l))
+by-length b lent out f true l e = let long = leb-true _ _ l in inl (f, e, long, enough-output b lent out f e long)
 by-length b lent out f false l e = inr (10, out, short-output b lent out f e (leb-false (finalFigures f .bytes) out l))
 
 pub lower-total : (b : List ℕ) (lent : Lent) (out : ℕ)

@@ -1,0 +1,174 @@
+-- Lowering twice (02, request 14): a file that lowering wrote and reading accepts is lowered to itself.
+-- Assumes nothing.
+use mathlib.Core.Path.{_≡_, refl, sym, ap, subst, _∙_}
+use mathlib.Core.Bool.{Bool, true, false, not, _&&_}
+use mathlib.Core.List.{List}
+use mathlib.Core.Logic.{⊎-elim}
+use Prim.Native.Nat.{ℕ, _≤_, _<_}
+use native.Mathlib.Omega.{arith}
+use lib.Dec.{eqb, leb}
+use lib.ListN.{length, take, drop}
+use lib.Seq.{take-at}
+use Rattle.meaning.specs.Numbers.Mode
+use Rattle.meaning.specs.File.{File, written}
+use Rattle.meaning.specs.Reading.{Outcome, accepted, refused, _>>_, readFile}
+use Rattle.meaning.specs.Walk.{fileAt}
+use Rattle.meaning.specs.Charges.{Figures, figures, finalFigures}
+use Rattle.meaning.specs.Lowering.{Lent, checkMode, checkFile, admit, finalSpot, Written, lower}
+use Rattle.spec_laws.specs.Tags.{clash}
+use Rattle.spec_laws.specs.Bools.{and-false}
+use Rattle.spec_laws.specs.Trees.{Bytes}
+use Rattle.figures.specs.Figures.{shownFigures}
+use Rattle.figures.specs.declared.FinalFigures.{FinalFigures}
+use Rattle.start.specs.Start.{lentIn}
+use Rattle.start.specs.Filled.{admitted}
+use Rattle.lowering.specs.declared.Lowered.{Lowered}
+use Rattle.lowering.specs.declared.Lowered.the-variants.{Written as WrittenIn, Refused}
+use Rattle.lowering.specs.Lower.{Finished, finished, zerosFor, writtenOver, lowerOf, lowerF}
+use Rattle.lowering.specs.Law.{final-length}
+use Rattle.idempotence_laws.specs.Fields.{fieldFigures}
+use Rattle.idempotence_laws.specs.Again.{again-written, again-figures}
+use Rattle.claims.specs.Calls.{file-shows}
+use Rattle.claims.specs.Refusals.Small.{Enough, Short, firstShort, enough-admitted, small-refused, short-output, enough-output, lower-total}
+
+-- ---- what is claimed
+
+-- a lowering as it is called: the file, the three tables and the output; what it answers and leaves
+abbrev pub Run : Type 0
+Run = List ℕ → List ℕ → List ℕ → List ℕ → List ℕ → Finished
+
+-- A call was accepted, and this file stands at the front of its output, as long as the answer says.
+abbrev pub Wrote : Run → List ℕ → List ℕ → List ℕ → List ℕ → List ℕ → List ℕ → Type 0
+Wrote run bytes r s y o file =
+    let left = run bytes r s y o in
+    (x : FinalFigures) × (left .answer ≡ WrittenIn x) × (file ≡ take (x .bytes) (left .out))
+
+-- THE FILE IS LOWERED TO ITSELF. Its own figures are the counts of its fields, no context, and its length (`fieldFigures`).
+pub record ToItself (run : Run) (file : List ℕ) : Type 0 where
+  -- with rows and output enough it is written byte for byte, and the answer is its own figures; the tables are 0, and the output behind the
+  -- file is as it was
+  pub same : (r s y o : List ℕ) → Enough (lentIn r s y) (fieldFigures file) → length file ≤ length o
+      → run file r s y o
+      ≡ finished (WrittenIn (shownFigures (fieldFigures file))) (zerosFor r) (zerosFor s) (zerosFor y) (writtenOver file o)
+  -- with too few rows it is refused with 9, at the first that is short,
+  pub fewRows : (r s y o : List ℕ) → Short (lentIn r s y) (fieldFigures file)
+      → run file r s y o ≡ finished (Refused 9 (firstShort (lentIn r s y) (fieldFigures file))) r s y o
+  -- and with rows enough and too short an output with 10, at the output's length
+  pub shortOutput : (r s y o : List ℕ) → Enough (lentIn r s y) (fieldFigures file) → length o < length file
+      → run file r s y o ≡ finished (Refused 10 (length o)) r s y o
+
+-- Every file that the lowering wrote, and reading accepts, is lowered to itself.
+abbrev pub LowersTwice : Run → Type 0
+LowersTwice run =
+    (bytes r s y o file : List ℕ) (g : File) → Bytes bytes → Wrote run bytes r s y o file → readFile file ≡ accepted g → ToItself run file
+
+-- ---- the second lowering
+
+-- 8 is not tried where no context is made
+mode-passes : (g : File) → finalFigures g .contexts ≡ 0 → (checkMode g >> accepted g) ≡ accepted g
+unfolding checkMode
+mode-passes g e = rw (e, and-false (eqb (g .mode) Mode.Inline))
+
+module _ (b : List ℕ) (f : File) (bytes : Bytes b) (read : readFile b ≡ accepted f)
+    (g : File) (again : readFile (written (fileAt (finalSpot f))) ≡ accepted g) where
+  abbrev file : List ℕ
+  file = written (fileAt (finalSpot f))
+
+  own : finalFigures g ≡ fieldFigures file
+  own = again-figures b f bytes read g again
+
+  checked : checkFile file ≡ accepted g
+  unfolding checkFile fieldFigures
+  checked = rw again (mode-passes g (ap (λ (x : Figures). x .contexts) own))
+
+  itself : ToItself lowerF file
+  unfolding lowerF fieldFigures
+  itself =
+      record {
+        same = λ r s y o rows long.
+          let lent = lentIn r s y in
+          ap (λ (a : Outcome Written). lowerOf a r s y o)
+          (enough-output file lent (length o) g (enough-admitted file lent g checked (rw own rows)) (rw own long)
+          ∙ rw (again-written b f bytes read g again, own));
+        fewRows = λ r s y o short.
+          let lent = lentIn r s y in
+          ap (λ (a : Outcome Written). lowerOf a r s y o) (small-refused file lent (length o) g checked (rw own short) ∙ rw own);
+        shortOutput = λ r s y o rows short.
+          let lent = lentIn r s y in
+          ap (λ (a : Outcome Written). lowerOf a r s y o)
+          (short-output file lent (length o) g (enough-admitted file lent g checked (rw own rows)) (rw own short));
+      }
+
+-- ---- the first lowering
+
+abbrev isWritten : Lowered → Bool
+isWritten (WrittenIn x) = true
+isWritten (Refused c p) = false
+
+abbrev lengthSaid : Lowered → ℕ
+lengthSaid (WrittenIn x) = x .bytes
+lengthSaid (Refused c p) = 0
+
+-- what it wrote
+wrote-file : (b r s y o file : List ℕ) (f : File) → Bytes b → admit b (lentIn r s y) ≡ accepted f
+    → lower b (lentIn r s y) (length o) ≡ accepted (record { file = written (fileAt (finalSpot f)); figures = finalFigures f })
+    → Wrote lowerF b r s y o file → file ≡ written (fileAt (finalSpot f))
+unfolding lowerF
+wrote-file b r s y o file f bytes e w (x, answer, front) =
+    let lowered = written (fileAt (finalSpot f)) in
+    let left : lowerF b r s y o ≡ lowerOf (accepted (record { file = lowered; figures = finalFigures f })) r s y o =
+    ap (λ (a : Outcome Written). lowerOf a r s y o) w in
+    let said : x .bytes ≡ finalFigures f .bytes =
+    sym (ap lengthSaid answer) ∙ ap (λ (l : Finished). lengthSaid (l .answer)) left in
+    front
+    ∙ ap (λ (n : ℕ). take n (lowerF b r s y o .out)) said
+    ∙ ap (λ (l : Finished). take (finalFigures f .bytes) (l .out)) left
+    ∙ take-at lowered (drop (length lowered) o) (finalFigures f .bytes) (final-length b r s y f bytes e)
+
+never-wrote : (b r s y o file : List ℕ) (c p : ℕ) → lower b (lentIn r s y) (length o) ≡ refused c p → Wrote lowerF b r s y o file → ⊥
+unfolding lowerF
+never-wrote b r s y o file c p e (x, answer, front) =
+    clash (ap (λ (a : Outcome Written). isWritten (lowerOf a r s y o .answer)) e) (ap isWritten answer)
+
+-- LOWERING TWICE.
+pub lowering-twice : LowersTwice lowerF
+lowering-twice b r s y o file g bytes wrote again =
+    ⊎-elim
+    (λ (f, e, long, w).
+    let is = wrote-file b r s y o file f bytes e w wrote in
+    subst (ToItself lowerF) (sym is) (itself b f bytes (admitted b r s y f e .0) g (subst (λ (x : List ℕ). readFile x ≡ accepted g) is again)))
+    (λ (c, p, e). absurd (never-wrote b r s y o file c p e wrote))
+    (lower-total b (lentIn r s y) (length o))
+
+-- ---- with the memory of the first
+
+-- the file has no more fields than rows were lent, and no more bytes than the output
+abbrev Fits : List ℕ → List ℕ → List ℕ → List ℕ → List ℕ → Type 0
+Fits r s y o file = Enough (lentIn r s y) (fieldFigures file) × (length file ≤ length o)
+
+first-fits : (b r s y o : List ℕ) (f : File) → Bytes b → admit b (lentIn r s y) ≡ accepted f → finalFigures f .bytes ≤ length o
+    → Fits r s y o (written (fileAt (finalSpot f)))
+unfolding fieldFigures
+first-fits b r s y o f bytes e long =
+    let shown = file-shows b r s y f e bytes in
+    let lent = admitted b r s y f e in
+    ((omega (arith, shown, lent), omega (arith, shown, lent), omega (arith, shown, lent)), omega (arith, final-length b r s y f bytes e))
+
+wrote-fits : (b r s y o file : List ℕ) → Bytes b → Wrote lowerF b r s y o file → Fits r s y o file
+wrote-fits b r s y o file bytes wrote =
+    ⊎-elim
+    (λ (f, e, long, w). subst (Fits r s y o) (sym (wrote-file b r s y o file f bytes e w wrote)) (first-fits b r s y o f bytes e long))
+    (λ (c, p, e). absurd (never-wrote b r s y o file c p e wrote))
+    (lower-total b (lentIn r s y) (length o))
+
+-- As much memory as the first call had is enough.
+pub lowering-again : (b r s y o file : List ℕ) (g : File) → Bytes b → Wrote lowerF b r s y o file → readFile file ≡ accepted g
+    → (r′ s′ y′ o′ : List ℕ) → length r ≤ length r′ → length s ≤ length s′ → length y ≤ length y′ → length o ≤ length o′
+    → lowerF file r′ s′ y′ o′
+    ≡ finished (WrittenIn (shownFigures (fieldFigures file))) (zerosFor r′) (zerosFor s′) (zerosFor y′) (writtenOver file o′)
+unfolding lentIn
+lowering-again b r s y o file g bytes wrote again r′ s′ y′ o′ lr ls ly lo =
+    let fits = wrote-fits b r s y o file bytes wrote in
+    lowering-twice b r s y o file g bytes wrote again .same r′ s′ y′ o′
+    (omega (arith, fits .0), omega (arith, fits .0), omega (arith, fits .0))
+    (omega (arith, fits .1))
