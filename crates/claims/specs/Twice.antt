@@ -1,6 +1,6 @@
 -- Lowering twice (02, request 14): a file that lowering wrote and reading accepts is lowered to itself.
 -- Assumes nothing.
-use mathlib.Core.Path.{_≡_, refl, sym, ap, subst, _∙_}
+use mathlib.Core.Path.{_≡_, refl, sym, ap, ap₂, subst, _∙_}
 use mathlib.Core.Bool.{Bool, true, false, not, _&&_}
 use mathlib.Core.List.{List}
 use mathlib.Core.Logic.{⊎-elim}
@@ -81,22 +81,29 @@ module _ (b : List ℕ) (f : File) (bytes : Bytes b) (read : readFile b ≡ acce
   unfolding checkFile fieldFigures
   checked = rw again (mode-passes g (ap (λ (x : Figures). x .contexts) own))
 
+  -- by 01's lowering, with rows and output enough, with too few rows, and with too short an output
+  itself-enough : (lent : Lent) (out : ℕ) → Enough lent (fieldFigures file) → length file ≤ out
+      → lower file lent out ≡ accepted (record { file = file; figures = fieldFigures file })
+  unfolding fieldFigures
+  itself-enough lent out rows long =
+      enough-output file lent out g (enough-admitted file lent g checked (rw own rows)) (rw own long)
+      ∙ ap₂ (λ (b : List ℕ) (x : Figures). accepted (record { file = b; figures = x })) (again-written b f bytes read g again) own
+
+  itself-few : (lent : Lent) (out : ℕ) → Short lent (fieldFigures file) → lower file lent out ≡ refused 9 (firstShort lent (fieldFigures file))
+  itself-few lent out short =
+      small-refused file lent out g checked (rw own short) ∙ ap (λ (x : Figures). refused 9 (firstShort lent x)) own
+
+  itself-short : (lent : Lent) (out : ℕ) → Enough lent (fieldFigures file) → out < length file → lower file lent out ≡ refused 10 out
+  unfolding fieldFigures
+  itself-short lent out rows short = short-output file lent out g (enough-admitted file lent g checked (rw own rows)) (rw own short)
+
   itself : ToItself lowerF file
-  unfolding lowerF fieldFigures
+  unfolding lowerF
   itself =
       record {
-        same = λ r s y o rows long.
-          let lent = lentIn r s y in
-          ap (λ (a : Outcome Written). lowerOf a r s y o)
-          (enough-output file lent (length o) g (enough-admitted file lent g checked (rw own rows)) (rw own long)
-          ∙ rw (again-written b f bytes read g again, own));
-        fewRows = λ r s y o short.
-          let lent = lentIn r s y in
-          ap (λ (a : Outcome Written). lowerOf a r s y o) (small-refused file lent (length o) g checked (rw own short) ∙ rw own);
-        shortOutput = λ r s y o rows short.
-          let lent = lentIn r s y in
-          ap (λ (a : Outcome Written). lowerOf a r s y o)
-          (short-output file lent (length o) g (enough-admitted file lent g checked (rw own rows)) (rw own short));
+        same = λ r s y o rows long. ap (λ (a : Outcome Written). lowerOf a r s y o) (itself-enough (lentIn r s y) (length o) rows long);
+        fewRows = λ r s y o short. ap (λ (a : Outcome Written). lowerOf a r s y o) (itself-few (lentIn r s y) (length o) short);
+        shortOutput = λ r s y o rows short. ap (λ (a : Outcome Written). lowerOf a r s y o) (itself-short (lentIn r s y) (length o) rows short);
       }
 
 -- ---- the first lowering
