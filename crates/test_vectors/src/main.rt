@@ -1,6 +1,6 @@
 // Replays vectors, and prints how many agreed; then lowers the files of all vectors twice. A file of data/ is text, read line by line; its form says
 // what a line is (checks.rt, walks.rt, lowerings.rt, corners.rt, twice.rt). A further file is one line more in `replay_scope` or `replay_requests`, and
-// one in `replay_twice`.
+// one in the like-named function for lowering twice.
 mod checks;
 mod corners;
 mod lowerings;
@@ -169,10 +169,14 @@ fn replay_requests(room: &mut [u8]) {
 }
 
 // The files of all vectors, lowered twice.
-fn replay_twice(room: &mut [u8]) {
+fn replay_scope_twice(room: &mut [u8]) {
     replay(b"check.txt", Form::TwiceChecks, room);
     replay(b"visits.txt", Form::TwiceWalks, room);
     replay(b"lower.txt", Form::TwiceLowerings, room);
+    replay(b"corners.txt", Form::TwiceCorners, room);
+}
+
+fn replay_requests_twice(room: &mut [u8]) {
     replay(b"depth.txt", Form::TwiceLowerings, room);
     replay(b"letters.txt", Form::TwiceLowerings, room);
     replay(b"letter_visits.txt", Form::TwiceWalks, room);
@@ -180,14 +184,14 @@ fn replay_twice(room: &mut [u8]) {
     replay(b"import_visits.txt", Form::TwiceWalks, room);
     replay(b"counts.txt", Form::TwiceLowerings, room);
     replay(b"count_visits.txt", Form::TwiceWalks, room);
-    replay(b"corners.txt", Form::TwiceCorners, room);
 }
 
 fn replay_all(room: &mut [u8]) {
     replay_scope(room);
     replay_requests(room);
     replay(b"corners.txt", Form::Corners, room);
-    replay_twice(room);
+    replay_scope_twice(room);
+    replay_requests_twice(room);
 }
 
 fn main() {

@@ -86,19 +86,7 @@ fn lower_again(
     is_itself(answer, first, file, out)
 }
 
-fn lower_short(
-    file: &[u8],
-    records: &mut [u16],
-    scopes: &mut [u16],
-    symbols: &mut [u16],
-    out: &mut [u8],
-) -> bool {
-    let length = out.len();
-    let answer = lowering::lower(file, records, scopes, symbols, out);
-    is_short(answer, length)
-}
-
-// With an output of so many bytes, and of one less.
+// With an output of so many bytes, which is enough,
 fn agrees_with(
     first: FinalFigures,
     file: &[u8],
@@ -108,16 +96,43 @@ fn agrees_with(
     n: usize,
 ) -> bool {
     let mut out = io::large_buffer();
-    if n == 0 {
-        return false;
-    }
     if out.len() < n {
         return false;
     }
-    if !lower_again(first, file, records, scopes, symbols, &mut out[..n]) {
+    lower_again(first, file, records, scopes, symbols, &mut out[..n])
+}
+
+// and is too short.
+fn agrees_short(
+    file: &[u8],
+    records: &mut [u16],
+    scopes: &mut [u16],
+    symbols: &mut [u16],
+    n: usize,
+) -> bool {
+    let mut out = io::large_buffer();
+    if out.len() < n {
         return false;
     }
-    lower_short(file, records, scopes, symbols, &mut out[..(n - 1)])
+    let answer = lowering::lower(file, records, scopes, symbols, &mut out[..n]);
+    is_short(answer, n)
+}
+
+fn agrees_rows(
+    first: FinalFigures,
+    file: &[u8],
+    records: &mut [u16],
+    scopes: &mut [u16],
+    symbols: &mut [u16],
+) -> bool {
+    let n = file.len();
+    if n == 0 {
+        return false;
+    }
+    if !agrees_with(first, file, records, scopes, symbols, n) {
+        return false;
+    }
+    agrees_short(file, records, scopes, symbols, n - 1)
 }
 
 // With so many rows.
@@ -134,13 +149,12 @@ fn agrees_again(first: FinalFigures, file: &[u8], r: usize, s: usize, y: usize) 
     if 1024 < y {
         return false;
     }
-    agrees_with(
+    agrees_rows(
         first,
         file,
         &mut records[..(r * 7)],
         &mut scopes[..(s * 2)],
         &mut symbols[..(y * 6)],
-        file.len(),
     )
 }
 
