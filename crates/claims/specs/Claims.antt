@@ -11,7 +11,8 @@
 --   visit_some  answers and leaves `visitSomeF`: visits alone (`visitF`), for a loop over many,
 --   lower       answers and leaves `lowerF file records scopes symbols out`.
 -- The claims below are about these same definitions. `readFile`, `figuresOf`, `admit`, `visits`, `visitCalls`, `dues`, `importDues`,
--- `finalFigures`, `finalSpot`, `mentions`, `written` and `lower` are documents 01 and 02 (crate meaning); `visitCharges` tells the charges without the walk.
+-- `finalFigures`, `finalSpot`, `mentions`, `ScopesAgree`, `written` and `lower` are documents 01 and 02 (crate meaning); `visitCharges` tells the
+-- charges without the walk.
 -- A list of numbers stands for a lent slice; `lentIn r s y` are the rows of tables.
 -- Assumes nothing.
 use mathlib.Core.Path.{_≡_, refl, ap, _∙_}
@@ -458,8 +459,8 @@ count-cases-hold = counts-hold
 -- ---- REQUEST 14 of document 02: lowering twice, and scope rows that agree with the tree
 
 -- After any number of calls, the import line's among them, the scope rows and the tree that the tables show agree as 01 asks of a file
--- (`ScopesAgree`): every row is named by exactly one record, Program names row 1, and a row's parent is the scope of the nearest enclosing record
--- that has one. Start's tables are those after 0 calls.
+-- (`ScopesAgree`): every row is named by exactly one record, Program names row 1, and a row's parent is the scope of the nearest enclosing
+-- record that has one. Start's tables are those after 0 calls.
 pub scopes-agree : (bytes r s y : List ℕ) (f : File) → admit bytes (lentIn r s y) ≡ accepted f → (k : ℕ)
     → let tables = afterCalls k f r s y in ScopesAgree (scopesIn tables) (treeOf (recordsIn tables))
 scopes-agree = scopes-in-tables
@@ -468,9 +469,9 @@ scopes-agree = scopes-in-tables
 pub read-scopes-agree : (bytes : List ℕ) (f : File) → readFile bytes ≡ accepted f → ScopesAgree (f .scopes) (f .tree)
 read-scopes-agree = read-agrees
 
--- A file that lowering wrote and reading accepts is lowered to itself, byte for byte: it may have grown past 64 levels or 65,535 bytes, and then
--- reading refuses it. The answer is the counts of its own fields, no context, and its length. Where rows or output are too few for these, and only there, it is
--- refused with 9 or 10 (`ToItself`).
+-- A file that lowering wrote and reading accepts is lowered to itself, byte for byte. (It may have grown past 64 levels or 65,535 bytes, and
+-- then reading refuses it.) The answer has the counts of the file's own fields, no context, and its length. Where rows or output are too few
+-- for these, and only there, it is refused, with 9 or 10 (`ToItself`). Each byte of the first file is at most 255, as in every `&[u8]`.
 pub lowers-to-itself : LowersTwice lowerF
 lowers-to-itself = lowering-twice
 
