@@ -34,12 +34,7 @@ impl HelperLoader {
     }
 
     /// Loads the helper, seen from the scope `current`.
-    pub fn helper_load(
-        &mut self,
-        nodes: &mut Nodes,
-        scoping: &mut Scoping,
-        current: u16,
-    ) -> Load {
+    pub fn helper_load(&mut self, nodes: &mut Nodes, scoping: &mut Scoping, current: u16) -> Load {
         let first = !std::mem::replace(&mut self.any, true);
         let node = self.load_node(nodes, scoping, current);
         Load { node, first }
