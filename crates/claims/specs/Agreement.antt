@@ -3,12 +3,12 @@
 use mathlib.Core.Path.{_≡_, sym, ap, subst, _∙_}
 use mathlib.Core.List.{List}
 use Prim.Native.Nat.{ℕ}
-use Rattle.meaning.specs.Tree.{Forest, Row, flatten}
+use Rattle.meaning.specs.Tree.{Row}
 use Rattle.meaning.specs.File.{Scope, File}
 use Rattle.meaning.specs.Agreement.{ScopesAgree}
 use Rattle.meaning.specs.Reading.{accepted}
-use Rattle.meaning.specs.Walk.{Spot, visits, start, treeAt, storeAt}
-use Rattle.meaning.specs.ImportLine.{completed, visitCalls}
+use Rattle.meaning.specs.Walk.{Spot, start, treeAt, storeAt}
+use Rattle.meaning.specs.ImportLine.{visitCalls}
 use Rattle.meaning.specs.Lowering.{admit}
 use Rattle.spec_laws.specs.Calls.{calls-are}
 use Rattle.start.specs.Start.{lentIn}

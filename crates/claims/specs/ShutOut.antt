@@ -35,7 +35,7 @@ use Rattle.figures.specs.Figures.{shownFigures}
 use Rattle.start.specs.Start.{lentIn}
 use Rattle.lowering.specs.declared.Lowered.{Lowered}
 use Rattle.lowering.specs.declared.Lowered.the-variants.{Written as WrittenIn, Refused as RefusedIn}
-use Rattle.lowering.specs.Lower.{Finished, writtenOver, lowerOf}
+use Rattle.lowering.specs.Lower.{Finished, writtenOver, lowerOf, lowerF}
 use Rattle.fields.specs.Lengths.{lengths}
 use Rattle.parsing.specs.Counted.{readUncounted, firstSymbol, symbolOffset, fifthNumber, CountRight, LowestWrong}
 use Rattle.mentions.specs.Sums.{countsFrom}
@@ -53,9 +53,9 @@ use Rattle.claims.specs.Depth.{forestWith, readDeep, depthFirst, readBef
 use Rattle.claims.specs.Letters.{takeUpBefore, takeUpCasesBefore, switchBy, switchBefore, unlettered, ButLetters}
 use Rattle.claims.specs.Import.{imports, ImportLine}
 use Rattle.claims.specs.Counts.{TrueCounts, TrueInBytes}
-use Rattle.claims.specs.Twice.{Run, Wrote, LowersTwice}
+use Rattle.claims.specs.Twice.{Run, Wrote, ToItself, LowersTwice}
 use Rattle.claims.specs.Refusals.Small.{Enough}
-use Rattle.claims.specs.Claims.{DepthFirst, CountsChecked}
+use Rattle.claims.specs.Claims.{DepthFirst, CountsChecked, lowers-to-itself}
 
 -- ---- two files and what is seen of an answer
 
@@ -976,6 +976,18 @@ whole-second l e twice =
     second-answer l whole (zeros 126) (zeros 10) (zeros 18) (zeros 215) wholeWritten (fileOf (readFile wholeLowered)) twice whole-small
     (ap (λ (lent : Lent). l whole lent 215) whole-lent ∙ e)
     whole-front whole-read whole-enough (omega (arith, whole-length-is))
+
+-- 01's lowering wrote such a file, so the claim speaks of some: the whole case, lowered, is lowered to itself
+whole-first : lower whole (lend 18 5 3) 215 ≡ accepted wholeWritten
+unfolding computing
+whole-first = refl
+
+pub whole-to-itself : ToItself lowerF wholeLowered
+unfolding lowerF
+whole-to-itself =
+    lowers-to-itself whole (zeros 126) (zeros 10) (zeros 18) (zeros 215) wholeLowered (fileOf (readFile wholeLowered)) (small-bytes whole whole-small)
+    (wrote-by lower whole (zeros 126) (zeros 10) (zeros 18) (zeros 215) wholeWritten (ap (λ (lent : Lent). lower whole lent 215) whole-lent ∙ whole-first) whole-front)
+    whole-read
 
 -- the contexts that were made before are counted again, by their Loads
 abbrev byLoads : Outcome Written → Outcome Written
