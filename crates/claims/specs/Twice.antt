@@ -13,7 +13,7 @@ use Rattle.meaning.specs.Numbers.Mode
 use Rattle.meaning.specs.File.{File, written}
 use Rattle.meaning.specs.Reading.{Outcome, accepted, refused, _>>_, readFile}
 use Rattle.meaning.specs.Walk.{fileAt}
-use Rattle.meaning.specs.Charges.{Figures, figures, finalFigures}
+use Rattle.meaning.specs.Charges.{Figures, finalFigures}
 use Rattle.meaning.specs.Lowering.{Lent, checkMode, checkFile, admit, finalSpot, Written, lower}
 use Rattle.spec_laws.specs.Tags.{clash}
 use Rattle.spec_laws.specs.Bools.{and-false}
