@@ -459,8 +459,8 @@ count-cases-hold = counts-hold
 -- ---- REQUEST 14 of document 02: lowering twice, and scope rows that agree with the tree
 
 -- After any number of calls, the import line's among them, the scope rows and the tree that the tables show agree as 01 asks of a file
--- (`ScopesAgree`): every row is named by exactly one record, Program names row 1, and a row's parent is the scope of the nearest enclosing
--- record that has one. Start's tables are those after 0 calls.
+-- (`ScopesAgree`): each row is named once, Program's is the first, and the parent of a row is the scope around the record that names it. Start's
+-- tables are those after 0 calls.
 pub scopes-agree : (bytes r s y : List ℕ) (f : File) → admit bytes (lentIn r s y) ≡ accepted f → (k : ℕ)
     → let tables = afterCalls k f r s y in ScopesAgree (scopesIn tables) (treeOf (recordsIn tables))
 scopes-agree = scopes-in-tables

@@ -1,5 +1,5 @@
--- What 01 asks of scope rows and tree: every scope row is named by exactly one record, Program names row 1, and a row's parent is the scope of the
--- nearest enclosing record that has one. Reading refuses a file in which this does not hold; lowering keeps it (02, request 14).
+-- Scope rows and tree (01, "The tree file"): each row belongs to one record, which names it; Program's is the first; and the parent of a row is
+-- the scope around its record. Reading refuses a file in which this does not hold, and lowering keeps to it (02, request 14).
 -- Assumes nothing.
 use mathlib.Core.Path.{_≡_}
 use mathlib.Core.Bool.{Bool, true, false, not, _||_, _&&_}
@@ -21,7 +21,8 @@ namesScope h =
     (h .tag)
     || (eqb (h .tag) Tag.Plain && not (eqb (h .a) 0))
 
--- For each record that names row s, in file order, the scope of the nearest enclosing record that has one, or 0. `cur` is that of the forest.
+-- For each record that names row s, in file order, the scope around it: that of the innermost record with one, `cur` around the forest, and 0 for
+-- none.
 unfoldable pub enclosingScopes : ℕ → ℕ → Forest → List ℕ
 enclosingScopes s cur none = []
 enclosingScopes s cur (more h k r) =
@@ -30,7 +31,7 @@ enclosingScopes s cur (more h k r) =
 
 -- THE SCOPE ROWS AGREE WITH THE TREE.
 pub record ScopesAgree (scopes : List Scope) (tree : Forest) : Type 0 where
-  -- each row is named by one record, and its parent is the scope of the nearest record around that one
+  -- each row is named once, and its parent is the scope around the record that names it
   pub rows : (s : ℕ) → isRow (length scopes) s ≡ true → enclosingScopes s 0 tree ≡ rowAt noScope scopes s .parent ∷ []
   -- what is no row is named by none
   pub others : (s : ℕ) → isRow (length scopes) s ≡ false → enclosingScopes s 0 tree ≡ []
