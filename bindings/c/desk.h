@@ -119,8 +119,8 @@ uint8_t desk_visit(uint16_t *records, size_t records_length,
  * Refused: the tables and the output are as they were; *answer tells the place.
  * Accepted: the output begins with the lowered file, of answer->bytes bytes, and is as it was behind it; the tables are all 0, to their last
  *   number, whatever they held before; *answer tells the five figures.
- * A file that this call wrote and desk_check accepts is lowered to itself, byte for byte, with 0 contexts, if as much memory is lent as for the first
- * lowering. (It may have grown past 64 levels or 65,535 bytes; then desk_check refuses it with 6 or 1.)
+ * What this call wrote, if desk_check accepts it, comes out of a second call unchanged, with 0 contexts, if as much memory is lent as to the first.
+ * (desk_check refuses it with 6 or 1 if it now has more than 64 levels or 65,535 bytes.)
  */
 uint8_t desk_lower(const uint8_t *file, size_t file_length,
                    uint16_t *records, size_t records_length,

@@ -469,8 +469,8 @@ scopes-agree = scopes-in-tables
 pub read-scopes-agree : (bytes : List ℕ) (f : File) → readFile bytes ≡ accepted f → ScopesAgree (f .scopes) (f .tree)
 read-scopes-agree = read-agrees
 
--- A file that lowering wrote and reading accepts is lowered to itself, byte for byte. (It may have grown past 64 levels or 65,535 bytes, and
--- then reading refuses it.) The answer has the counts of the file's own fields, no context, and its length. Where rows or output are too few
+-- What lowering writes comes out of a second lowering unchanged to the last byte, wherever it can be read. (With more than 64 levels or 65,535 bytes
+-- by now, reading refuses it.) The answer has the counts of the file's own fields, no context, and its length. Where rows or output are too few
 -- for these, and only there, it is refused, with 9 or 10 (`ToItself`). Each byte of the first file is at most 255, as in every `&[u8]`.
 pub lowers-to-itself : LowersTwice lowerF
 lowers-to-itself = lowering-twice

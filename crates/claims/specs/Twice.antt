@@ -1,4 +1,4 @@
--- Lowering twice (02, request 14): a file that lowering wrote and reading accepts is lowered to itself.
+-- Lowering twice (02, request 14): what lowering writes, where it can be read, comes out of a second lowering unchanged.
 -- Assumes nothing.
 use mathlib.Core.Path.{_≡_, sym, ap, ap₂, subst, _∙_}
 use mathlib.Core.Bool.{Bool, true, false}

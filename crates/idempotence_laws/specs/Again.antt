@@ -1,4 +1,4 @@
--- A FILE THAT LOWERING WROTE AND READING ACCEPTS is left as it is by a second lowering.
+-- WHAT LOWERING WRITES, where it can be read, is left as it is by a second lowering.
 -- Assumes nothing.
 use mathlib.Core.Path.{_≡_, sym, ap, subst, _∙_}
 use mathlib.Core.List.{List}

@@ -1,1 +1,1 @@
-// Theorems, no code: a file that lowering wrote is lowered to itself.
+// Theorems, no code: what lowering writes is lowered to itself.
