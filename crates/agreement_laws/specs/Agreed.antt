@@ -150,21 +150,17 @@ read-agrees b f e =
     let just-read = settled [] none (f .tree) (storeOf f) .0 in
     offers-agree (f .scopes) (f .tree) (read-offers b f e) (subst Rooted just-read (accepted-program b f 0 e))
 
+import-rooted : (y : ℕ) (tree : Forest) → Rooted tree → Rooted (withImport y tree)
+unfolding withImport
+import-rooted y tree (items, r) = (_, ap (withImport y) r)
+
 module _ (b : List ℕ) (f : File) (k : ℕ) (e : readFile b ≡ accepted f) where
   spot-offers : AgreeAt (visits k (start f))
   unfolding start storeOf plug _&_
   spot-offers =
       visits-agree k (start f) (pending-start f (accepted-fit b f e)) (at-settled none (f .tree) [] (storeOf f) (read-offers b f e))
 
-  -- after any number of visits of an accepted file's walk,
-  pub visits-scopes-agree : let s = visits k (start f) in ScopesAgree (storeAt s .scopes) (treeAt s)
-  visits-scopes-agree = offers-agree _ _ spot-offers (accepted-program b f k e)
-
-  import-rooted : (y : ℕ) (tree : Forest) → Rooted tree → Rooted (withImport y tree)
-  unfolding withImport
-  import-rooted y tree (items, r) = (_, ap (withImport y) r)
-
-  -- and with the import line, once it is put.
+  -- and wherever calls for visits lead: after any number of visits, and with the import line, once it is put.
   pub calls-scopes-agree : let s = completed (visits k (start f)) in ScopesAgree (storeAt s .scopes) (treeAt s)
   calls-scopes-agree =
       let s = visits k (start f) in

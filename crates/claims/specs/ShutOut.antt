@@ -956,9 +956,9 @@ whole-lent = refl
 whole-enough : Enough (lentIn (zeros 126) (zeros 10) (zeros 18)) (fieldFigures wholeLowered)
 whole-enough = rw (whole-lent, whole-own) (omega arith, omega arith, omega arith)
 
-whole-length-is : length wholeLowered ≡ 215
+lowered-length : length wholeLowered ≡ 215
 unfolding computing
-whole-length-is = refl
+lowered-length = refl
 
 whole-front : take 215 (writtenOver wholeLowered (zeros 215)) ≡ wholeLowered
 unfolding computing
@@ -975,7 +975,7 @@ whole-second : (l : Lowering) → l whole (lend 18 5 3) 215 ≡ accepted wholeWr
 whole-second l e twice =
     second-answer l whole (zeros 126) (zeros 10) (zeros 18) (zeros 215) wholeWritten (fileOf (readFile wholeLowered)) twice whole-small
     (ap (λ (lent : Lent). l whole lent 215) whole-lent ∙ e)
-    whole-front whole-read whole-enough (omega (arith, whole-length-is))
+    whole-front whole-read whole-enough (omega (arith, lowered-length))
 
 -- 01's lowering wrote such a file, so the claim speaks of some: the whole case, lowered, is lowered to itself
 whole-first : lower whole (lend 18 5 3) 215 ≡ accepted wholeWritten

@@ -149,22 +149,22 @@ lowering-twice b r s y o file g bytes wrote again =
 
 -- ---- with the memory of the first
 
--- the file has no more fields than rows were lent, and no more bytes than the output
-abbrev Fits : List ℕ → List ℕ → List ℕ → List ℕ → List ℕ → Type 0
-Fits r s y o file = Enough (lentIn r s y) (fieldFigures file) × (length file ≤ length o)
+-- rows and output are enough for the file: it has no more fields and no more bytes
+abbrev Suffices : List ℕ → List ℕ → List ℕ → List ℕ → List ℕ → Type 0
+Suffices r s y o file = Enough (lentIn r s y) (fieldFigures file) × (length file ≤ length o)
 
-first-fits : (b r s y o : List ℕ) (f : File) → Bytes b → admit b (lentIn r s y) ≡ accepted f → finalFigures f .bytes ≤ length o
-    → Fits r s y o (written (fileAt (finalSpot f)))
+first-suffices : (b r s y o : List ℕ) (f : File) → Bytes b → admit b (lentIn r s y) ≡ accepted f → finalFigures f .bytes ≤ length o
+    → Suffices r s y o (written (fileAt (finalSpot f)))
 unfolding fieldFigures
-first-fits b r s y o f bytes e long =
+first-suffices b r s y o f bytes e long =
     let shown = file-shows b r s y f e bytes in
     let lent = admitted b r s y f e in
     ((omega (arith, shown, lent), omega (arith, shown, lent), omega (arith, shown, lent)), omega (arith, final-length b r s y f bytes e))
 
-wrote-fits : (b r s y o file : List ℕ) → Bytes b → Wrote lowerF b r s y o file → Fits r s y o file
-wrote-fits b r s y o file bytes wrote =
+wrote-suffices : (b r s y o file : List ℕ) → Bytes b → Wrote lowerF b r s y o file → Suffices r s y o file
+wrote-suffices b r s y o file bytes wrote =
     ⊎-elim
-    (λ (f, e, long, w). subst (Fits r s y o) (sym (wrote-file b r s y o file f bytes e w wrote)) (first-fits b r s y o f bytes e long))
+    (λ (f, e, long, w). subst (Suffices r s y o) (sym (wrote-file b r s y o file f bytes e w wrote)) (first-suffices b r s y o f bytes e long))
     (λ (c, p, e). absurd (never-wrote b r s y o file c p e wrote))
     (lower-total b (lentIn r s y) (length o))
 
@@ -175,7 +175,7 @@ pub lowering-again : (b r s y o file : List ℕ) (g : File) → Bytes b → Wrot
     ≡ finished (WrittenIn (shownFigures (fieldFigures file))) (zerosFor r′) (zerosFor s′) (zerosFor y′) (writtenOver file o′)
 unfolding lentIn
 lowering-again b r s y o file g bytes wrote again r′ s′ y′ o′ lr ls ly lo =
-    let fits = wrote-fits b r s y o file bytes wrote in
+    let enough = wrote-suffices b r s y o file bytes wrote in
     lowering-twice b r s y o file g bytes wrote again .same r′ s′ y′ o′
-    (omega (arith, fits .0), omega (arith, fits .0), omega (arith, fits .0))
-    (omega (arith, fits .1))
+    (omega (arith, enough .0), omega (arith, enough .0), omega (arith, enough .0))
+    (omega (arith, enough .1))
