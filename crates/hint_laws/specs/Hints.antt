@@ -10,6 +10,7 @@ use Rattle.meaning.specs.Numbers.Tag
 use Rattle.meaning.specs.Tree.{if_then_else_, oneOf, Head, Forest, none, more, one, count, row}
 use Rattle.meaning.specs.File.{recordNumbers}
 use Rattle.meaning.specs.Grammar.{expressions}
+use Rattle.meaning.specs.Renumbering.{withScope}
 use Rattle.meaning.specs.Hint.{hintOf, letterOf}
 use Rattle.meaning.specs.Statements.{isUsing}
 use Rattle.meaning.specs.ForOf.{bindsIdentifier}
@@ -44,11 +45,11 @@ abbrev pub isExpression : ℕ → Bool
 isExpression t = oneOf expressions t
 
 -- The expressions as they are written, record by record: an initializer is told by all that stands in it down to the bodies of functions
--- and to static blocks, which lowering may rewrite.
+-- and to static blocks, which lowering may rewrite, but for the numbers of scopes, which writing gives anew (02, request 9).
 unfoldable pub shown : Forest → List ℕ
 shown none = []
 shown (more h k r) =
-    (if isExpression (h .tag) then h .tag ∷ (recordNumbers (row h (count k)) ++ shown k) else []) ++ shown r
+    (if isExpression (h .tag) then h .tag ∷ (recordNumbers (row (withScope h 0) (count k)) ++ shown k) else []) ++ shown r
 
 -- A ForOf's using has no initializer in the source; lowering gives it a Read of a symbol that it makes, so its row is behind the rows read.
 unfoldable pub asInSource : ℕ → List ℕ → List ℕ

@@ -16,6 +16,7 @@ use Rattle.import_line.specs.Import.{completeIn}
 use Rattle.start.specs.Flat.{fillF}
 use Rattle.walk.specs.Visit.{visitF}
 use Rattle.walk.specs.Over.{isOverIn}
+use Rattle.renumbering.specs.Numbers.{numberedF}
 use Rattle.writing.specs.Writing.{fileBytes}
 use Rattle.lowering.specs.Lower.{Finished, finished, zerosFor}
 use Rattle.lowering.specs.declared.Lowered.the-variants.{Written, Refused}
@@ -34,9 +35,13 @@ unfoldable pub countVisitedF : Tables → Tables
 countVisitedF q =
     tables (q .records) (q .scopes) (onCounts (addRowsF (q .records) 0 (q .walk .visited .0)) (q .symbols)) (q .walk)
 
+-- the bytes that tables say, their scopes numbered in the order in which the records name them
+unfoldable pub bytesIn : Tables → List ℕ
+bytesIn q = fileBytes (q .records) (numberedF (q .records) (q .walk .visited .0) (q .scopes)) (q .symbols) (q .walk)
+
 -- the file in the tables, with the import line if it is due and the counts, at the front of the output
 unfoldable pub finishF : Tables → List ℕ → List ℕ
-finishF q o = let c = countVisitedF (completeIn q) in sets o 0 (fileBytes (c .records) (c .scopes) (c .symbols) (c .walk))
+finishF q o = sets o 0 (bytesIn (countVisitedF (completeIn q)))
 
 -- by the answer of admission: the tables filled, visited, written and cleared
 unfoldable pub lowerBy : Surveyed → List ℕ → List ℕ → List ℕ → List ℕ → List ℕ → Finished

@@ -3,7 +3,7 @@
 use mathlib.Core.Path.{_≡_, refl, sym, ap, _∙_}
 use mathlib.Core.Bool.{Bool, true, false}
 use mathlib.Core.List.{List, []}
-use Prim.Native.Nat.{ℕ, _*_, _-_, _≤_, min}
+use Prim.Native.Nat.{ℕ, _+_, _*_, _-_, _/_, _≤_, min}
 use native.Mathlib.Omega.{arith}
 use lib.Dec.{leb}
 use lib.ListN.{length, replicate, length-replicate}
@@ -14,8 +14,10 @@ use Rattle.meaning.specs.Mentions.{mentions}
 use Rattle.meaning.specs.File.{File, written}
 use Rattle.meaning.specs.Reading.{Outcome, accepted, refused, _>>=_, _>>_, ensure, readFile}
 use Rattle.meaning.specs.Walk.{Spot, at, leaving, over, isOver, treeAt, storeAt, fileAt}
-use Rattle.meaning.specs.Charges.{Figures, figuresAt, finalFigures}
-use Rattle.meaning.specs.Lowering.{Lent, checkOutput, admit, admitOutput, lastSpot, finalSpot, Written, lower}
+use Rattle.meaning.specs.Charges.{Figures, finalFigures}
+use Rattle.meaning.specs.Lowering.{Lent, checkOutput, admit, admitOutput, lastSpot, finalSpot, loweredFile, Written, lower}
+use Rattle.meaning.specs.Agreement.{ScopesAgree}
+use Rattle.meaning.specs.Renumbering.{renumbered}
 use Rattle.spec_laws.specs.Tags.{clash}
 use Rattle.charge_laws.specs.Totals.Fits.{accepted-fits}
 use Rattle.spec_laws.specs.Trees.{Bytes}
@@ -24,6 +26,7 @@ use Rattle.figures.specs.Figures.{shownFigures}
 use Rattle.checking.specs.declared.Surveyed.{Surveyed}
 use Rattle.checking.specs.declared.Surveyed.the-variants.{Fine, Refused as RefusedSurvey}
 use Rattle.checking.specs.Survey.{layoutOf, surveyedOf}
+use Rattle.tables.specs.Columns.ScopeTable
 use Rattle.tables.specs.Table.{countsAt}
 use Rattle.mentions.specs.Counters.{addRecordF, addRowsF}
 use Rattle.mentions.specs.Sums.{headsOf, countsFrom, from-at, counts-length, counted-tree}
@@ -34,6 +37,7 @@ use Rattle.representation.specs.Counts.Held.{visited-rows}
 use Rattle.start.specs.Start.{lentIn}
 use Rattle.start.specs.Flat.{fillF}
 use Rattle.start.specs.Filled.{admitted, fill-law}
+use Rattle.scoping_laws.specs.Created.Held.{freeScopes}
 use Rattle.simulation.specs.Visits.{heldIn, at-spot}
 use Rattle.simulation.specs.Calls.{complete-holds}
 use Rattle.simulation.specs.Counted.{Placed, withIn, countedIn, on-counts, count-shown}
@@ -42,33 +46,33 @@ use Rattle.writing.specs.Stored.{sets-front}
 use Rattle.bound_laws.specs.Last.{last-spot, last-over, final-over, final-figures}
 use Rattle.charge_laws.specs.Fit.Import.{some-records}
 use Rattle.path.specs.Path.{Tables, tables}
-use Rattle.writing.specs.Writing.{fileBytes}
 use Rattle.import_line.specs.Import.{completeIn}
 use Rattle.readback_laws.specs.ReadBack.{Tagged}
 use Rattle.readback_laws.specs.Accepted.{calls-tagged}
-use Rattle.readback_laws.specs.Length.{tagged-length}
+use Rattle.renumbering_laws.specs.Final.{final-agrees, lowered-length}
 use Rattle.lowering.specs.Lower.{finished, zerosFor, writtenOver, lowerOf, lowerF}
 use Rattle.walk.specs.Over.{until-over}
-use Rattle.lowering.specs.Flat.{admitBy, runF, countVisitedF, finishF, lowerBy}
+use Rattle.lowering.specs.Flat.{admitBy, runF, countVisitedF, bytesIn, finishF, lowerBy}
 use Rattle.lowering.specs.Bytes.{held-bytes}
 use Rattle.lowering.specs.declared.Lowered.the-variants.{Written as WrittenIn}
 
 -- ---- the bytes at the end
 
--- the tables at the end of a walk, with the counts of its tree
-over-bytes : (x : Figures) (z : Rest) (n : ℕ) (s : Spot) → isOver s ≡ true → Tagged (treeAt s) → Placed x z n → length (storeAt s .symbols) ≤ x .symbols
-    → length (storeAt s .symbols) ≤ n
-    → let q = countedIn x z n s in
-    fileBytes (q .records) (q .scopes) (q .symbols) (q .walk) ≡ written (fileAt s)
-unfolding isOver treeAt storeAt
-over-bytes x z n (over tree st) o t placed most few =
+-- the tables at the end of a walk, with the counts of its tree and zeros behind as many scope rows as it takes
+over-bytes : (x : Figures) (z : Rest) (n m : ℕ) (s : Spot) → isOver s ≡ true → Tagged (treeAt s) → ScopesAgree (storeAt s .scopes) (treeAt s)
+    → Placed x z n → length (storeAt s .symbols) ≤ x .symbols → length (storeAt s .symbols) ≤ n
+    → length (storeAt s .scopes) ≡ x .scopes → z .scopes ≡ replicate m 0 → x .scopes ≤ (ScopeTable.Numbers * x .scopes + m) / ScopeTable.Lent
+    → bytesIn (countedIn x z n s) ≡ written (renumbered (fileAt s))
+unfolding isOver treeAt storeAt bytesIn freeScopes
+over-bytes x z n m (over tree st) o t a placed most few all zeros room =
     let s = over tree st in
     let counts = countsFrom (λ y. mentions y tree) n 1 in
-    held-bytes tree st _ _ t
+    let none-free : x .scopes - length (st .scopes) ≡ 0 = omega (arith, all) in
+    held-bytes tree st _ _ m t a (rw none-free zeros) (rw (← all) at room)
     (λ k l.
     count-shown x z n s placed most counts (counts-length (λ y. mentions y tree) n 1) k ∙ from-at (λ y. mentions y tree) n 1 k (omega arith))
-over-bytes x z n (at d h k r p st) o t placed most few = absurd (clash refl o)
-over-bytes x z n (leaving k h d r p st) o t placed most few = absurd (clash refl o)
+over-bytes x z n m (at d h k r p st) o t a placed most few all zeros room = absurd (clash refl o)
+over-bytes x z n m (leaving k h d r p st) o t a placed most few all zeros room = absurd (clash refl o)
 
 -- all rows are the tree's
 over-rows : (s : Spot) (g : ℕ) (z : Rest) (n : ℕ) → isOver s ≡ true → ((y : ℕ) → 1 ≤ y → mentions y (treeAt s) ≤ 65535)
@@ -93,16 +97,9 @@ module _ (b r s y : List ℕ) (f : File) (bytes : Bytes b) (e : admit b (lentIn 
   read : readFile b ≡ accepted f
   read = admitted b r s y f e .0
 
-  pub final-tagged : Tagged (treeAt (finalSpot f))
+  final-tagged : Tagged (treeAt (finalSpot f))
   unfolding finalSpot
   final-tagged = rw (last-spot f) (calls-tagged b f n bytes read)
-
-  -- THE LENGTH of the file written is the figure.
-  pub final-length : length (written (fileAt (finalSpot f))) ≡ x .bytes
-  unfolding figuresAt fileAt
-  final-length =
-      tagged-length (fileAt (finalSpot f)) final-tagged
-      ∙ omega (arith, ap (λ (v : Figures). v .bytes) (final-figures b f read))
 
   small : min (x .records) 65535 ≡ x .records
   small = omega (arith, accepted-fits b f read)
@@ -154,20 +151,32 @@ module _ (b r s y : List ℕ) (f : File) (bytes : Bytes b) (e : admit b (lentIn 
       (on-counts x z n (addRowsF (q .records) 0 (q .walk .visited .0)) zeros spot (placed b r s y f e) most (length-replicate n 0)
       ∙ ap (λ (c : List ℕ). withIn x z n c spot .symbols) (over-rows spot _ z n (final-over b f read) final-mentions))
 
+  -- ---- the scope rows
+
+  all-scopes : length (storeAt (finalSpot f) .scopes) ≡ x .scopes
+  all-scopes = omega (arith, at-spot (finalSpot f), ap (λ (v : Figures). v .scopes) (final-figures b f read))
+
+  scopes-lent : x .scopes ≤ (ScopeTable.Numbers * x .scopes + (length s - ScopeTable.Numbers * x .scopes)) / ScopeTable.Lent
+  unfolding lentIn
+  scopes-lent =
+      let fits = admitted b r s y f e .2 in
+      let whole : ScopeTable.Numbers * x .scopes + (length s - ScopeTable.Numbers * x .scopes) ≡ length s = omega arith in
+      rw whole fits
+
   -- the file at the front of the output
   finish-is : (o : List ℕ) → x .bytes ≤ length o
       → finishF (runF (2 * min (x .records) 65535) (fillF b (layoutOf f) (min (x .records) 65535) r s y)) o
-      ≡ writtenOver (written (fileAt (finalSpot f))) o
-  unfolding finishF
+      ≡ writtenOver (written (loweredFile f)) o
+  unfolding finishF loweredFile fileAt
   finish-is o fits =
-      let file : Tables → List ℕ = λ q. fileBytes (q .records) (q .scopes) (q .symbols) (q .walk) in
       rw small
-      (ap (λ (q : Tables). sets o 0 (file (countVisitedF (completeIn q)))) walked
-      ∙ ap (λ (q : Tables). sets o 0 (file (countVisitedF q))) completed-tables
-      ∙ ap (λ (q : Tables). sets o 0 (file q)) counted-tables
+      (ap (λ (q : Tables). sets o 0 (bytesIn (countVisitedF (completeIn q)))) walked
+      ∙ ap (λ (q : Tables). sets o 0 (bytesIn (countVisitedF q))) completed-tables
+      ∙ ap (λ (q : Tables). sets o 0 (bytesIn q)) counted-tables
       ∙ ap (sets o 0)
-      (over-bytes x (zerosBefore f r s y) (length y - countsAt y) (finalSpot f) (final-over b f read) final-tagged (placed b r s y f e) (omega (arith, all-symbols)) few)
-      ∙ sets-front (written (fileAt (finalSpot f))) o (omega (arith, final-length)))
+      (over-bytes x (zerosBefore f r s y) (length y - countsAt y) (length s - ScopeTable.Numbers * x .scopes) (finalSpot f) (final-over b f read)
+      final-tagged (final-agrees b f read) (placed b r s y f e) (omega (arith, all-symbols)) few all-scopes refl scopes-lent)
+      ∙ sets-front (written (loweredFile f)) o (omega (arith, lowered-length b f read bytes)))
 
 -- ---- the answer
 
@@ -192,7 +201,7 @@ admit-output-is b lent o d e = ap (λ (d : Surveyed). admitBy d o) e ∙ by-star
 module _ (b r s y o : List ℕ) (bytes : Bytes b) where
   -- what is written of a file
   abbrev ofFile : Outcome File → Outcome Written
-  ofFile a = a >>= (λ f. accepted (record { file = written (fileAt (finalSpot f)); figures = finalFigures f }))
+  ofFile a = a >>= (λ f. accepted (record { file = written (loweredFile f); figures = finalFigures f }))
 
   by-output : (f : File) (c : Bool) → leb (finalFigures f .bytes) (length o) ≡ c → admit b (lentIn r s y) ≡ accepted f
       → lowerBy (surveyedOf (ensure c 10 (length o) >> accepted f)) b r s y o ≡ lowerOf (ofFile (ensure c 10 (length o) >> accepted f)) r s y o

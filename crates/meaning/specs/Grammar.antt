@@ -292,11 +292,18 @@ headOf x =
 
 -- ---- scopes
 
+-- the tags of records whose first number is a scope, and of those whose second is
+abbrev pub scopeFirst : List ℕ
+scopeFirst = Tag.Program ∷ Tag.Block ∷ Tag.Plain ∷ Tag.For ∷ Tag.ForOf ∷ Tag.Switch ∷ Tag.Catch ∷ Tag.StaticBlock ∷ []
+
+abbrev pub scopeSecond : List ℕ
+scopeSecond = Tag.Function ∷ Tag.Class ∷ []
+
 -- the scope row that a record has, or 0
 unfoldable pub scopeOf : Head → ℕ
 scopeOf h =
-    if oneOf (Tag.Program ∷ Tag.Block ∷ Tag.Plain ∷ Tag.For ∷ Tag.ForOf ∷ Tag.Switch ∷ Tag.Catch ∷ Tag.StaticBlock ∷ []) (h .tag) then h .a
-    else if oneOf (Tag.Function ∷ Tag.Class ∷ []) (h .tag) then h .b
+    if oneOf scopeFirst (h .tag) then h .a
+    else if oneOf scopeSecond (h .tag) then h .b
     else 0
 
 -- the current scope below a record with scope s

@@ -7,6 +7,7 @@ pub mod Grammar
 pub mod Reading
 pub mod Scoping
 pub mod Agreement
+pub mod Renumbering
 pub mod Shapes
 pub mod HelperLoader
 pub mod Statements

@@ -8,6 +8,7 @@ use Rattle.meaning.specs.Numbers.Mode
 use Rattle.meaning.specs.Numbers.Refusal
 use Rattle.meaning.specs.File.{File, written}
 use Rattle.meaning.specs.Reading.{Outcome, accepted, _>>=_, _>>_, ensure, readFile}
+use Rattle.meaning.specs.Renumbering.{renumbered}
 use Rattle.meaning.specs.Walk.{Spot, start, visits, fileAt}
 use Rattle.meaning.specs.ImportLine.{completed}
 use Rattle.meaning.specs.Charges.{Figures, finalFigures}
@@ -68,6 +69,10 @@ lastSpot f = visits (2 * finalFigures f .records) (start f)
 unfoldable pub finalSpot : File → Spot
 finalSpot f = completed (lastSpot f)
 
+-- the file to write: what the last call leaves, its scopes numbered in tree order (02, request 9)
+unfoldable pub loweredFile : File → File
+loweredFile f = renumbered (fileAt (finalSpot f))
+
 -- what an accepted lowering writes and answers; `bytes` is the length
 pub record Written : Type 0 where
   pub file : List ℕ
@@ -76,4 +81,4 @@ pub record Written : Type 0 where
 unfoldable pub lower : List ℕ → Lent → ℕ → Outcome Written
 lower bytes lent out = do
   f ← admitOutput bytes lent out
-  accepted (record { file = written (fileAt (finalSpot f)); figures = finalFigures f })
+  accepted (record { file = written (loweredFile f); figures = finalFigures f })

@@ -24,6 +24,7 @@ use Rattle.bound_laws.specs.Numbers.{TreeWithin}
 use Rattle.bound_laws.specs.Completed.{calls-fit}
 use Rattle.readback_laws.specs.ReadBack.{Tagged}
 use Rattle.readback_laws.specs.Decoded.{treeIn}
+use Rattle.readback_laws.specs.Mapped.{mapped}
 use Rattle.readback_laws.specs.Back.{plainHead, plain, Childless, tree-back}
 use Rattle.readback_laws.specs.Childless.{calls-childless}
 use Rattle.readback_laws.specs.Written.{file-written}
@@ -60,7 +61,7 @@ plain-head x =
     rw (twice (ltb 0 own) (x .a), twice (ltb 1 own) (x .b), twice (ltb 2 own) (x .c))
 
 plain-read : (syms : ℕ) (f : Forest) (place : ℕ → Place) (i : ℕ) → Placed syms place i f → plain f ≡ f
-unfolding plain
+unfolding mapped
 plain-read syms none place i q = refl
 plain-read syms (more h k r) place i q =
     let e : plainHead h ≡ h = ap plainHead (q .1 .head) ∙ plain-head (q .0) ∙ sym (q .1 .head) in

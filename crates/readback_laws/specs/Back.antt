@@ -9,11 +9,13 @@ use lib.ListN.{length, take, getD, length-append}
 use lib.Dec.{eqb, leb, ltb}
 use borrow.Author.Tests.{eqb-true, leb-true, lt-ltb}
 use Rattle.meaning.specs.Numbers.Tag
-use Rattle.meaning.specs.Tree.{if_then_else_, Head, hd, Forest, none, more, count, size, Row, row, flatten}
+use Rattle.meaning.specs.Tree.{if_then_else_, oneOf, Head, hd, Forest, none, more, count, size, Row, row, flatten}
 use Rattle.meaning.specs.Mentions.{mentions}
 use Rattle.meaning.specs.File.{Scope, Symbol, File, numbersOf, hasChildren, ownNumbers, recordNumbers, written}
+use Rattle.meaning.specs.Grammar.{scopeFirst, scopeSecond}
+use Rattle.meaning.specs.Renumbering.{withScope}
 use Rattle.spec_laws.specs.Tags.{and-left}
-use Rattle.hint_laws.specs.Hints.{sumOver, namesOf, ofInitializer, overDeclarators, isExpression, shown, ofSource, called, callsIn, given}
+use Rattle.hint_laws.specs.Hints.{ofSource, given}
 use Rattle.readback_laws.specs.ReadBack.{
   Read,
   readAs,
@@ -27,8 +29,8 @@ use Rattle.readback_laws.specs.ReadBack.{
   Tagged,
 }
 use Rattle.readback_laws.specs.Length.{complete, record-complete}
+use Rattle.readback_laws.specs.Mapped.{mapped, mapped-count, KeepsHints, mapped-gives}
 use Rattle.readback_laws.specs.Decoded.{rowOf, recordsOf, treesFrom, treeOf, treeIn}
-use Rattle.spec_laws.specs.Bools.{if-same}
 
 -- a record's head as it is written: numbers that are not its own are 0
 unfoldable pub plainHead : Head → Head
@@ -37,19 +39,13 @@ plainHead h =
     hd (h .tag) (if ltb 0 own then h .a else 0) (if ltb 1 own then h .b else 0) (if ltb 2 own then h .c else 0)
 
 -- every head of the forest
-unfoldable pub plain : Forest → Forest
-plain none = none
-plain (more h k r) = more (plainHead h) (plain k) (plain r)
+abbrev pub plain : Forest → Forest
+plain f = mapped plainHead f
 
 -- a record whose n is not written has no children
 abbrev pub Childless : Forest → Type 0
 Childless none = Unit {0}
 Childless (more h k r) = (hasChildren (h .tag) ≡ false → k ≡ none) × Childless k × Childless r
-
-plain-count : (f : Forest) → count (plain f) ≡ count f
-unfolding plain count
-plain-count none = refl
-plain-count (more h k r) = ap suc (plain-count r)
 
 -- ---- a record read back
 
@@ -86,15 +82,15 @@ row-back h n e =
 
 -- with no children n is 0, written or not
 children-back : (c : Bool) (k : Forest) → (c ≡ false → k ≡ none) → (if c then count k else 0) ≡ count (plain k)
-unfolding count plain
-children-back true k e = sym (plain-count k)
+unfolding count mapped
+children-back true k e = sym (mapped-count plainHead k)
 children-back false k e = ap (λ (f : Forest). count (plain f)) (sym (e refl))
 
 -- ---- the records of the fields
 
 records-back : (f : Forest) (rest : List Row) → Tagged f → Childless f
     → recordsOf (recordReads (flatten f ++ rest)) ≡ flatten (plain f) ++ recordsOf (recordReads rest)
-unfolding recordsOf recordReads flatten plain
+unfolding recordsOf recordReads flatten mapped
 records-back none rest q c = refl
 records-back (more h k r) rest q c =
     rw (q .0, row-back h (count k) (q .0), children-back (hasChildren (h .tag)) k (c .0), append-assoc (flatten k) (flatten r) rest, append-assoc)
@@ -177,13 +173,6 @@ keeps-b : (h : Head) (t : ℕ) → ltb 1 (ownNumbers t) ≡ true → eqb (h .tag
 unfolding plainHead
 keeps-b h t o e = rw (eqb-true (h .tag) t e, o)
 
-names-kept : (m : ℕ) (k : Forest) → namesOf m (plain k) ≡ namesOf m k
-unfolding namesOf plain plainHead ownNumbers hasChildren numbersOf
-names-kept zero k = refl
-names-kept (suc m) none = refl
-names-kept (suc m) (more h k r) =
-    ap₂ _∷_ (if-same (eqb (h .tag) Tag.Name) (plainHead h .a) (h .a) (keeps-a h 26 refl)) (names-kept m r)
-
 -- what is written of a record is what was written of it
 numbers-kept : (own x y z : ℕ)
     → take own ((if ltb 0 own then x else 0) ∷ (if ltb 1 own then y else 0) ∷ (if ltb 2 own then z else 0) ∷ [])
@@ -201,54 +190,45 @@ record-written h n =
     let t = h .tag in
     ap (λ (ns : List ℕ). ns ++ (if hasChildren t then n ∷ [] else [])) (numbers-kept (ownNumbers t) (h .a) (h .b) (h .c))
 
-shown-kept : (f : Forest) → shown (plain f) ≡ shown f
-unfolding shown plain plainHead
-shown-kept none = refl
-shown-kept (more h k r) =
-    let h′ = plainHead h in
-    let same : h .tag ∷ (recordNumbers (row h′ (count (plain k))) ++ shown (plain k)) ≡ h .tag ∷ (recordNumbers (row h (count k)) ++ shown k) =
-    ap (λ (ns : List ℕ). h .tag ∷ ns)
-    (ap₂ _++_ (record-written h (count (plain k)) ∙ ap (λ (n : ℕ). recordNumbers (row h n)) (plain-count k)) (shown-kept k)) in
-    ap₂ _++_ (ap (λ (ns : List ℕ). if isExpression (h .tag) then ns else []) same) (shown-kept r)
+-- with 0 for the scope
+zero-kept : (b : Bool) → _≡_ {A = ℕ} (if b then 0 else 0) 0
+zero-kept true = refl
+zero-kept false = refl
 
-module _ (w : List ℕ → List ℕ → ℕ → ℕ) (read : ℕ) where
-  called-kept : (names : List ℕ) (h : Head) (k : Forest) → called w read names (plainHead h) (plain k) ≡ called w read names h k
-  unfolding called plainHead ownNumbers hasChildren numbersOf
-  called-kept names h k = go (eqb (h .tag) Tag.Call) refl
-    where
-      go : (b : Bool) → eqb (h .tag) Tag.Call ≡ b → called w read names (plainHead h) (plain k) ≡ called w read names h k
-      go true e = rw (keeps-a h 27 refl e, keeps-b h 27 refl e, shown-kept k)
-      go false e = rw e
+unscoped-plain : (h : Head) → withScope (plainHead h) 0 ≡ plainHead (withScope h 0)
+unfolding withScope plainHead
+unscoped-plain h = go (oneOf scopeFirst (h .tag)) (oneOf scopeSecond (h .tag))
+  where
+    own : ℕ
+    own = ownNumbers (h .tag)
 
-  initializer-kept : (names : List ℕ) (m : ℕ) (k : Forest)
-      → ofInitializer (called w read names) m (plain k) ≡ ofInitializer (called w read names) m k
-  unfolding ofInitializer plain
-  initializer-kept names m none = refl
-  initializer-kept names zero (more h k r) = called-kept names h k
-  initializer-kept names (suc m) (more h k r) = initializer-kept names m r
+    p : Head
+    p = plainHead h
 
-  declarators-kept : (f : Forest) → overDeclarators (called w read) (plain f) ≡ overDeclarators (called w read) f
-  unfolding overDeclarators plain plainHead ownNumbers hasChildren numbersOf
-  declarators-kept none = refl
-  declarators-kept (more h k r) =
-      ap₂ _+_
-      (if-same (eqb (h .tag) Tag.Declarator) _ _
-      (λ e. rw (keeps-b h 6 refl e, names-kept (h .b) k) (initializer-kept (namesOf (h .b) k) (h .b) k)))
-      (declarators-kept r)
+    go : (x y : Bool)
+        → (if x then hd (h .tag) 0 (p .b) (p .c) else if y then hd (h .tag) (p .a) 0 (p .c) else p)
+        ≡ plainHead (if x then hd (h .tag) 0 (h .b) (h .c) else if y then hd (h .tag) (h .a) 0 (h .c) else h)
+    go true y = ap (λ (a : ℕ). hd (h .tag) a (p .b) (p .c)) (sym (zero-kept (ltb 0 own)))
+    go false true = ap (λ (b : ℕ). hd (h .tag) (p .a) b (p .c)) (sym (zero-kept (ltb 1 own)))
+    go false false = refl
 
-  calls-kept : (f : Forest) → callsIn w read (plain f) ≡ callsIn w read f
-  unfolding callsIn plain plainHead
-  calls-kept none = refl
-  calls-kept (more h k r) =
-      ap₂ _+_ (if-same (eqb (h .tag) Tag.Declaration) _ _ (λ e. declarators-kept k)) (calls-kept r)
+unscoped-written : (h : Head) (n : ℕ) → recordNumbers (row (withScope (plainHead h) 0) n) ≡ recordNumbers (row (withScope h 0) n)
+unscoped-written h n = ap (λ (x : Head). recordNumbers (row x n)) (unscoped-plain h) ∙ record-written (withScope h 0) n
 
-  plain-gives : (f : Forest) → sumOver (λ h k. callsIn w read k) (plain f) ≡ sumOver (λ h k. callsIn w read k) f
-  unfolding sumOver plain
-  plain-gives none = refl
-  plain-gives (more h k r) = ap₂ _+_ (calls-kept k) (ap₂ _+_ (plain-gives k) (plain-gives r))
+keeps-hints : KeepsHints plainHead
+unfolding plainHead ownNumbers hasChildren numbersOf
+keeps-hints =
+    record {
+      tag = λ h. refl;
+      symbol = λ h e. keeps-a h Tag.Name refl e;
+      names = λ h e. keeps-b h Tag.Declarator refl e;
+      letter = λ h e. keeps-a h Tag.Call refl e;
+      context = λ h e. keeps-b h Tag.Call refl e;
+      written = unscoped-written;
+    }
 
 -- The tree read off the written bytes gives the hints of the tree: what is not written changes none.
 pub hints-back : (w : List ℕ → List ℕ → ℕ → ℕ) (read : ℕ) (g : File) → Tagged (g .tree) → Childless (g .tree)
     → given w read (treeIn (written g)) ≡ given w read (g .tree)
 unfolding given
-hints-back w read g q c = ap (given w read) (tree-back g q c) ∙ plain-gives (ofSource read w) read (g .tree)
+hints-back w read g q c = ap (given w read) (tree-back g q c) ∙ mapped-gives plainHead keeps-hints (ofSource read w) read (g .tree)

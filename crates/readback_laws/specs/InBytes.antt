@@ -1,4 +1,4 @@
--- What the walk of an accepted file leaves is written in bytes: no number of it is above 65,535.
+-- A file with no number above 65,535 is written in bytes, and so is what the walk of an accepted file leaves.
 -- Assumes nothing.
 use mathlib.Core.Path.{_≡_}
 use mathlib.Core.Bool.{Bool, true, false}
@@ -123,6 +123,28 @@ records-bytes (r ∷ rs) p q =
 
 -- ---- the file
 
+-- no number of it is above 65,535
+pub record Small (g : File) : Type 0 where
+  pub settings : (g .mode ≤ 65535) × (g .isModule ≤ 65535)
+  pub scope-rows : All (ScopeWithin 65535) (g .scopes)
+  pub symbol-rows : All (SymbolWithin 65535) (g .symbols)
+  pub counts : (y : ℕ) → 1 ≤ y → mentions y (g .tree) ≤ 65535
+  pub heads : TreeWithin 65535 (g .tree)
+  pub records : size (g .tree) ≤ 65535
+
+-- SUCH A FILE IS WRITTEN IN BYTES.
+pub small-bytes : (g : File) → Small g → Bytes (written g)
+unfolding written
+small-bytes g q =
+    let count : ℕ → ℕ = λ y. mentions y (g .tree) in
+    let settings = field-bytes Tag.Settings (g .mode ∷ g .isModule ∷ []) (omega arith) (omega arith) (q .settings .0, (q .settings .1, tt)) in
+    let ss = scopes-bytes (g .scopes) (q .scope-rows) in
+    let ys = symbols-bytes count 1 (g .symbols) (omega arith) (q .counts) (q .symbol-rows) in
+    let rs = records-bytes (flatten (g .tree)) (heads-within (g .tree) (q .heads)) (rows-most-n 65535 (g .tree) (q .records)) in
+    to-bytes (written g)
+    (all-++ (UpTo 255) (field Tag.Settings (g .mode ∷ g .isModule ∷ [])) _ settings
+    (all-++ (UpTo 255) (scopeFields (g .scopes)) _ ss (all-++ (UpTo 255) (symbolFields count 1 (g .symbols)) _ ys rs)))
+
 module _ (b : List ℕ) (f : File) (k : ℕ) (bytes : Bytes b) (e : readFile b ≡ accepted f) where
   abbrev spot : Spot
   spot = completed (visits k (start f))
@@ -137,20 +159,17 @@ module _ (b : List ℕ) (f : File) (k : ℕ) (bytes : Bytes b) (e : readFile b �
   few-records : size (treeAt spot) ≤ 65535
   few-records = omega (arith, whole-at spot, calls-above b f e k, accepted-fits b f e)
 
-  -- WHEREVER CALLS FOR VISITS LEAD, the file as it stands is written in bytes.
-  pub calls-bytes : Bytes (written (fileAt spot))
-  unfolding written fileAt
-  calls-bytes =
-      let g = fileAt spot in
+  -- WHEREVER CALLS FOR VISITS LEAD, it is so.
+  pub calls-small : Small (fileAt spot)
+  unfolding fileAt
+  calls-small =
       let rows = numbers-fit b f k bytes e .1 in
       let small = settings-small in
-      let count : ℕ → ℕ = λ y. mentions y (g .tree) in
-      let settings = field-bytes Tag.Settings (g .mode ∷ g .isModule ∷ []) (omega arith) (omega arith) (omega (arith, small .0), (omega (arith, small .1), tt)) in
-      let ss = scopes-bytes (g .scopes) (rw (completed-store (visits k (start f))) (rows .scopes)) in
-      let ys =
-      symbols-bytes count 1 (g .symbols) (omega arith) (λ y l. mentions-fit b f k y e l)
-      (rw (completed-store (visits k (start f))) (rows .symbols)) in
-      let rs = records-bytes (flatten (g .tree)) (heads-within (g .tree) (calls-fit b f k bytes e)) (rows-most-n 65535 (g .tree) few-records) in
-      to-bytes (written g)
-      (all-++ (UpTo 255) (field Tag.Settings (g .mode ∷ g .isModule ∷ [])) _ settings
-      (all-++ (UpTo 255) (scopeFields (g .scopes)) _ ss (all-++ (UpTo 255) (symbolFields count 1 (g .symbols)) _ ys rs)))
+      record {
+        settings = (omega (arith, small .0), omega (arith, small .1));
+        scope-rows = rw (completed-store (visits k (start f))) (rows .scopes);
+        symbol-rows = rw (completed-store (visits k (start f))) (rows .symbols);
+        counts = λ y l. mentions-fit b f k y e l;
+        heads = calls-fit b f k bytes e;
+        records = few-records;
+      }

@@ -1,6 +1,7 @@
 pub mod ReadBack
 pub mod Length
 -- The tree that the bytes of a file say, and that it is the tree written.
+pub mod Mapped
 pub mod Decoded
 pub mod Back
 pub mod Taken

@@ -40,7 +40,7 @@ module _ (b r s y : List ℕ) where
   unfolding admitBy checkRows lentIn
   by-file (accepted f) =
       let g = finalFigures f in
-      by-rows (leb (g .records) (length r / 7)) (leb (g .scopes) (length s / 2)) (leb (g .symbols) (length y / 6)) f
+      by-rows (leb (g .records) (length r / 7)) (leb (g .scopes) (length s / 3)) (leb (g .symbols) (length y / 6)) f
   by-file (refused c p) = refl
 
   -- THE ANSWER of admit by the survey is 01's.

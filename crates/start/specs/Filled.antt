@@ -88,7 +88,7 @@ module _ (b : List ℕ) (f : File) (q : ParsedFile b f)
     omega (arith, q .scopes-many, q .symbols-many, q .scope-rows .next-is, q .symbol-rows .next-is),
   )
 
-  fill-is : (r s y : List ℕ) → finalFigures f .records ≤ length r / 7 → finalFigures f .scopes ≤ length s / 2
+  fill-is : (r s y : List ℕ) → finalFigures f .records ≤ length r / 7 → finalFigures f .scopes ≤ length s / 3
       → finalFigures f .symbols ≤ length y / 5
       → fillF b (layoutOf f) (min (finalFigures f .records) 65535) r s y ≡ held (start f) (freeRows f) (zerosBehind f r s y)
   unfolding fillF walkF freeRows zerosBehind start storeOf

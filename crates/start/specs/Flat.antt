@@ -117,7 +117,7 @@ fillF f l end r s y =
 unfoldable pub admitBy : Surveyed → List ℕ → List ℕ → List ℕ → Surveyed
 admitBy (Fine l g) r s y =
     if leb (g .records) (length r / RecordTable.Numbers)
-    then (if leb (g .scopes) (length s / ScopeTable.Numbers)
+    then (if leb (g .scopes) (length s / ScopeTable.Lent)
     then (if leb (g .symbols) (length y / SymbolTable.Lent) then Fine l g else RefusedSurvey Refusal.FewRows 2)
     else RefusedSurvey Refusal.FewRows 1)
     else RefusedSurvey Refusal.FewRows 0

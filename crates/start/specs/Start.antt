@@ -32,7 +32,7 @@ begun a r s y = record { answer = a; records = r; scopes = s; symbols = y }
 
 -- the rows of the tables
 unfoldable pub lentIn : List ℕ → List ℕ → List ℕ → Lent
-lentIn r s y = record { records = length r / RecordTable.Numbers; scopes = length s / ScopeTable.Numbers; symbols = length y / SymbolTable.Lent }
+lentIn r s y = record { records = length r / RecordTable.Numbers; scopes = length s / ScopeTable.Lent; symbols = length y / SymbolTable.Lent }
 
 -- the free rows among those that the lowered tree takes
 unfoldable pub freeRows : File → ℕ

@@ -207,7 +207,7 @@ pub fn admit(file: &[u8], records: &[u16], scopes: &[u16], symbols: &[u16]) -> S
     if ((records.len() / record::NUMBERS) as u64) < g.records {
         return Surveyed::Refused(refusal::FEW_ROWS, 0);
     }
-    if ((scopes.len() / scope::NUMBERS) as u64) < g.scopes {
+    if ((scopes.len() / scope::LENT) as u64) < g.scopes {
         return Surveyed::Refused(refusal::FEW_ROWS, 1);
     }
     if ((symbols.len() / symbol::LENT) as u64) < g.symbols {

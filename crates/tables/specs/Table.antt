@@ -9,6 +9,7 @@ use lib.ListN.{length, getD, set}
 use lib.Dec.{eqb}
 use Rattle.meaning.specs.Tree.{Head, hd}
 use Rattle.tables.specs.Columns.RecordTable
+use Rattle.tables.specs.Columns.ScopeTable
 use Rattle.tables.specs.Columns.SymbolTable
 use Rattle.tables.specs.Loops.{until}
 use Rattle.tables.specs.declared.Row.{Row}
@@ -87,7 +88,16 @@ skipOne t s = skipping (s .at + 1) (s .pending - 1 + columnF t (s .at) RecordTab
 unfoldable pub endF : List ℕ → ℕ → ℕ → ℕ
 endF t at c = until (largest - at) skipped (skipOne t) (skipping at c) .at
 
--- ---- the symbol table
+-- ---- behind the rows of the other tables
+
+-- where the new numbers of scopes stand: behind the rows for which the table has numbers
+unfoldable pub newNumbersAt : List ℕ → ℕ
+newNumbersAt t = length t / ScopeTable.Lent * ScopeTable.Numbers
+
+-- within the table
+pub numbers-few : (t : List ℕ) (n : ℕ) → n ≡ newNumbersAt t → n ≤ length t
+unfolding newNumbersAt
+numbers-few t n e = omega arith
 
 -- where the counts of symbols stand: behind the rows for which it has numbers
 unfoldable pub countsAt : List ℕ → ℕ

@@ -14,7 +14,7 @@ use meaning::RecordId;
 ghost use mathlib.Core.Path.{_≡_};
 ghost use Prim.Native.Nat.{_-_};
 ghost use lib.ListN.{getD, set};
-ghost use Rattle.tables.specs.Table.{capped, columnF, rowF, setColumnF, setRowF, closedRowF, moveRowF, endF, countsAt};
+ghost use Rattle.tables.specs.Table.{capped, columnF, rowF, setColumnF, setRowF, closedRowF, moveRowF, endF, newNumbersAt, countsAt};
 ghost use Rattle.tables.specs.Stream.{buf, emitF, replaceRowF, copyRowF, copyF, unreadRowF, takeBackF};
 
 // The largest number of a table, and the most rows that it can have.
@@ -231,7 +231,14 @@ pub fn end_after(records: &[u16], after: RecordId, count: u16) -> RecordId
     RecordId(at)
 }
 
-// ---- the symbol table
+// ---- behind the rows of the other tables
+
+// Where the new numbers of scopes stand: behind the rows for which the table has numbers.
+pub fn new_numbers_at(scopes: &[u16]) -> usize
+    ensures { λ r. ⌜ r ≡ newNumbersAt (now (scopes .entry)) ⌝ }
+{
+    scopes.len() / scope::LENT * scope::NUMBERS
+}
 
 // Where the counts of symbols stand: behind the rows for which the table has numbers.
 pub fn counts_at(symbols: &[u16]) -> usize

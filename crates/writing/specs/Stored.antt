@@ -1,7 +1,7 @@
 -- Bytes sets one after another, and how many bytes fields and rows take.
 -- Assumes nothing.
 use mathlib.Core.Path.{_≡_, refl, sym, ap, _∙_}
-use mathlib.Core.List.{List, [], _∷_, _++_}
+use mathlib.Core.List.{List, [], _∷_, _++_, append-assoc}
 use Prim.Native.Nat.{ℕ, zero, suc, _+_, _*_, _-_, _/_, _%_, _≤_, _<_}
 use native.Mathlib.Numerals.{add-one}
 use native.Mathlib.Omega.{arith}
@@ -13,7 +13,7 @@ use Rattle.meaning.specs.Numbers.Tag
 use Rattle.meaning.specs.Tree.{if_then_else_}
 use Rattle.meaning.specs.File.{settingsBytes, scopeBytes, symbolBytes, numbersOf, twoBytes}
 use Rattle.spec_laws.specs.Trees.{numbers-most, numbers-few, two-length, sets-++}
-use Rattle.writing.specs.Writing.{mostBytes, fieldWith, scopeField, symbolField, recordField, rowsBytes}
+use Rattle.writing.specs.Writing.{mostBytes, fieldWith, scopeField, symbolField, recordField, rowsBytes, listBytes}
 use Rattle.tables.specs.declared.Row.{Row}
 
 -- ---- one after another
@@ -111,13 +111,24 @@ unfolding rowsBytes
 rows-long f w e k zero = omega arith
 rows-long f w e k (suc n) = omega (arith, length-append (f k) (rowsBytes f (k + 1) n), e k, rows-long f w e (k + 1) n)
 
-pub scope-long : (t : List ℕ) (k : ℕ) → length (scopeField t k) ≡ scopeBytes
+pub scope-long : (t : List ℕ) (new : ℕ → ℕ) (s : ℕ) → length (scopeField t new s) ≡ scopeBytes
 unfolding scopeField numbersOf
-scope-long t k = field-long Tag.Scope _ _ 0 0 (omega arith)
+scope-long t new s = field-long Tag.Scope _ _ 0 0 (omega arith)
 
-pub symbol-long : (t : List ℕ) (k : ℕ) → length (symbolField t k) ≡ symbolBytes
+pub symbol-long : (t : List ℕ) (new : ℕ → ℕ) (k : ℕ) → length (symbolField t new k) ≡ symbolBytes
 unfolding symbolField fieldWith numbersOf twoBytes
-symbol-long t k = refl
+symbol-long t new k = refl
+
+-- rows of a list, one part behind another
+pub list-++ : (f : ℕ → List ℕ) (xs ys : List ℕ) → listBytes f (xs ++ ys) ≡ listBytes f xs ++ listBytes f ys
+unfolding listBytes
+list-++ f [] ys = refl
+list-++ f (x ∷ xs) ys = rw (list-++ f xs ys, append-assoc)
+
+pub list-long : (f : ℕ → List ℕ) (w : ℕ) → ((s : ℕ) → length (f s) ≡ w) → (ss : List ℕ) → length (listBytes f ss) ≡ w * length ss
+unfolding listBytes
+list-long f w e [] = omega arith
+list-long f w e (s ∷ ss) = omega (arith, length-append (f s) (listBytes f ss), e s, list-long f w e ss)
 
 pub rows-turn : (f : ℕ → List ℕ) (r out out′ : List ℕ) (at at′ k n : ℕ) → r ≡ sets out at (rowsBytes f k (n - k)) → k < n
     → out′ ≡ sets out at (f k) → at′ ≡ at + length (f k) → r ≡ sets out′ at′ (rowsBytes f (k + 1) (n - (k + 1)))
@@ -132,20 +143,23 @@ rows-last f r out at k n e h = let d : n - k ≡ 0 = omega arith in rw d at (sym
 
 -- ---- the file
 
-pub file-put : (s y m : ℕ) (f g h : ℕ → List ℕ) (a b : ℕ) (out : List ℕ) → ((k : ℕ) → length (f k) ≡ scopeBytes) → ((k : ℕ) → length (g k) ≡ symbolBytes)
+pub file-put : (ss : List ℕ) (y m : ℕ) (f g h : ℕ → List ℕ) (a b : ℕ) (out : List ℕ) → ((k : ℕ) → length (f k) ≡ scopeBytes)
+    → ((k : ℕ) → length (g k) ≡ symbolBytes)
     → let x = fieldWith Tag.Settings a b 0 0 in
-    sets (sets (sets (sets out 0 x) settingsBytes (rowsBytes f 0 s)) (settingsBytes + scopeBytes * s) (rowsBytes g 0 y)) (settingsBytes + scopeBytes * s + symbolBytes * y) (rowsBytes h 0 m)
-    ≡ sets out 0 (x ++ (rowsBytes f 0 s ++ (rowsBytes g 0 y ++ rowsBytes h 0 m)))
+    let first = settingsBytes + scopeBytes * length ss in
+    sets (sets (sets (sets out 0 x) settingsBytes (listBytes f ss)) first (rowsBytes g 0 y)) (first + symbolBytes * y) (rowsBytes h 0 m)
+    ≡ sets out 0 (x ++ (listBytes f ss ++ (rowsBytes g 0 y ++ rowsBytes h 0 m)))
 unfolding numbersOf
-file-put s y m f g h a b out ef eg =
+file-put ss y m f g h a b out ef eg =
     let x = fieldWith Tag.Settings a b 0 0 in
-    let ss = rowsBytes f 0 s in
+    let rows = listBytes f ss in
     let ys = rowsBytes g 0 y in
     let rs = rowsBytes h 0 m in
+    let first = settingsBytes + scopeBytes * length ss in
     let l₁ : 0 + length x ≡ 7 = omega (arith, field-long 40 a b 0 0 (omega arith)) in
-    let l₂ : settingsBytes + length ss ≡ settingsBytes + scopeBytes * s = omega (arith, rows-long f scopeBytes ef 0 s) in
-    let l₃ : settingsBytes + scopeBytes * s + length ys ≡ settingsBytes + scopeBytes * s + symbolBytes * y = omega (arith, rows-long g symbolBytes eg 0 y) in
+    let l₂ : settingsBytes + length rows ≡ first = omega (arith, list-long f scopeBytes ef ss) in
+    let l₃ : first + length ys ≡ first + symbolBytes * y = omega (arith, rows-long g symbolBytes eg 0 y) in
     sym
-    (sets-++ x (ss ++ (ys ++ rs)) out 0
-    ∙ rw l₁ (sets-++ ss (ys ++ rs) (sets out 0 x) 7
-    ∙ rw l₂ (sets-++ ys rs (sets (sets out 0 x) settingsBytes ss) (settingsBytes + scopeBytes * s) ∙ rw l₃)))
+    (sets-++ x (rows ++ (ys ++ rs)) out 0
+    ∙ rw l₁ (sets-++ rows (ys ++ rs) (sets out 0 x) 7
+    ∙ rw l₂ (sets-++ ys rs (sets (sets out 0 x) settingsBytes rows) first ∙ rw l₃)))

@@ -2,8 +2,8 @@
 -- Assumes nothing.
 use mathlib.Core.List.{List, [], _∷_, _++_}
 use mathlib.Core.Bool.{Bool}
-use Prim.Native.Nat.{ℕ, zero, suc, _+_, _*_, _%_}
-use lib.ListN.{getD, take}
+use Prim.Native.Nat.{ℕ, zero, suc, _+_, _*_, _-_, _%_}
+use lib.ListN.{getD, take, drop}
 use lib.Seq.{sets}
 use lib.Dec.{ltb}
 use Rattle.meaning.specs.Numbers.Tag
@@ -11,8 +11,9 @@ use Rattle.meaning.specs.Tree.{if_then_else_}
 use Rattle.meaning.specs.File.{numbersOf, ownNumbers, twoBytes}
 use Rattle.tables.specs.Columns.ScopeTable
 use Rattle.tables.specs.Columns.SymbolTable
-use Rattle.tables.specs.Table.{rowF, countsAt}
+use Rattle.tables.specs.Table.{rowF, newNumbersAt, countsAt}
 use Rattle.tables.specs.declared.Row.{Row}
+use Rattle.renumbering.specs.Numbers.{numberIn, namedIn, renumberedRow}
 use Rattle.path.specs.declared.Walk.{Walk}
 
 -- A record has at most so many bytes. The settings and 65,535 fields of each kind: the symbol rows begin at the first of these offsets at
@@ -33,15 +34,19 @@ mostOffset = 2500000
 unfoldable pub fieldWith : ℕ → ℕ → ℕ → ℕ → ℕ → List ℕ
 fieldWith t a b c d = t ∷ twoBytes (2 * numbersOf t ∷ take (numbersOf t) (a ∷ b ∷ c ∷ d ∷ []))
 
--- ---- rows
+-- ---- rows, with the new numbers of scopes
 
-unfoldable pub scopeField : List ℕ → ℕ → List ℕ
-scopeField t k = let at = k * ScopeTable.Numbers in fieldWith Tag.Scope (getD t at 0) (getD t (at + 1) 0) 0 0
+-- scope row s, counted from 1
+unfoldable pub scopeField : List ℕ → (ℕ → ℕ) → ℕ → List ℕ
+scopeField t new s =
+    let at = (s - 1) * ScopeTable.Numbers in
+    fieldWith Tag.Scope (new (getD t at 0)) (getD t (at + 1) 0) 0 0
 
-unfoldable pub symbolField : List ℕ → ℕ → List ℕ
-symbolField t k =
+-- symbol row k, counted from 0
+unfoldable pub symbolField : List ℕ → (ℕ → ℕ) → ℕ → List ℕ
+symbolField t new k =
     let at = k * SymbolTable.Numbers in
-    fieldWith Tag.Symbol (getD t at 0) (getD t (at + 1) 0) (getD t (at + 2) 0) (getD t (at + 3) 0)
+    fieldWith Tag.Symbol (getD t at 0) (getD t (at + 1) 0) (new (getD t (at + 2) 0)) (getD t (at + 3) 0)
     ++ twoBytes (getD t (countsAt t + k) 0 ∷ [])
 
 -- a record's own number, or n behind them
@@ -60,8 +65,13 @@ unfoldable pub rowsBytes : (ℕ → List ℕ) → ℕ → ℕ → List ℕ
 rowsBytes f k zero = []
 rowsBytes f k (suc n) = f k ++ rowsBytes f (k + 1) n
 
-abbrev pub recordAt : List ℕ → ℕ → List ℕ
-recordAt t k = recordField (rowF t k)
+-- the rows of a list
+unfoldable pub listBytes : (ℕ → List ℕ) → List ℕ → List ℕ
+listBytes f [] = []
+listBytes f (s ∷ ss) = f s ++ listBytes f ss
+
+abbrev pub recordAt : List ℕ → (ℕ → ℕ) → ℕ → List ℕ
+recordAt t new k = recordField (renumberedRow new (rowF t k))
 
 -- ---- numbers that are stored over one another
 
@@ -86,11 +96,14 @@ numbersOver h at l r o =
 
 -- ---- the file
 
--- THE FILE in the tables, of the rows visited.
+-- THE FILE in the tables, of the rows visited: the scope rows in the order in which these name them, and everywhere the new numbers of scopes,
+-- which stand behind the scope rows.
 unfoldable pub fileBytes : List ℕ → List ℕ → List ℕ → Walk → List ℕ
 fileBytes r s y w =
     let x = w .ctx in
+    let rows = w .visited .0 in
+    let new = numberIn (drop (newNumbersAt s) s) in
     fieldWith Tag.Settings (x .mode) (x .esm) 0 0
-    ++ (rowsBytes (scopeField s) 0 (x .scopes)
-    ++ (rowsBytes (symbolField y) 0 (x .symbols)
-    ++ rowsBytes (recordAt r) 0 (w .visited .0)))
+    ++ (listBytes (scopeField s new) (namedIn r 0 rows)
+    ++ (rowsBytes (symbolField y new) 0 (x .symbols)
+    ++ rowsBytes (recordAt r new) 0 rows))

@@ -12,6 +12,7 @@ use fields::SETTINGS_BYTES;
 use fields::SYMBOL_BYTES;
 use fields::TAG_BYTES;
 use meaning::RecordId;
+use meaning::ScopeId;
 use meaning::tag;
 use path::Walk;
 use tables::Row;
@@ -24,8 +25,11 @@ ghost use lib.Dec.{ltb};
 ghost use lib.ListN.{length, set};
 ghost use lib.Seq.{sets};
 ghost use Rattle.meaning.specs.Tree.{if_then_else_};
-ghost use Rattle.meaning.specs.File.{headBytes, settingsBytes, twoBytes};
-ghost use Rattle.writing.specs.Writing.{mostBytes, mostFirst, mostTree, mostOffset, fieldWith, ownOr, scopeField, symbolField, recordField, rowsBytes, recordAt, fileBytes, lesserOf, pickOf, lastOf, numbersOver};
+ghost use Rattle.meaning.specs.File.{headBytes, settingsBytes, scopeBytes, twoBytes};
+ghost use Rattle.meaning.specs.Renumbering.{scopeNamed};
+ghost use Rattle.tables.specs.Table.{rowF, headF};
+ghost use Rattle.renumbering.specs.Numbers.{numberIn, namedIn, numberedF, renumberedRow};
+ghost use Rattle.writing.specs.Writing.{mostBytes, mostFirst, mostTree, mostOffset, fieldWith, ownOr, scopeField, symbolField, recordField, rowsBytes, listBytes, recordAt, fileBytes, lesserOf, pickOf, lastOf, numbersOver};
 
 // ---- fields
 
@@ -58,49 +62,94 @@ fn put_field(out: &mut [u8], at: usize, tag: u16, a: u16, b: u16, c: u16, d: u16
 
 // ---- rows
 
-// The scope rows, behind the settings.
-fn put_scopes(out: &mut [u8], scopes: &[u16], count: u16)
-    ensures { λ _. ⌜ now (out .exit) ≡ sets (now (out .entry)) settingsBytes (rowsBytes (scopeField (now (scopes .entry))) 0 count) ⌝ }
+// Scope row s, counted from 1; 0 is taken for 1.
+fn put_scope(out: &mut [u8], to: usize, scopes: &[u16], numbers: &[u16], s: ScopeId)
+    requires { ⌜ to ≤ mostOffset ⌝ }
+    ensures { λ _. ⌜ now (out .exit) ≡ sets (now (out .entry)) to (scopeField (now (scopes .entry)) (numberIn (now (numbers .entry))) (s .0)) ⌝ }
 {
+    let at = (tables::minus(s.0, 1) as usize) * scope::NUMBERS;
+    let parent = ScopeId(tables::get(scopes, at));
+    let flags = tables::get(scopes, at + 1);
+    put_field(
+        out,
+        to,
+        tag::SCOPE,
+        renumbering::new_number(numbers, parent),
+        flags,
+        0,
+        0,
+    );
+}
+
+// The row of the scope that a record names, if it names one; the offset behind it.
+fn put_named(out: &mut [u8], to: usize, scopes: &[u16], numbers: &[u16], r: Row) -> usize
+    requires { ⌜ to ≤ mostOffset ⌝ }
+    ensures bytes { λ _. ⌜
+        now (out .exit)
+        ≡ sets (now (out .entry)) to (listBytes (scopeField (now (scopes .entry)) (numberIn (now (numbers .entry)))) (scopeNamed (headF r)))
+        ⌝ }
+    ensures next { λ e. ⌜ e ≡ to + scopeBytes * length (scopeNamed (headF r)) ⌝ }
+{
+    let s = path::scope_of(r);
+    if s.0 == 0 {
+        return to;
+    }
+    put_scope(out, to, scopes, numbers, s);
+    to + SCOPE_BYTES
+}
+
+// The scope rows, behind the settings, in the order in which the records name them; the offset behind them.
+fn put_scopes(out: &mut [u8], scopes: &[u16], numbers: &[u16], records: &[u16], count: u16) -> usize
+    ensures bytes { λ _. ⌜
+        now (out .exit)
+        ≡ sets (now (out .entry)) settingsBytes (listBytes (scopeField (now (scopes .entry)) (numberIn (now (numbers .entry)))) (namedIn (now (records .entry)) 0 count))
+        ⌝ }
+    ensures next { λ e. ⌜ e ≡ settingsBytes + scopeBytes * length (namedIn (now (records .entry)) 0 count) ⌝ }
+    ensures most { λ e. ⌜ e ≤ mostFirst ⌝ }
+{
+    let mut at = SETTINGS_BYTES;
     let mut k: u16 = 0;
     while k < count {
-        let at = (k as usize) * scope::NUMBERS;
-        put_field(
-            out,
-            SETTINGS_BYTES + SCOPE_BYTES * (k as usize),
-            tag::SCOPE,
-            tables::get(scopes, at),
-            tables::get(scopes, at + 1),
-            0,
-            0,
-        );
+        at = put_named(out, at, scopes, numbers, tables::row_after(records, RecordId(k)));
         k += 1;
     }
+    at
 }
 
 // Symbol row k, counted from 0.
-fn put_symbol(out: &mut [u8], to: usize, symbols: &[u16], k: u16)
+fn put_symbol(out: &mut [u8], to: usize, symbols: &[u16], numbers: &[u16], k: u16)
     requires { ⌜ to ≤ mostOffset ⌝ }
-    ensures { λ _. ⌜ now (out .exit) ≡ sets (now (out .entry)) to (symbolField (now (symbols .entry)) k) ⌝ }
+    ensures { λ _. ⌜ now (out .exit) ≡ sets (now (out .entry)) to (symbolField (now (symbols .entry)) (numberIn (now (numbers .entry))) k) ⌝ }
 {
     let at = (k as usize) * symbol::NUMBERS;
     let name = tables::get(symbols, at);
     let flags = tables::get(symbols, at + 1);
-    let scope = tables::get(symbols, at + 2);
+    let scope = ScopeId(tables::get(symbols, at + 2));
     let made = tables::get(symbols, at + 3);
     let count = tables::get(symbols, tables::counts_at(symbols) + (k as usize));
-    put_field(out, to, tag::SYMBOL, name, flags, scope, made);
+    put_field(
+        out,
+        to,
+        tag::SYMBOL,
+        name,
+        flags,
+        renumbering::new_number(numbers, scope),
+        made,
+    );
     fields::put_two(out, to + NUMBER_E, count);
 }
 
 // The symbol rows, from an offset on.
-fn put_symbols(out: &mut [u8], first: usize, symbols: &[u16], count: u16)
+fn put_symbols(out: &mut [u8], first: usize, symbols: &[u16], numbers: &[u16], count: u16)
     requires { ⌜ first ≤ mostFirst ⌝ }
-    ensures { λ _. ⌜ now (out .exit) ≡ sets (now (out .entry)) first (rowsBytes (symbolField (now (symbols .entry))) 0 count) ⌝ }
+    ensures { λ _. ⌜
+        now (out .exit)
+        ≡ sets (now (out .entry)) first (rowsBytes (symbolField (now (symbols .entry)) (numberIn (now (numbers .entry)))) 0 count)
+        ⌝ }
 {
     let mut k: u16 = 0;
     while k < count {
-        put_symbol(out, first + SYMBOL_BYTES * (k as usize), symbols, k);
+        put_symbol(out, first + SYMBOL_BYTES * (k as usize), symbols, numbers, k);
         k += 1;
     }
 }
@@ -138,15 +187,25 @@ fn put_record(out: &mut [u8], at: usize, r: Row) -> usize
     at + (fields::bytes_of(tag) as usize)
 }
 
+// The record in the row after k others, as it is written.
+fn row_to_write(records: &[u16], numbers: &[u16], k: u16) -> Row
+    ensures { λ r. ⌜ r ≡ renumberedRow (numberIn (now (numbers .entry))) (rowF (now (records .entry)) k) ⌝ }
+{
+    renumbering::renumbered_row(numbers, tables::row_after(records, RecordId(k)))
+}
+
 // The records from a row on, where they may not fit.
-fn put_rest(out: &mut [u8], first: usize, records: &[u16], from: u16, count: u16)
+fn put_rest(out: &mut [u8], first: usize, records: &[u16], numbers: &[u16], from: u16, count: u16)
     requires { ⌜ first ≤ mostTree + mostBytes * from ⌝ }
-    ensures { λ _. ⌜ now (out .exit) ≡ sets (now (out .entry)) first (rowsBytes (recordAt (now (records .entry))) from (count - from)) ⌝ }
+    ensures { λ _. ⌜
+        now (out .exit)
+        ≡ sets (now (out .entry)) first (rowsBytes (recordAt (now (records .entry)) (numberIn (now (numbers .entry)))) from (count - from))
+        ⌝ }
 {
     let mut at = first;
     let mut k = from;
     while k < count {
-        at = put_record(out, at, tables::row_after(records, RecordId(k)));
+        at = put_record(out, at, row_to_write(records, numbers, k));
         k += 1;
     }
 }
@@ -237,9 +296,12 @@ fn put_whole(out: &mut [u8], at: usize, r: Row) -> usize
 }
 
 // All records, the last of them where they may not fit.
-fn put_records(out: &mut [u8], tree: usize, records: &[u16], count: u16)
+fn put_records(out: &mut [u8], tree: usize, records: &[u16], numbers: &[u16], count: u16)
     requires { ⌜ tree ≤ mostTree ⌝ }
-    ensures { λ _. ⌜ now (out .exit) ≡ sets (now (out .entry)) tree (rowsBytes (recordAt (now (records .entry))) 0 count) ⌝ }
+    ensures { λ _. ⌜
+        now (out .exit)
+        ≡ sets (now (out .entry)) tree (rowsBytes (recordAt (now (records .entry)) (numberIn (now (numbers .entry)))) 0 count)
+        ⌝ }
 {
     let mut at = tree;
     let mut k: u16 = 0;
@@ -247,30 +309,45 @@ fn put_records(out: &mut [u8], tree: usize, records: &[u16], count: u16)
         if out.len() < at + MOST_RECORD_BYTES {
             break;
         }
-        at = put_whole(out, at, tables::row_after(records, RecordId(k)));
+        at = put_whole(out, at, row_to_write(records, numbers, k));
         k += 1;
     }
-    put_rest(out, at, records, k, count);
+    put_rest(out, at, records, numbers, k, count);
 }
 
 // ---- the file
 
-// Writes the settings, the scope and symbol rows and the records visited.
-pub fn write(walk: Walk, records: &[u16], scopes: &[u16], symbols: &[u16], out: &mut [u8])
+// Writes the settings, the scope and symbol rows and the records visited, with the new numbers of scopes.
+fn put_file(walk: Walk, records: &[u16], scopes: &[u16], symbols: &[u16], out: &mut [u8])
     ensures { λ _. ⌜
         now (out .exit)
         ≡ sets (now (out .entry)) 0 (fileBytes (now (records .entry)) (now (scopes .entry)) (now (symbols .entry)) walk)
         ⌝ }
 {
     let ctx = walk.ctx;
-    let first = SETTINGS_BYTES + SCOPE_BYTES * (ctx.scopes as usize);
+    let rows = walk.visited.0;
+    let at = tables::new_numbers_at(scopes);
+    let numbers = &scopes[at..];
     put_field(out, 0, tag::SETTINGS, ctx.mode, ctx.esm, 0, 0);
-    put_scopes(out, scopes, ctx.scopes);
-    put_symbols(out, first, symbols, ctx.symbols);
+    let first = put_scopes(out, scopes, numbers, records, rows);
+    put_symbols(out, first, symbols, numbers, ctx.symbols);
     put_records(
         out,
         first + SYMBOL_BYTES * (ctx.symbols as usize),
         records,
-        walk.visited.0,
+        numbers,
+        rows,
     );
+}
+
+// Numbers the scopes anew, in the column behind their rows, and writes the file.
+pub fn write(walk: Walk, records: &[u16], scopes: &mut [u16], symbols: &[u16], out: &mut [u8])
+    ensures numbers { λ _. ⌜ now (scopes .exit) ≡ numberedF (now (records .entry)) (walk .visited .0) (now (scopes .entry)) ⌝ }
+    ensures bytes { λ _. ⌜
+        now (out .exit)
+        ≡ sets (now (out .entry)) 0 (fileBytes (now (records .entry)) (numberedF (now (records .entry)) (walk .visited .0) (now (scopes .entry))) (now (symbols .entry)) walk)
+        ⌝ }
+{
+    renumbering::number_scopes(scopes, records, walk.visited.0);
+    put_file(walk, records, scopes, symbols, out);
 }

@@ -11,6 +11,7 @@ use Rattle.meaning.specs.Numbers.Tag
 use Rattle.meaning.specs.Tree.{if_then_else_, oneOf, Head, Forest, none, more, one, count, row, _&_}
 use Rattle.meaning.specs.File.{recordNumbers}
 use Rattle.meaning.specs.Grammar.{expressions}
+use Rattle.meaning.specs.Renumbering.{withScope}
 use Rattle.meaning.specs.Statements.{isUsing}
 use Rattle.meaning.specs.ForOf.{bindsIdentifier}
 use Rattle.meaning.specs.Walk.{Crumb, crumb, plug}
@@ -105,9 +106,9 @@ shown-same (more h k r) (more h′ k′ r′) s =
     (⊎-elim
     (λ e.
     ap₂
-    (λ (n : ℕ) (ns : List ℕ). if isExpression (h .tag) then h .tag ∷ (recordNumbers (row h n) ++ ns) else [])
+    (λ (n : ℕ) (ns : List ℕ). if isExpression (h .tag) then h .tag ∷ (recordNumbers (row (withScope h 0) n) ++ ns) else [])
     (count-same k k′ (e .1)) (shown-same k k′ (e .1))
-    ∙ ap (λ (x : Head). if isExpression (x .tag) then x .tag ∷ (recordNumbers (row x (count k′)) ++ shown k′) else []) (e .0))
+    ∙ ap (λ (x : Head). if isExpression (x .tag) then x .tag ∷ (recordNumbers (row (withScope x 0) (count k′)) ++ shown k′) else []) (e .0))
     (λ n. let m = tagless h (n .0) .expression in let m′ = tagless h′ (n .1) .expression in rw (m, m′))
     (s .0))
     (shown-same r r′ (s .1))

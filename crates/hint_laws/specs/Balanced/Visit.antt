@@ -36,6 +36,7 @@ use Rattle.charge_laws.specs.Counts.Figures.{settled}
 use Rattle.charge_laws.specs.Counts.Pending.{Pending, spot-fits}
 use Rattle.charge_laws.specs.Fit.Accepted.{accepted-fit, accepted-after}
 use Rattle.meaning.specs.File.{numbersOf, hasChildren, ownNumbers, recordNumbers}
+use Rattle.meaning.specs.Renumbering.{withScope}
 use Rattle.hint_laws.specs.Hints.{shown, asInSource, ofSource}
 use Rattle.hint_laws.specs.Outline.{same-&}
 use Rattle.hint_laws.specs.Balanced.Balance.{balanceOf, balance}
@@ -80,7 +81,7 @@ module _ (w : List ℕ → List ℕ → ℕ → ℕ) (read : ℕ) where
 
   -- a Read of a new symbol is taken for no initializer
   unseen-read : Unseen (ofSource read w) read
-  unfolding asInSource shown count recordNumbers ownNumbers hasChildren numbersOf
+  unfolding asInSource shown withScope count recordNumbers ownNumbers hasChildren numbersOf
   unseen-read y t letter new = let e = lt-ltb read t new in rw e
 
 -- A VISIT KEEPS WHAT THE TREE GIVES AND STILL ASKS FOR.

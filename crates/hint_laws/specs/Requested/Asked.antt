@@ -11,6 +11,7 @@ use borrow.Author.Tests.{leb-true, le-ltb}
 use Rattle.meaning.specs.Numbers.Tag
 use Rattle.meaning.specs.Tree.{if_then_else_, Head, hd, Forest, none, more, one, count}
 use Rattle.meaning.specs.File.{File, numbersOf, hasChildren, ownNumbers, recordNumbers}
+use Rattle.meaning.specs.Renumbering.{withScope}
 use Rattle.meaning.specs.Reading.{accepted, readFile}
 use Rattle.meaning.specs.Hint.{syncDispose, asyncDispose, hintOf, letterOf}
 use Rattle.meaning.specs.Statements.{isUsing, isAwaitUsing, letterIf}
@@ -90,7 +91,7 @@ module _ (n : ℕ) (w : List ℕ → List ℕ → ℕ → ℕ) where
   -- an initializer stands in the source as it is
   in-source : {t : ℕ} (a b c : ℕ) (k : Forest) → Seen (Tag.Read ∷ []) t → (eqb t Tag.Read ≡ true → leb a n ≡ true)
       → asInSource n (shown (one (hd t a b c) k)) ≡ shown (one (hd t a b c) k)
-  unfolding asInSource shown count recordNumbers ownNumbers hasChildren numbersOf
+  unfolding asInSource shown withScope count recordNumbers ownNumbers hasChildren numbersOf
   in-source a b c k here o = let e = le-ltb n a (leb-true a n (o refl)) in rw e
   in-source {t} a b c k (there e other) o = other-in-source (isExpression t) _
     where

@@ -40,10 +40,8 @@ use Rattle.spec_laws.specs.Calls.{completed-store, completed-keeps}
 use Rattle.charge_laws.specs.Counts.Enter.{proper}
 use Rattle.charge_laws.specs.Counts.Pending.{Pending, pending-start, pending-visit}
 use Rattle.charge_laws.specs.Fit.Accepted.{accepted-fit}
-use Rattle.spec_laws.specs.Trees.{Bytes}
 use Rattle.bound_laws.specs.Last.{last-spot, final-figures}
 use Rattle.readback_laws.specs.ReadBack.{recordReads, fieldsFor, fieldsOf, read-back, fieldCount, count-++, rows-++, scopes-count, symbols-count}
-use Rattle.readback_laws.specs.Written.{file-written}
 use Rattle.charge_laws.specs.Counts.Figures.{settled, whole-at}
 use Rattle.readback_laws.specs.Loads.Contexts.{loadOf, loads, loads-&}
 use Rattle.readback_laws.specs.Loads.Entered.{enter-loads, leave-loads}
@@ -112,7 +110,7 @@ import-loads y (more h k r) = omega arith
 completed-loads : (s : Spot) → loads (treeAt (completed s)) ≡ loads (treeAt s)
 completed-loads s = completed-keeps (λ (t : Forest). loads t ≡ loads (treeAt s)) s refl (import-loads (storeAt s .helper) (treeAt s))
 
-final-loads : (bytes : List ℕ) (f : File) → readFile bytes ≡ accepted f
+pub final-loads : (bytes : List ℕ) (f : File) → readFile bytes ≡ accepted f
     → loads (treeAt (finalSpot f)) ≡ loads (f .tree) + finalFigures f .contexts
 unfolding finalSpot
 final-loads bytes f e =
@@ -140,7 +138,7 @@ records-loads none = refl
 records-loads (more h k r) = omega (arith, rows-++ isLoad (flatten k) (flatten r), records-loads k, records-loads r)
 
 -- the Loads of a file can be counted in its bytes
-loads-back : (g : File) → fieldCount isLoad (fieldsOf (written g)) ≡ loads (g .tree)
+pub loads-back : (g : File) → fieldCount isLoad (fieldsOf (written g)) ≡ loads (g .tree)
 unfolding fieldCount fieldsFor
 loads-back g =
     rw (read-back g, count-++ isLoad, count-++ isLoad)
@@ -150,16 +148,3 @@ loads-back g =
       symbols-count isLoad false (λ y. mentions y (g .tree)) 1 (g .symbols) refl,
       records-loads (g .tree),
     ))
-
--- THE CONTEXTS ARE COUNTED in the written bytes.
-pub loads-written : (bytes : List ℕ) (f : File) → Bytes bytes → readFile bytes ≡ accepted f
-    → fieldCount isLoad (fieldsOf (written (fileAt (finalSpot f)))) ≡ fieldCount isLoad (fieldsOf bytes) + finalFigures f .contexts
-unfolding fileAt
-loads-written bytes f b e =
-    omega (
-      arith,
-      loads-back (fileAt (finalSpot f)),
-      final-loads bytes f e,
-      loads-back f,
-      ap (λ (bs : List ℕ). fieldCount isLoad (fieldsOf bs)) (file-written bytes f b e),
-    )

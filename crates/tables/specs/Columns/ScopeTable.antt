@@ -1,4 +1,4 @@
--- The columns of the scope table, and how many numbers a row has.
+-- The columns of the scope table, how many numbers a row has, and how many are lent for one.
 -- Assumes nothing.
 use Prim.Native.Nat.{ℕ}
 
@@ -10,3 +10,6 @@ Flags = 1
 
 abbrev pub Numbers : ℕ
 Numbers = 2
+
+abbrev pub Lent : ℕ
+Lent = 3

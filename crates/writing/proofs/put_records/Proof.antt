@@ -4,6 +4,7 @@ use Prim.Native.Nat.{_+_, _*_, _-_, _≤_}
 use native.Mathlib.Nat.{sub-zero}
 use lib.ListN.{length}
 use lib.Seq.{sets}
+use Rattle.renumbering.specs.Numbers.{numberIn}
 use Rattle.writing.specs.Writing.{mostBytes, rowsBytes, recordAt}
 use Rattle.writing.proofs.Laws.{next-most, records-turn}
 use borrow.Author.Needs.{needs}
@@ -11,12 +12,12 @@ use Rattle.writing.proofs.put_records.Statement.{statement}
 use Rattle.writing.proofs.put_records.Tie as tie
 
 abbrev Inv-loop : tie.InvT-loop
-Inv-loop out₀ tree records count at₀ k₀ out at k =
+Inv-loop out₀ tree records numbers count at₀ k₀ out at k =
     (k ≤ count) × (at ≤ tree + mostBytes * k) × (length out ≡ length out₀)
-    × (sets out₀ tree (rowsBytes (recordAt records) 0 count) ≡ sets out at (rowsBytes (recordAt records) k (count - k)))
+    × (sets out₀ tree (rowsBytes (recordAt records (numberIn numbers)) 0 count) ≡ sets out at (rowsBytes (recordAt records (numberIn numbers)) k (count - k)))
 
 abbrev μ-loop : tie.MeasureT-loop
-μ-loop out₀ tree records count at₀ k₀ out at k =
+μ-loop out₀ tree records numbers count at₀ k₀ out at k =
     count - k
 
 loop-holds : tie.Need-loop-holds Inv-loop μ-loop
@@ -25,10 +26,10 @@ loop-holds c = (search needs, search needs, refl, rw sub-zero)
 loop-again : tie.Need-loop-again Inv-loop μ-loop
 loop-again c =
     let at-put-whole = c .before .before in
-    let at-row-after = at-put-whole .before in
-    let at-loop-test = at-row-after .before .before .before in
+    let at-row = at-put-whole .before in
+    let at-loop-test = at-row .before .before .before in
     let at-loop = at-loop-test .before in
-    (search needs, next-most _ _ _ _ _ (at-put-whole .put-whole .ensures .1) (at-loop .loop .inv .1), at-put-whole .put-whole .kept .0 ∙ at-loop .loop .inv .2, records-turn _ _ _ _ _ _ _ _ _ (at-loop .loop .inv .3) (at-loop-test .loop-test .taken) (at-row-after .row-after .ensures) (at-put-whole .put-whole .ensures .0) (at-put-whole .put-whole .ensures .1))
+    (search needs, next-most _ _ _ _ _ (at-put-whole .put-whole .ensures .1) (at-loop .loop .inv .1), at-put-whole .put-whole .kept .0 ∙ at-loop .loop .inv .2, records-turn _ _ _ _ _ _ _ _ _ _ (at-loop .loop .inv .3) (at-loop-test .loop-test .taken) (at-row .row-to-write .ensures) (at-put-whole .put-whole .ensures .0) (at-put-whole .put-whole .ensures .1))
 
 returns : tie.Need-returns Inv-loop μ-loop
 returns c =

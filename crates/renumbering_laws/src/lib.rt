@@ -1,0 +1,1 @@
+// Theorems, no code: the scope rows agree with the tree.
