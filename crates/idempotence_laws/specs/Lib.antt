@@ -1,5 +1,6 @@
 -- Lowering a lowered file changes nothing.
 pub mod Quiet
-pub mod Plain
+pub mod QuietHeads
+pub mod Scopes
 pub mod Fields
 pub mod Again

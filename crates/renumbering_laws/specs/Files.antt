@@ -41,7 +41,7 @@ all-row : {X : Type 0} (P : X → Type 0) (d : X) (xs : List X) (i : ℕ) → P 
 all-row P d xs zero e p = e
 all-row P d xs (suc i) e p = all-getD P d xs i e p
 
-all-same : {X : Type 0} (P Q : X → Type 0) (xs : List X) → ((x : X) → P x → Q x) → All P xs → All Q xs
+pub all-same : {X : Type 0} (P Q : X → Type 0) (xs : List X) → ((x : X) → P x → Q x) → All P xs → All Q xs
 all-same P Q [] q p = tt
 all-same P Q (x ∷ xs) q p = (q x (p .0), all-same P Q xs q (p .1))
 

@@ -56,7 +56,7 @@ module _ (h : Head) where
   unfolding withScope
   with-none s e d = rw (e, d)
 
-  scope-first : oneOf scopeFirst (h .tag) ≡ true → scopeOf h ≡ h .a
+  pub scope-first : oneOf scopeFirst (h .tag) ≡ true → scopeOf h ≡ h .a
   unfolding scopeOf
   scope-first e = rw e
 

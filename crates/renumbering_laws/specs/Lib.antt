@@ -4,4 +4,5 @@ pub mod Order
 pub mod Trees
 pub mod Named
 pub mod Files
+pub mod Agree
 pub mod Final

@@ -27,12 +27,12 @@ pub all-split : {X : Type 0} (P : X → Type 0) (xs ys : List X) → All P (xs +
 all-split P [] ys p = (tt, p)
 all-split P (x ∷ xs) ys p = let q = all-split P xs ys (p .1) in ((p .0, q .0), q .1)
 
-map-++ : (new : ℕ → ℕ) (xs ys : List ℕ) → map new (xs ++ ys) ≡ map new xs ++ map new ys
+pub map-++ : (new : ℕ → ℕ) (xs ys : List ℕ) → map new (xs ++ ys) ≡ map new xs ++ map new ys
 map-++ new [] ys = refl
 map-++ new (x ∷ xs) ys = ap (_∷_ (new x)) (map-++ new xs ys)
 
 -- the scope, if it is one
-abbrev some : ℕ → List ℕ
+abbrev pub some : ℕ → List ℕ
 some s = if eqb s 0 then [] else s ∷ []
 
 some-mapped : (new : ℕ → ℕ) (s : ℕ) → new 0 ≡ 0 → All (λ x. 1 ≤ new x) (some s) → some (new s) ≡ map new (some s)
@@ -50,7 +50,7 @@ plain-named none = refl
 plain-named (more h k r) = ap₂ _++_ (ap some (scope-plain h)) (ap₂ _++_ (plain-named k) (plain-named r))
 
 module _ (new : ℕ → ℕ) where
-  tree-mapped : (f : Forest) → renumberedTree new f ≡ mapped (λ h. withScope h (new (scopeOf h))) f
+  pub tree-mapped : (f : Forest) → renumberedTree new f ≡ mapped (λ h. withScope h (new (scopeOf h))) f
   unfolding renumberedTree mapped
   tree-mapped none = refl
   tree-mapped (more h k r) = ap₂ (more (withScope h (new (scopeOf h)))) (tree-mapped k) (tree-mapped r)
