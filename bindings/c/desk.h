@@ -20,10 +20,14 @@ extern "C" {
 
 /* How many numbers of 16 bits a row takes in a lent table. A length that is no multiple lends the whole rows in it. */
 #define DESK_RECORD_ROW 7
-#define DESK_SCOPE_ROW 2
+#define DESK_SCOPE_ROW 3
 #define DESK_SYMBOL_ROW 6
 
 /*
+ * A scope table of some length lends length / DESK_SCOPE_ROW rows. Two numbers of each row stand together, row after row from the front of the
+ * table. The third stands in a column behind all the rows that are lent. desk_lower needs it while it writes, for the number that the scope gets
+ * in the written file; desk_start leaves it 0, and desk_visit leaves it as it is.
+ *
  * A symbol table of some length lends length / DESK_SYMBOL_ROW rows. Five numbers of each row stand together, row after row from the front of
  * the table. The sixth, how often records name that symbol, stands in a column behind all the rows that are lent: the count of row y, from 1
  * on, is the number at DESK_COUNTS_AT(length) + y - 1.
@@ -119,6 +123,9 @@ uint8_t desk_visit(uint16_t *records, size_t records_length,
  * Refused: the tables and the output are as they were; *answer tells the place.
  * Accepted: the output begins with the lowered file, of answer->bytes bytes, and is as it was behind it; the tables are all 0, to their last
  *   number, whatever they held before; *answer tells the five figures.
+ * The written file numbers its scopes in the order in which its tree names them, whatever numbers the source had: Program's is 1, and each record
+ *   that names a scope names the next number. Scope rows stand in this order, and parents and the scopes of symbols follow. Symbol rows stay in
+ *   theirs.
  * What this call wrote, if desk_check accepts it, comes out of a second call unchanged, with 0 contexts, if as much memory is lent as to the first.
  * (desk_check refuses it with 6 or 1 if it now has more than 64 levels or 65,535 bytes.)
  */

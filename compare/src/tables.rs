@@ -1,6 +1,6 @@
 //! What the tables must hold, to the last number, when the plain walk stands where it stands.
 use compare::reference::{Record, Walk};
-use desk::{RECORD_ROW, SCOPE_ROW};
+use desk::RECORD_ROW;
 
 const DECLARATION: u8 = 5;
 
@@ -46,9 +46,10 @@ pub fn records(walk: &Walk, end: usize, length: usize) -> Vec<u16> {
     table
 }
 
+/// Parent and flags stand together; the column of new numbers behind the last row lent is 0.
 pub fn scopes(walk: &Walk, length: usize) -> Vec<u16> {
     let mut table = vec![0; length];
-    for (row, s) in table.chunks_mut(SCOPE_ROW).zip(walk.scopes()) {
+    for (row, s) in table.chunks_mut(2).zip(walk.scopes()) {
         row.copy_from_slice(&s);
     }
     table

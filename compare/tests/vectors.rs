@@ -113,6 +113,7 @@ fn lowering() {
     lowerings("letters.txt");
     lowerings("imports.txt");
     lowerings("counts.txt");
+    lowerings("order.txt");
 }
 
 fn walks(name: &str) {

@@ -6,9 +6,10 @@
 
 mod raw;
 
-/// How many numbers of 16 bits a row takes in a lent table. Of a symbol row five stand together, and its count in a column behind all rows.
+/// How many numbers of 16 bits a row takes in a lent table. Of a scope row two stand together, and in a column behind all rows the number that
+/// lowering gives it in the written file; of a symbol row five, and its count in a column behind all rows.
 pub const RECORD_ROW: usize = 7;
-pub const SCOPE_ROW: usize = 2;
+pub const SCOPE_ROW: usize = 3;
 pub const SYMBOL_ROW: usize = 6;
 
 /// Where the counts begin in a lent symbol table of this length: behind the five numbers of every row that it lends.

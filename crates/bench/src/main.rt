@@ -79,7 +79,7 @@ fn lowerings(
 
 fn lower(file: &[u8]) -> u64 {
     let mut records = [0u16; 150000];
-    let mut scopes = [0u16; 20480];
+    let mut scopes = [0u16; 30720];
     let mut symbols = [0u16; 32768];
     let mut out = [0u8; 262144];
     lowerings(file, &mut records, &mut scopes, &mut symbols, &mut out)

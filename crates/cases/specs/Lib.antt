@@ -3,4 +3,5 @@ pub mod Table
 pub mod TableCounts
 pub mod TableDepth
 pub mod TableImport
+pub mod TableOrder
 pub mod TableVisits

@@ -15,7 +15,7 @@ use Rattle.meaning.specs.Walk.{Spot, isOver, visits, start, treeAt, storeAt, fi
 use Rattle.meaning.specs.ImportLine.{completed, visitCalls}
 use Rattle.meaning.specs.Charges.{Line, Figures, _⊕_, total, figuresIn, figuresAt, walkFigures, importLines, finalFigures}
 use Rattle.meaning.specs.Due.{dues, importDues}
-use Rattle.meaning.specs.Lowering.{admit, finalSpot}
+use Rattle.meaning.specs.Lowering.{admit, finalSpot, loweredFile}
 use Rattle.spec_laws.specs.Figures.{figures-same, total-++}
 use Rattle.spec_laws.specs.Trees.{Bytes}
 use Rattle.spec_laws.specs.Calls.{completed-over, calls-are}
@@ -38,7 +38,7 @@ use Rattle.bound_laws.specs.Last.{final-figures, final-is}
 use Rattle.readback_laws.specs.ReadBack.{fieldsOf, fieldCount, isRecord, counts-back}
 use Rattle.representation.specs.Shown.Shown.{recordsIn, scopesIn, symbolsIn}
 use Rattle.representation.specs.Shown.Held.{held-records, held-scopes, held-symbols, flatten-size}
-use Rattle.lowering.specs.Law.{final-tagged}
+use Rattle.renumbering_laws.specs.Final.{lowered-tagged, lowered-figures}
 
 -- the tables that start leaves of an admitted file, and those after k calls for a visit, each on exactly what the one before left
 abbrev pub firstTables : File → List ℕ → List ℕ → List ℕ → Tables
@@ -136,21 +136,22 @@ module _ (bytes r s y : List ℕ) (f : File) (e : admit bytes (lentIn r s y) ≡
 
   module _ (b : Bytes bytes) where
     abbrev fields : List Rattle.readback_laws.specs.ReadBack.Read
-    fields = fieldsOf (written (fileAt (finalSpot f)))
+    fields = fieldsOf (written (loweredFile f))
 
     pub file-shows : (fieldCount isRecord fields ≡ finalFigures f .records) × (fieldCount (λ t. eqb t Tag.Scope) fields ≡ finalFigures f .scopes)
         × (fieldCount (λ t. eqb t Tag.Symbol) fields ≡ finalFigures f .symbols) × (storeAt (finalSpot f) .contexts ≡ finalFigures f .contexts)
-    unfolding fileAt
+    unfolding fileAt figuresIn
     file-shows =
         let figures-are = final-figures bytes f read in
-        let counted = counts-back (fileAt (finalSpot f)) (final-tagged bytes r s y f b e) in
+        let kept = lowered-figures bytes f read in
+        let counted = counts-back (loweredFile f) (lowered-tagged bytes f read b) in
         let shown = at-spot (finalSpot f) in
         let r-is = ap (λ (x : Figures). x .records) figures-are in
         let s-is = ap (λ (x : Figures). x .scopes) figures-are in
         let y-is = ap (λ (x : Figures). x .symbols) figures-are in
         let c-is = ap (λ (x : Figures). x .contexts) figures-are in (
-          counted .0 ∙ omega (arith, shown, r-is),
-          counted .1 ∙ omega (arith, shown, s-is),
-          counted .2 ∙ omega (arith, shown, y-is),
+          counted .0 ∙ ap (λ (x : Figures). x .records) kept ∙ omega (arith, shown, r-is),
+          counted .1 ∙ ap (λ (x : Figures). x .scopes) kept ∙ omega (arith, shown, s-is),
+          counted .2 ∙ ap (λ (x : Figures). x .symbols) kept ∙ omega (arith, shown, y-is),
           omega (arith, shown, c-is),
         )

@@ -11,7 +11,7 @@
 --   visit_some  answers and leaves `visitSomeF`: visits alone (`visitF`), for a loop over many,
 --   lower       answers and leaves `lowerF file records scopes symbols out`.
 -- The claims below are about these same definitions. `readFile`, `figuresOf`, `admit`, `visits`, `visitCalls`, `dues`, `importDues`,
--- `finalFigures`, `finalSpot`, `mentions`, `ScopesAgree`, `written` and `lower` are documents 01 and 02 (crate meaning); `visitCharges` tells the
+-- `finalFigures`, `finalSpot`, `loweredFile`, `mentions`, `ScopesAgree`, `renumbered`, `written` and `lower` are documents 01 and 02 (crate meaning); `visitCharges` tells the
 -- charges without the walk.
 -- A list of numbers stands for a lent slice; `lentIn r s y` are the rows of tables.
 -- Assumes nothing.
@@ -28,6 +28,7 @@ use Rattle.meaning.specs.Mentions.{mentions}
 use Rattle.meaning.specs.File.{File, numbersOf, written}
 use Rattle.meaning.specs.Reading.{Outcome, accepted, refused, readFile}
 use Rattle.meaning.specs.Agreement.{ScopesAgree}
+use Rattle.meaning.specs.Renumbering.{renumbered}
 use Rattle.meaning.specs.Grammar.{moduleLineRight, right}
 use Rattle.meaning.specs.Scoping.{Store}
 use Rattle.meaning.specs.Statements.{makeContext}
@@ -39,11 +40,12 @@ use Rattle.meaning.specs.Charges.{_⊕_, total, figuresIn, finalFigures}
 use Rattle.meaning.specs.Due.{dues, importDues}
 use Rattle.meaning.specs.declared.Place.{Place}
 use Rattle.charge_laws.specs.VisitCharges.{visitCharges}
-use Rattle.meaning.specs.Lowering.{Lent, Written, checkFile, figuresOf, admit, finalSpot, lower}
+use Rattle.meaning.specs.Lowering.{Lent, Written, checkFile, figuresOf, admit, finalSpot, loweredFile, lower}
 use Rattle.cases.specs.Table.{table, table-holds}
 use Rattle.cases.specs.TableImport.{importTable, imports-hold}
 use Rattle.cases.specs.TableCounts.{countTable, counts-hold}
 use Rattle.cases.specs.TableDepth.{depthTable, depth-holds}
+use Rattle.cases.specs.TableOrder.{orderTable, orders-hold}
 use Rattle.charge_laws.specs.Counts.Figures.{joined}
 use Rattle.charge_laws.specs.Fit.Accepted.{accepted-dues}
 use Rattle.charge_laws.specs.Fit.Import.{imports-are}
@@ -64,21 +66,20 @@ use Rattle.walk.specs.Over.{isOverIn}
 use Rattle.walk.specs.Call.{visitCallF, over-unchanged}
 use Rattle.walk.specs.Plain.{visitSomeF, some-visits}
 use Rattle.hint_laws.specs.Hints.{asked, given}
-use Rattle.bound_laws.specs.Last.{last-spot}
 use Rattle.readback_laws.specs.ReadBack.{fieldsOf, fieldCount, isRecord}
 use Rattle.fields.specs.Lengths.{lengths, noTags, lengths-count, lengths-right, lengths-none}
 use Rattle.readback_laws.specs.Decoded.{treeOf, treeIn}
-use Rattle.readback_laws.specs.Back.{Childless, hints-back}
-use Rattle.readback_laws.specs.Childless.{calls-childless}
 use Rattle.readback_laws.specs.Written.{file-written}
-use Rattle.readback_laws.specs.Loads.Written.{isLoad, loads-written}
+use Rattle.readback_laws.specs.Loads.Written.{isLoad}
 use Rattle.agreement_laws.specs.Agreed.{read-agrees}
+use Rattle.renumbering_laws.specs.Final.{lowered-length, loads-written, lowered-gives}
 use Rattle.idempotence_laws.specs.Fields.{fieldFigures}
 use Rattle.parsing.specs.Counted.{readUncounted, symbolOffset, CountsRight, LowestWrong, CountRefused, count-refused, counts-right, count-wrong, counts-accepted, count-lowest}
 use Rattle.representation.specs.Shown.Shown.{recordsIn, scopesIn, symbolsIn, countsIn}
 use Rattle.claims.specs.Counts.{TrueCounts, TrueInBytes, counts-in-tables, counts-in-bytes, calls-mentions-fit}
 use Rattle.claims.specs.Agreement.{scopes-in-tables}
 use Rattle.claims.specs.Twice.{Wrote, LowersTwice, lowering-twice, lowering-again}
+use Rattle.claims.specs.Order.{InTreeOrder, AgreesInBytes, OneToOne, in-tree-order, agrees-in-bytes, final-one-to-one, numbered-once}
 use Rattle.claims.specs.Letters.{ButLetters, letters-alone}
 use Rattle.claims.specs.Depth.{readDeep, depthFirst, readBefore, Changed, depth-is-first, answer-changed, still-accepted, once-accepted}
 use Rattle.claims.specs.Refusals.Numbers.{read-numbers, figures-numbers, admit-numbers, lower-numbers}
@@ -86,7 +87,6 @@ use Rattle.claims.specs.Refusals.Small.{Short, firstShort, small-refused
 use Rattle.lowering.specs.declared.Lowered.{Lowered}
 use Rattle.lowering.specs.declared.Lowered.the-variants.{Written as WrittenIn, Refused}
 use Rattle.lowering.specs.Lower.{finished, zerosFor, writtenOver, lowerOf, lowerF}
-use Rattle.lowering.specs.Law.{final-tagged, final-length}
 use Rattle.desk_numbers.specs.Answers.{
   checkedNumbers,
   figuredNumbers,
@@ -194,12 +194,12 @@ read-written = file-written
 pub cases-hold : map (λ c. lower (c .input) (c .rows) (c .output)) table ≡ map (λ c. c .answer) table
 cases-hold = table-holds
 
--- An accepted lowering writes the file that the call of the walk's last visit leaves, answers its figures and length, leaves the tables all 0, and the
--- output behind the file as it was.
+-- An accepted lowering writes the file that the call of the walk's last visit leaves, its scopes numbered in tree order (`loweredFile`), answers its
+-- figures and length, leaves the tables all 0, and the output behind the file as it was.
 pub lowering-is-01 : (bytes r s y o : List ℕ) (f : File) → admit bytes (lentIn r s y) ≡ accepted f → finalFigures f .bytes ≤ length o
     → lowerF bytes r s y o
     ≡ finished (WrittenIn (shownFigures (finalFigures f))) (zerosFor r) (zerosFor s) (zerosFor y)
-    (writtenOver (written (fileAt (finalSpot f))) o)
+    (writtenOver (written (loweredFile f)) o)
 unfolding lowerF
 lowering-is-01 bytes r s y o f e h =
     ap (λ (a : Outcome Written). lowerOf a r s y o) (enough-output bytes (lentIn r s y) (length o) f e h)
@@ -208,20 +208,17 @@ lowering-is-01 bytes r s y o f e h =
 -- usings that are taken up (in lists, a switch's too, and Fors, Program's recorded ones, and ForOf's), and each Call has the letter of the
 -- hint that TC39 gives the source's declaration. Said with weights: whatever a Declarator's names, its initializer and a letter are
 -- weighted by, the sum over the one side is the sum over the other, so each Declarator is there as often with each letter. An
--- initializer is known by the expressions in it, as they are written; a function or class among them has a scope row of its own, so only
--- Declarators of the same names and the same text count alike. `given` counts every Call that is an initializer through a context that
+-- initializer is known by the expressions in it, as they are written but for the numbers of scopes, so only Declarators of the same names and
+-- the same text count alike. `given` counts every Call that is an initializer through a context that
 -- lowering made (its symbol is behind those read), so lowering wraps no initializer that the source does not ask for, under a made name
 -- (`_default`) either.
 pub hints : (w : List ℕ → List ℕ → ℕ → ℕ) (bytes r s y : List ℕ) (f : File) → Bytes bytes → admit bytes (lentIn r s y) ≡ accepted f
     → let read = length (f .symbols) in
-    given w read (treeIn (written (fileAt (finalSpot f)))) ≡ asked w (f .tree)
-unfolding fileAt finalSpot
+    given w read (treeIn (written (loweredFile f))) ≡ asked w (f .tree)
+unfolding fileAt
 hints w bytes r s y f b e =
-    let read = length (f .symbols) in
     let read-is = admitted bytes r s y f e .0 in
-    let childless : Childless (treeAt (finalSpot f)) =
-    rw (last-spot f) (calls-childless bytes f (2 * finalFigures f .records) read-is) in
-    hints-back w read (fileAt (finalSpot f)) (final-tagged bytes r s y f b e) childless ∙ final-hints w bytes f read-is
+    lowered-gives bytes f read-is b w (length (f .symbols)) ∙ final-hints w bytes f read-is
 
 -- ---- DEMAND 3
 
@@ -254,17 +251,17 @@ pub record Demand3 (bytes r s y : List ℕ) (f : File) (k : ℕ) : Type 0 where
   -- over is told exactly when 01's walk is over, and then a call leaves every number of the tables and the walk as it is
   pub overTold : isOverIn (afterCalls k f r s y) ≡ isOver (visitCalls k (start f))
   pub overStays : isOverIn (afterCalls k f r s y) ≡ true → visitCallF (afterCalls k f r s y) ≡ afterCalls k f r s y
-  -- an accepted lowering writes what the last visit's call leaves, and answers the final figures
+  -- an accepted lowering writes what the last visit's call leaves, its scopes numbered in tree order, and answers the final figures
   pub writes : (out : ℕ) → finalFigures f .bytes ≤ out
-      → lower bytes (lentIn r s y) out ≡ accepted (record { file = written (fileAt (finalSpot f)); figures = finalFigures f })
+      → lower bytes (lentIn r s y) out ≡ accepted (record { file = written (loweredFile f); figures = finalFigures f })
   -- the written file shows them: reading its fields back counts them, and its length is the answer's
-  pub recordsShown : fieldCount isRecord (fieldsOf (written (fileAt (finalSpot f)))) ≡ finalFigures f .records
-  pub scopesShown : fieldCount (λ t. eqb t Tag.Scope) (fieldsOf (written (fileAt (finalSpot f)))) ≡ finalFigures f .scopes
-  pub symbolsShown : fieldCount (λ t. eqb t Tag.Symbol) (fieldsOf (written (fileAt (finalSpot f)))) ≡ finalFigures f .symbols
-  pub lengthShown : length (written (fileAt (finalSpot f))) ≡ finalFigures f .bytes
+  pub recordsShown : fieldCount isRecord (fieldsOf (written (loweredFile f))) ≡ finalFigures f .records
+  pub scopesShown : fieldCount (λ t. eqb t Tag.Scope) (fieldsOf (written (loweredFile f))) ≡ finalFigures f .scopes
+  pub symbolsShown : fieldCount (λ t. eqb t Tag.Symbol) (fieldsOf (written (loweredFile f))) ≡ finalFigures f .symbols
+  pub lengthShown : length (written (loweredFile f)) ≡ finalFigures f .bytes
   -- and the number of contexts is how many the walk made, and how many Loads it added: those written are those read, and one for each
   pub contextsShown : storeAt (finalSpot f) .contexts ≡ finalFigures f .contexts
-  pub loadsShown : fieldCount isLoad (fieldsOf (written (fileAt (finalSpot f)))) ≡ fieldCount isLoad (fieldsOf bytes) + finalFigures f .contexts
+  pub loadsShown : fieldCount isLoad (fieldsOf (written (loweredFile f))) ≡ fieldCount isLoad (fieldsOf bytes) + finalFigures f .contexts
 
 -- DEMAND 3. Each byte is at most 255, as in every `&[u8]`.
 pub demand-3 : (bytes r s y : List ℕ) (f : File) → Bytes bytes → admit bytes (lentIn r s y) ≡ accepted f → (k : ℕ) → Demand3 bytes r s y f k
@@ -297,9 +294,9 @@ demand-3 bytes r s y f b e k =
       recordsShown = shown .0;
       scopesShown = shown .1;
       symbolsShown = shown .2;
-      lengthShown = final-length bytes r s y f b e;
+      lengthShown = lowered-length bytes f read b;
       contextsShown = shown .3;
-      loadsShown = loads-written bytes f b read;
+      loadsShown = loads-written bytes f read b;
     }
 
 -- Some visits in one call are the visits that it reports, one after the other, on any tables: none once the walk is over, and otherwise one at
@@ -341,7 +338,7 @@ import-line = import-stands
 -- A lowering that is accepted writes it: in the tree that the written bytes say, it is Program's first child.
 pub import-written : (bytes r s y : List ℕ) (f : File) → Bytes bytes → admit bytes (lentIn r s y) ≡ accepted f → imports f ≡ true
     → (items : Forest) × (helper : ℕ)
-    × (treeIn (written (fileAt (finalSpot f)))
+    × (treeIn (written (loweredFile f))
     ≡ one (hd Tag.Program 1 0 0) (more (hd Tag.ModuleLine 4 0 0) (one (hd Tag.Specifier helper 3 0) none) items))
     × IsHelper (storeAt (finalSpot f)) helper
 import-written = import-in-bytes
@@ -425,7 +422,7 @@ counts-fit = calls-mentions-fit
 -- A lowering that is accepted writes them: in the written bytes the fifth number of each symbol row is how often the records in these bytes name it,
 -- for a reader who counts field by field (`mentionsIn`).
 pub counts-written : (bytes r s y : List ℕ) (f : File) → admit bytes (lentIn r s y) ≡ accepted f → Bytes bytes
-    → TrueInBytes (written (fileAt (finalSpot f)))
+    → TrueInBytes (written (loweredFile f))
 counts-written = counts-in-bytes
 
 -- THE NEW REFUSAL EXACTLY, said of any reader. `readUncounted` makes all checks of reading but the one of counts.
@@ -455,6 +452,31 @@ count-refusal =
 -- behind it, and symbol rows of four and of six numbers.
 pub count-cases-hold : map (λ c. lower (c .input) (c .rows) (c .output)) countTable ≡ map (λ c. c .answer) countTable
 count-cases-hold = counts-hold
+
+-- ---- REQUEST 9 of document 02: scope rows in tree order
+
+-- In the tree that the bytes of a written file say, the scopes are named 1, 2, 3 and so on, as many as the bytes have scope rows. Each byte of the
+-- file that is lowered is at most 255, as in every `&[u8]`.
+pub tree-order : InTreeOrder lowerF
+tree-order = in-tree-order
+
+-- The scope rows in these bytes agree with that tree as 01 asks of a file: so the rows have followed, and each has its parent's new number.
+pub written-scopes-agree : AgreesInBytes lowerF
+written-scopes-agree = agrees-in-bytes
+
+-- What is written is what the last call leaves, with new numbers for the scopes (`loweredFile`, `renumbered`). They are one to one: each row of what
+-- is left gets the number of a row, and no two get the same.
+pub renumbering-one-to-one : (bytes : List ℕ) (f : File) → readFile bytes ≡ accepted f → OneToOne (fileAt (finalSpot f))
+renumbering-one-to-one = final-one-to-one
+
+-- Numbered once more, the file stays as it is; so a second lowering leaves the numbers, too (`lowers-to-itself`).
+pub numbered-stays : (bytes : List ℕ) (f : File) → readFile bytes ≡ accepted f → renumbered (loweredFile f) ≡ loweredFile f
+numbered-stays = numbered-once
+
+-- The cases as a table: rows in other orders with and without a lowering, in every mode, for each tag that names a scope, and with rows and bytes
+-- just enough and too few.
+pub order-cases-hold : map (λ c. lower (c .input) (c .rows) (c .output)) orderTable ≡ map (λ c. c .answer) orderTable
+order-cases-hold = orders-hold
 
 -- ---- REQUEST 14 of document 02: lowering twice, and scope rows that agree with the tree
 

@@ -10,10 +10,10 @@ use Rattle.meaning.specs.Numbers.Tag
 use Rattle.meaning.specs.Mentions.{mentions}
 use Rattle.meaning.specs.File.{File, written}
 use Rattle.meaning.specs.Reading.{accepted, readFile}
-use Rattle.meaning.specs.Walk.{Spot, visits, start, treeAt, storeAt, fileAt}
+use Rattle.meaning.specs.Walk.{Spot, visits, start, treeAt, storeAt}
 use Rattle.meaning.specs.ImportLine.{completed, visitCalls}
 use Rattle.meaning.specs.Charges.{finalFigures}
-use Rattle.meaning.specs.Lowering.{admit, finalSpot}
+use Rattle.meaning.specs.Lowering.{admit, loweredFile}
 use Rattle.spec_laws.specs.Trees.{Bytes}
 use Rattle.spec_laws.specs.Calls.{calls-are}
 use Rattle.charge_laws.specs.Fit.Import.{calls-above}
@@ -28,7 +28,7 @@ use Rattle.simulation.specs.Counted.{counts-shown}
 use Rattle.simulation.specs.Started.{zerosBefore, placed, calls-after-start}
 use Rattle.readback_laws.specs.ReadBack.{fieldsOf, fieldCount, counts-back}
 use Rattle.readback_laws.specs.Counted.{mentionsIn, countsSaid, counts-said}
-use Rattle.lowering.specs.Law.{final-tagged}
+use Rattle.renumbering_laws.specs.Final.{lowered-tagged}
 use Rattle.claims.specs.Calls.{afterCalls}
 
 -- ---- what is claimed
@@ -70,12 +70,10 @@ module _ (bytes r s y : List ℕ) (f : File) (e : admit bytes (lentIn r s y) ≡
 
   -- ---- the written file
 
-  pub counts-in-bytes : Bytes bytes → TrueInBytes (written (fileAt (finalSpot f)))
-  unfolding fileAt
+  pub counts-in-bytes : Bytes bytes → TrueInBytes (written (loweredFile f))
   counts-in-bytes b =
-      let g = fileAt (finalSpot f) in
-      let tagged = final-tagged bytes r s y f b e in
-      rw (counts-back g tagged .2) (counts-said g tagged)
+      let tagged = lowered-tagged bytes f (admitted bytes r s y f e .0) b in
+      rw (counts-back (loweredFile f) tagged .2) (counts-said (loweredFile f) tagged)
 
 -- ---- 16 bits
 

@@ -15,7 +15,7 @@ use Rattle.meaning.specs.Numbers.Mode
 use Rattle.meaning.specs.Tree.{if_then_else_, Head, hd, Forest, none, more, one, count, _&_}
 use Rattle.meaning.specs.File.{File, numbersOf, hasChildren, ownNumbers, written}
 use Rattle.meaning.specs.Scoping.{Store, symbolIn, createSymbol}
-use Rattle.meaning.specs.Grammar.{moduleLineRight, right, childrenOf, placeOf, headOf}
+use Rattle.meaning.specs.Grammar.{moduleLineRight, right, childrenOf, placeOf, headOf, scopeOf}
 use Rattle.meaning.specs.declared.Place.{Place}
 use Rattle.meaning.specs.declared.Place.the-variants.{Program}
 use Rattle.meaning.specs.declared.Field.{Field}
@@ -39,7 +39,8 @@ use Rattle.meaning.specs.Program.{
 use Rattle.meaning.specs.Walk.{Spot, at, leaving, over, isOver, visits, start, treeAt, storeAt, fileAt}
 use Rattle.meaning.specs.ImportLine.{importDue, withImport, completed, visitCalls}
 use Rattle.meaning.specs.Charges.{Figures, finalFigures}
-use Rattle.meaning.specs.Lowering.{admit, finalSpot}
+use Rattle.meaning.specs.Lowering.{admit, finalSpot, loweredFile}
+use Rattle.meaning.specs.Renumbering.{scopeNamed, namedScopes, placeFrom, newNumber, withScope, renumberedTree, renumbered}
 use Rattle.spec_laws.specs.Tags.{clash, and-right}
 use Rattle.spec_laws.specs.Trees.{Bytes, visits-last}
 use Rattle.spec_laws.specs.Calls.{completed-store, not-yet, completed-none, calls-are}
@@ -65,9 +66,9 @@ use Rattle.start.specs.Start.{lentIn}
 use Rattle.start.specs.Filled.{admitted}
 use Rattle.bound_laws.specs.Last.{last-spot, last-over, final-is}
 use Rattle.readback_laws.specs.Decoded.{treeIn}
-use Rattle.readback_laws.specs.Back.{plainHead, plain, Childless, tree-back}
-use Rattle.readback_laws.specs.Childless.{calls-childless}
-use Rattle.lowering.specs.Law.{final-tagged}
+use Rattle.readback_laws.specs.Mapped.{mapped}
+use Rattle.readback_laws.specs.Back.{plainHead, plain, tree-back}
+use Rattle.renumbering_laws.specs.Final.{lowered-tagged, lowered-childless}
 use Rattle.scoping.specs.Changes.{SymbolRows, inSymbols}
 use Rattle.representation.specs.Store.Held.{ctxOf}
 use Rattle.helper_loader.specs.declared.Loaded.{Loaded}
@@ -203,22 +204,34 @@ module _ (bytes r s y : List ℕ) (f : File) (b : Bytes bytes) (e : admit bytes 
   final : visitCalls n (start f) ≡ finalSpot f
   final = final-is bytes f n read ended
 
-  childless : Childless (treeAt (finalSpot f))
-  childless = subst (λ (s : Spot). Childless (treeAt s)) (sym (calls-are n f) ∙ final) (calls-childless bytes f n read)
+  -- Program's scope is named first
+  first-stays : (items : Forest) → newNumber (namedScopes (one (hd Tag.Program 1 0 0) items)) 1 ≡ 1
+  unfolding namedScopes scopeNamed scopeOf placeFrom
+  first-stays items = refl
+
+  line-numbered : (new : ℕ → ℕ) (y : ℕ) (items : Forest) → new 1 ≡ 1
+      → plain (renumberedTree new (one (hd Tag.Program 1 0 0) (more (hd Tag.ModuleLine 4 0 0) (one (hd Tag.Specifier y 3 0) none) items)))
+      ≡ one (hd Tag.Program 1 0 0) (more (hd Tag.ModuleLine 4 0 0) (one (hd Tag.Specifier y 3 0) none) (plain (renumberedTree new items)))
+  unfolding renumberedTree withScope scopeOf mapped plainHead ownNumbers hasChildren numbersOf
+  line-numbered new y items first =
+      ap (λ (s : ℕ). one (hd Tag.Program s 0 0) (more (hd Tag.ModuleLine 4 0 0) (one (hd Tag.Specifier y 3 0) none) (plain (renumberedTree new items)))) first
 
   -- THE WRITTEN FILE BEGINS ITS PROGRAM WITH THE LINE.
   pub import-in-bytes : imports f ≡ true
       → (items : Forest) × (y : ℕ)
-      × (treeIn (written (fileAt (finalSpot f))) ≡ one (hd Tag.Program 1 0 0) (more (hd Tag.ModuleLine 4 0 0) (one (hd Tag.Specifier y 3 0) none) items))
+      × (treeIn (written (loweredFile f)) ≡ one (hd Tag.Program 1 0 0) (more (hd Tag.ModuleLine 4 0 0) (one (hd Tag.Specifier y 3 0) none) items))
       × IsHelper (storeAt (finalSpot f)) y
-  unfolding fileAt plain plainHead ownNumbers hasChildren numbersOf
+  unfolding loweredFile renumbered fileAt
   import-in-bytes i =
-      let p = the-first bytes f n read i ended in (
-        plain (p .0),
+      let p = the-first bytes f n read i ended in
+      let tree : treeAt (finalSpot f) ≡ one (hd Tag.Program 1 0 0) (more (hd Tag.ModuleLine 4 0 0) (one (hd Tag.Specifier (p .1) 3 0) none) (p .0)) =
+      ap treeAt (sym final) ∙ p .3 in (
+        plain (renumberedTree (newNumber (namedScopes (treeAt (finalSpot f)))) (p .0)),
         p .1,
-        tree-back (fileAt (finalSpot f)) (final-tagged bytes r s y f b e) childless
-            ∙ ap (λ (s : Spot). plain (treeAt s)) (sym final)
-            ∙ ap plain (p .3),
+        tree-back (loweredFile f) (lowered-tagged bytes f read b) (lowered-childless bytes f read)
+            ∙ ap (λ (t : Forest). plain (renumberedTree (newNumber (namedScopes (treeAt (finalSpot f)))) t)) tree
+            ∙ line-numbered (newNumber (namedScopes (treeAt (finalSpot f)))) (p .1) (p .0)
+            (ap (λ (t : Forest). newNumber (namedScopes t) 1) tree ∙ first-stays _),
         subst (λ (s : Spot). IsHelper (storeAt s) (p .1)) final (p .4),
       )
 

@@ -8,6 +8,7 @@ pub mod Import
 pub mod Counts
 pub mod Agreement
 pub mod Twice
+pub mod Order
 pub mod ShutOut
 pub mod Claims
 pub mod Refusals

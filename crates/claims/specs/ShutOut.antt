@@ -18,6 +18,7 @@ use Rattle.meaning.specs.File.{File, Scope, scopeRow, Symbol, numbersOf, symbol
 use Rattle.meaning.specs.Grammar.{two, isRow}
 use Rattle.meaning.specs.Scoping.{Change, rowAt, noScope}
 use Rattle.meaning.specs.Agreement.{enclosingScopes, ScopesAgree}
+use Rattle.meaning.specs.Renumbering.{namedScopes, renumbered}
 use Rattle.meaning.specs.Statements.{wrapInitializer}
 use Rattle.meaning.specs.Contexts.{takeUpCases, transformSwitchStatement}
 use Rattle.meaning.specs.Reading.{Outcome, accepted, refused, _>>=_, _>>_, readForest, mostLevels, readWith, readFile}
@@ -54,6 +55,8 @@ use Rattle.claims.specs.Letters.{takeUpBefore, takeUpCasesBefore, switch
 use Rattle.claims.specs.Import.{imports, ImportLine}
 use Rattle.claims.specs.Counts.{TrueCounts, TrueInBytes}
 use Rattle.claims.specs.Twice.{Run, Wrote, ToItself, LowersTwice}
+use Rattle.renumbering_laws.specs.Order.{upFrom}
+use Rattle.claims.specs.Order.{InTreeOrder, scopesSaid, AgreesInBytes}
 use Rattle.claims.specs.Refusals.Small.{Enough}
 use Rattle.claims.specs.Claims.{DepthFirst, CountsChecked, lowers-to-itself}
 
@@ -132,7 +135,7 @@ unfoldable pub programOnly : Lowering
 programOnly file lent out = do
   f ← admit file lent
   checkOutput out (finalFigures f)
-  accepted (record { file = written (fileAt (visits 1 (start f))); figures = finalFigures f })
+  accepted (record { file = written (renumbered (fileAt (visits 1 (start f)))); figures = finalFigures f })
 
 program-length : fileLength (on programOnly whole) ≡ 76
 unfolding programOnly computing
@@ -341,7 +344,7 @@ changing change file lent out = do
   checkOutput out (finalFigures f)
   accepted
       (record {
-        file = written (withTree (fileAt (finalSpot f)) (change (fileAt (finalSpot f) .symbols) (fileAt (finalSpot f) .tree)));
+        file = written (renumbered (withTree (fileAt (finalSpot f)) (change (fileAt (finalSpot f) .symbols) (fileAt (finalSpot f) .tree))));
         figures = finalFigures f;
       })
 
@@ -461,7 +464,7 @@ switched switch f =
     }
 
 -- lowering does no more to such a file
-pub cases-switched : written (switched transformSwitchStatement (fileOf (readFile cases))) ≡ bytesOf (on lower cases)
+pub cases-switched : written (renumbered (switched transformSwitchStatement (fileOf (readFile cases)))) ≡ bytesOf (on lower cases)
 unfolding computing
 cases-switched = refl
 
@@ -470,7 +473,7 @@ unfoldable pub running : Lowering
 running file lent out = do
   f ← admit file lent
   checkOutput out (finalFigures f)
-  accepted (record { file = written (switched switchBefore f); figures = finalFigures f })
+  accepted (record { file = written (renumbered (switched switchBefore f)); figures = finalFigures f })
 
 cases-asked : askedIn cases byLetter ≡ 1
 unfolding asked sumOver asksFor usingsIn overDeclarators ofInitializer namesOf shown hintOf letterOf computing
@@ -949,11 +952,11 @@ second-answer l file r s y o w g twice bytes e t read rows long =
     (twice file r s y o (w .file) g (small-bytes file bytes) (wrote-by l file r s y o w e t) read .same r s y o rows long)
 
 -- just enough for the whole case
-whole-lent : lentIn (zeros 126) (zeros 10) (zeros 18) ≡ lend 18 5 3
+whole-lent : lentIn (zeros 126) (zeros 15) (zeros 18) ≡ lend 18 5 3
 unfolding lentIn
 whole-lent = refl
 
-whole-enough : Enough (lentIn (zeros 126) (zeros 10) (zeros 18)) (fieldFigures wholeLowered)
+whole-enough : Enough (lentIn (zeros 126) (zeros 15) (zeros 18)) (fieldFigures wholeLowered)
 whole-enough = rw (whole-lent, whole-own) (omega arith, omega arith, omega arith)
 
 lowered-length : length wholeLowered ≡ 215
@@ -968,12 +971,12 @@ abbrev wholeWritten : Written
 wholeWritten = record { file = wholeLowered; figures = figures 18 5 3 1 215 }
 
 abbrev wholeSecond : Lowering → Lowered
-wholeSecond l = lowerOf (l wholeLowered (lentIn (zeros 126) (zeros 10) (zeros 18)) 215) (zeros 126) (zeros 10) (zeros 18) (zeros 215) .answer
+wholeSecond l = lowerOf (l wholeLowered (lentIn (zeros 126) (zeros 15) (zeros 18)) 215) (zeros 126) (zeros 15) (zeros 18) (zeros 215) .answer
 
 whole-second : (l : Lowering) → l whole (lend 18 5 3) 215 ≡ accepted wholeWritten → LowersTwice (asRun l)
     → wholeSecond l ≡ WrittenIn (shownFigures (fieldFigures wholeLowered))
 whole-second l e twice =
-    second-answer l whole (zeros 126) (zeros 10) (zeros 18) (zeros 215) wholeWritten (fileOf (readFile wholeLowered)) twice whole-small
+    second-answer l whole (zeros 126) (zeros 15) (zeros 18) (zeros 215) wholeWritten (fileOf (readFile wholeLowered)) twice whole-small
     (ap (λ (lent : Lent). l whole lent 215) whole-lent ∙ e)
     whole-front whole-read whole-enough (omega (arith, lowered-length))
 
@@ -985,8 +988,8 @@ whole-first = refl
 pub whole-to-itself : ToItself lowerF wholeLowered
 unfolding lowerF
 whole-to-itself =
-    lowers-to-itself whole (zeros 126) (zeros 10) (zeros 18) (zeros 215) wholeLowered (fileOf (readFile wholeLowered)) (small-bytes whole whole-small)
-    (wrote-by lower whole (zeros 126) (zeros 10) (zeros 18) (zeros 215) wholeWritten (ap (λ (lent : Lent). lower whole lent 215) whole-lent ∙ whole-first) whole-front)
+    lowers-to-itself whole (zeros 126) (zeros 15) (zeros 18) (zeros 215) wholeLowered (fileOf (readFile wholeLowered)) (small-bytes whole whole-small)
+    (wrote-by lower whole (zeros 126) (zeros 15) (zeros 18) (zeros 215) wholeWritten (ap (λ (lent : Lent). lower whole lent 215) whole-lent ∙ whole-first) whole-front)
     whole-read
 
 -- the contexts that were made before are counted again, by their Loads
@@ -1066,7 +1069,7 @@ importingAgain file lent out = do
   f ← admit file lent
   accepted
       (record {
-        file = written (withLine (fileAt (lastSpot f)));
+        file = written (renumbered (withLine (fileAt (lastSpot f))));
         figures = figuresIn (withLine (fileAt (lastSpot f))) ⊕ figures 0 0 0 (finalFigures f .contexts) 0;
       })
 
@@ -1084,7 +1087,7 @@ module-first : importingAgain moduleFile (lend 20 5 4) 244 ≡ accepted moduleWr
 unfolding importingAgain firstLoad computing
 module-first = refl
 
-module-lent : lentIn (zeros 140) (zeros 10) (zeros 24) ≡ lend 20 5 4
+module-lent : lentIn (zeros 140) (zeros 15) (zeros 24) ≡ lend 20 5 4
 unfolding lentIn
 module-lent = refl
 
@@ -1110,7 +1113,7 @@ module-front = refl
 
 -- the second call puts a second line
 module-again
-    : recordsTold (lowerOf (importingAgain moduleLowered (lentIn (zeros 140) (zeros 10) (zeros 24)) 244) (zeros 140) (zeros 10) (zeros 24) (zeros 244) .answer) ≡ 22
+    : recordsTold (lowerOf (importingAgain moduleLowered (lentIn (zeros 140) (zeros 15) (zeros 24)) 244) (zeros 140) (zeros 15) (zeros 24) (zeros 244) .answer) ≡ 22
 unfolding importingAgain firstLoad lentIn computing
 module-again = refl
 
@@ -1120,8 +1123,126 @@ no-importing-again twice =
       arith,
       module-again,
       ap recordsTold
-          (second-answer importingAgain moduleFile (zeros 140) (zeros 10) (zeros 24) (zeros 244) moduleWritten (fileOf (readFile moduleLowered)) twice module-small
+          (second-answer importingAgain moduleFile (zeros 140) (zeros 15) (zeros 24) (zeros 244) moduleWritten (fileOf (readFile moduleLowered)) twice module-small
           (ap (λ (lent : Lent). importingAgain moduleFile lent 244) module-lent ∙ module-first)
           module-front module-read (rw (module-lent, module-own) (omega arith, omega arith, omega arith)) (omega (arith, module-length))),
       ap (λ (x : Figures). x .records) module-own,
     )
+
+-- ---- scopes numbered in the order of making (excluded by `tree-order`)
+
+-- what the walk leaves as it stands: the scopes that it made have the last numbers
+unfoldable pub asMade : Lowering
+asMade file lent out = do
+  f ← admit file lent
+  checkOutput out (finalFigures f)
+  accepted (record { file = written (fileAt (finalSpot f)); figures = finalFigures f })
+
+-- a Switch with a using: the Block made around it stands before it in the tree, and its row behind
+abbrev oneCase : List ℕ
+oneCase = bytes "40:1,0 41:0,16 41:1,0 42:10,6,2,0,1 1:1,1 9:2,2 24:0,0 10:0,1 5:3,1 6:0,1,2 26:1 24:7,0"
+
+abbrev oneCaseMade : List ℕ
+oneCaseMade =
+    bytes "40:1,0 41:0,16 41:3,0 41:1,0 41:1,2 41:4,0 41:1,0 42:10,6,2,0,1 42:5,1,1,1,4 42:2,17,5,0,2 1:1,1 11:3,3 2:3,2 5:0,1 6:0,1,2 26:2 28:1,0 9:2,2 24:0,0 10:0,1 5:2,1 6:0,1,2 26:1 27:0,2,1 24:7,0 12:4,1,0,2 26:3 2:5,1 29:0,2,3 2:6,1 29:1,2,0"
+
+abbrev madeWritten : Written
+madeWritten = record { file = oneCaseMade; figures = figures 21 6 3 1 243 }
+
+made-first : asMade oneCase (lend 21 6 3) 243 ≡ accepted madeWritten
+unfolding asMade computing
+made-first = refl
+
+made-lent : lentIn (zeros 147) (zeros 18) (zeros 18) ≡ lend 21 6 3
+unfolding lentIn
+made-lent = refl
+
+made-small : small oneCase ≡ true
+unfolding small computing
+made-small = refl
+
+made-front : take 243 (writtenOver oneCaseMade (zeros 243)) ≡ oneCaseMade
+unfolding computing
+made-front = refl
+
+-- its tree names 1, 3, 2, 4, 5 and 6
+made-order : getD (namedScopes (treeIn oneCaseMade)) 1 0 ≡ 3
+unfolding treeIn treesFrom recordsOf rowOf fieldsOf fieldsIn numbersIn computing
+made-order = refl
+
+made-rows : getD (upFrom 1 (fieldCount (λ t. eqb t Tag.Scope) (fieldsOf oneCaseMade))) 1 0 ≡ 2
+unfolding upFrom fieldCount fieldsOf fieldsIn numbersIn computing
+made-rows = refl
+
+pub no-order-of-making : InTreeOrder (asRun asMade) → ⊥
+no-order-of-making ordered =
+    omega (
+      arith,
+      made-order,
+      made-rows,
+      ap (λ (order : List ℕ). getD order 1 0)
+          (ordered oneCase (zeros 147) (zeros 18) (zeros 18) (zeros 243) oneCaseMade (small-bytes oneCase made-small)
+          (wrote-by asMade oneCase (zeros 147) (zeros 18) (zeros 18) (zeros 243) madeWritten
+          (ap (λ (lent : Lent). asMade oneCase lent 243) made-lent ∙ made-first) made-front)),
+    )
+
+-- ---- parents that keep their old numbers (excluded by `written-scopes-agree`)
+
+abbrev oldParents : File → File
+oldParents g =
+    record {
+      mode = g .mode;
+      isModule = g .isModule;
+      scopes = map (rowAt noScope (g .scopes)) (namedScopes (g .tree));
+      symbols = renumbered g .symbols;
+      tree = renumbered g .tree;
+    }
+
+unfoldable pub keepingParents : Lowering
+keepingParents file lent out = do
+  f ← admit file lent
+  checkOutput out (finalFigures f)
+  accepted (record { file = written (oldParents (fileAt (finalSpot f))); figures = finalFigures f })
+
+-- a Block in a Block, the row of the inner one first
+abbrev insideOut : List ℕ
+insideOut = bytes "40:1,0 41:0,16 41:3,0 41:1,0 1:1,1 2:3,1 2:2,0"
+
+abbrev insideOutKept : List ℕ
+insideOutKept = bytes "40:1,0 41:0,16 41:1,0 41:3,0 1:1,1 2:2,1 2:3,0"
+
+abbrev keptWritten : Written
+keptWritten = record { file = insideOutKept; figures = figures 3 3 0 0 49 }
+
+kept-first : keepingParents insideOut (lend 3 3 0) 49 ≡ accepted keptWritten
+unfolding keepingParents computing
+kept-first = refl
+
+kept-lent : lentIn (zeros 21) (zeros 9) (zeros 0) ≡ lend 3 3 0
+unfolding lentIn
+kept-lent = refl
+
+kept-small : small insideOut ≡ true
+unfolding small computing
+kept-small = refl
+
+kept-front : take 49 (writtenOver insideOutKept (zeros 49)) ≡ insideOutKept
+unfolding computing
+kept-front = refl
+
+-- the inner Block stands in scope 2, and its row says 3
+kept-around : getD (enclosingScopes 3 0 (treeIn insideOutKept)) 0 0 ≡ 2
+unfolding treeIn treesFrom recordsOf rowOf fieldsOf fieldsIn numbersIn computing
+kept-around = refl
+
+kept-row : (isRow (length (scopesSaid (fieldsOf insideOutKept))) 3 ≡ true) × (rowAt noScope (scopesSaid (fieldsOf insideOutKept)) 3 .parent ≡ 3)
+unfolding scopesSaid fieldsOf fieldsIn numbersIn computing
+kept-row = (refl, refl)
+
+pub no-old-parents : AgreesInBytes (asRun keepingParents) → ⊥
+no-old-parents agrees =
+    let agree =
+    agrees insideOut (zeros 21) (zeros 9) (zeros 0) (zeros 49) insideOutKept (small-bytes insideOut kept-small)
+    (wrote-by keepingParents insideOut (zeros 21) (zeros 9) (zeros 0) (zeros 49) keptWritten
+    (ap (λ (lent : Lent). keepingParents insideOut lent 49) kept-lent ∙ kept-first) kept-front) in
+    omega (arith, kept-around, kept-row .1, ap (λ (around : List ℕ). getD around 0 0) (agree .rows 3 (kept-row .0)))

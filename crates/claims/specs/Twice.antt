@@ -12,9 +12,8 @@ use lib.Seq.{take-at}
 use Rattle.meaning.specs.Numbers.Mode
 use Rattle.meaning.specs.File.{File, written}
 use Rattle.meaning.specs.Reading.{Outcome, accepted, refused, _>>_, readFile}
-use Rattle.meaning.specs.Walk.{fileAt}
 use Rattle.meaning.specs.Charges.{Figures, finalFigures}
-use Rattle.meaning.specs.Lowering.{Lent, checkMode, checkFile, admit, finalSpot, Written, lower}
+use Rattle.meaning.specs.Lowering.{Lent, checkMode, checkFile, admit, loweredFile, Written, lower}
 use Rattle.spec_laws.specs.Tags.{clash}
 use Rattle.spec_laws.specs.Bools.{and-false}
 use Rattle.spec_laws.specs.Trees.{Bytes}
@@ -25,7 +24,7 @@ use Rattle.start.specs.Filled.{admitted}
 use Rattle.lowering.specs.declared.Lowered.{Lowered}
 use Rattle.lowering.specs.declared.Lowered.the-variants.{Written as WrittenIn, Refused}
 use Rattle.lowering.specs.Lower.{Finished, finished, zerosFor, writtenOver, lowerOf, lowerF}
-use Rattle.lowering.specs.Law.{final-length}
+use Rattle.renumbering_laws.specs.Final.{lowered-length}
 use Rattle.idempotence_laws.specs.Fields.{fieldFigures}
 use Rattle.idempotence_laws.specs.Again.{again-written, again-figures}
 use Rattle.claims.specs.Calls.{file-shows}
@@ -70,9 +69,9 @@ unfolding checkMode
 mode-passes g e = rw (e, and-false (eqb (g .mode) Mode.Inline))
 
 module _ (b : List ℕ) (f : File) (bytes : Bytes b) (read : readFile b ≡ accepted f)
-    (g : File) (again : readFile (written (fileAt (finalSpot f))) ≡ accepted g) where
+    (g : File) (again : readFile (written (loweredFile f)) ≡ accepted g) where
   abbrev file : List ℕ
-  file = written (fileAt (finalSpot f))
+  file = written (loweredFile f)
 
   own : finalFigures g ≡ fieldFigures file
   own = again-figures b f bytes read g again
@@ -118,11 +117,11 @@ lengthSaid (Refused c p) = 0
 
 -- what it wrote
 wrote-file : (b r s y o file : List ℕ) (f : File) → Bytes b → admit b (lentIn r s y) ≡ accepted f
-    → lower b (lentIn r s y) (length o) ≡ accepted (record { file = written (fileAt (finalSpot f)); figures = finalFigures f })
-    → Wrote lowerF b r s y o file → file ≡ written (fileAt (finalSpot f))
+    → lower b (lentIn r s y) (length o) ≡ accepted (record { file = written (loweredFile f); figures = finalFigures f })
+    → Wrote lowerF b r s y o file → file ≡ written (loweredFile f)
 unfolding lowerF
 wrote-file b r s y o file f bytes e w (x, answer, front) =
-    let lowered = written (fileAt (finalSpot f)) in
+    let lowered = written (loweredFile f) in
     let left : lowerF b r s y o ≡ lowerOf (accepted (record { file = lowered; figures = finalFigures f })) r s y o =
     ap (λ (a : Outcome Written). lowerOf a r s y o) w in
     let said : x .bytes ≡ finalFigures f .bytes =
@@ -130,22 +129,27 @@ wrote-file b r s y o file f bytes e w (x, answer, front) =
     front
     ∙ ap (λ (n : ℕ). take n (lowerF b r s y o .out)) said
     ∙ ap (λ (l : Finished). take (finalFigures f .bytes) (l .out)) left
-    ∙ take-at lowered (drop (length lowered) o) (finalFigures f .bytes) (final-length b r s y f bytes e)
+    ∙ take-at lowered (drop (length lowered) o) (finalFigures f .bytes) (lowered-length b f (admitted b r s y f e .0) bytes)
 
 never-wrote : (b r s y o file : List ℕ) (c p : ℕ) → lower b (lentIn r s y) (length o) ≡ refused c p → Wrote lowerF b r s y o file → ⊥
 unfolding lowerF
 never-wrote b r s y o file c p e (x, answer, front) =
     clash (ap (λ (a : Outcome Written). isWritten (lowerOf a r s y o .answer)) e) (ap isWritten answer)
 
+-- WHAT IT WROTE is the lowered file.
+pub wrote-lowered : (b r s y o file : List ℕ) → Bytes b → Wrote lowerF b r s y o file
+    → (f : File) × (readFile b ≡ accepted f) × (file ≡ written (loweredFile f))
+wrote-lowered b r s y o file bytes wrote =
+    ⊎-elim
+    (λ (f, e, long, w). (f, admitted b r s y f e .0, wrote-file b r s y o file f bytes e w wrote))
+    (λ (c, p, e). absurd (never-wrote b r s y o file c p e wrote))
+    (lower-total b (lentIn r s y) (length o))
+
 -- LOWERING TWICE.
 pub lowering-twice : LowersTwice lowerF
 lowering-twice b r s y o file g bytes wrote again =
-    ⊎-elim
-    (λ (f, e, long, w).
-    let is = wrote-file b r s y o file f bytes e w wrote in
-    subst (ToItself lowerF) (sym is) (itself b f bytes (admitted b r s y f e .0) g (subst (λ (x : List ℕ). readFile x ≡ accepted g) is again)))
-    (λ (c, p, e). absurd (never-wrote b r s y o file c p e wrote))
-    (lower-total b (lentIn r s y) (length o))
+    let (f, read, is) = wrote-lowered b r s y o file bytes wrote in
+    subst (ToItself lowerF) (sym is) (itself b f bytes read g (subst (λ (x : List ℕ). readFile x ≡ accepted g) is again))
 
 -- ---- with the memory of the first
 
@@ -154,12 +158,12 @@ abbrev Suffices : List ℕ → List ℕ → List ℕ → List ℕ → List ℕ �
 Suffices r s y o file = Enough (lentIn r s y) (fieldFigures file) × (length file ≤ length o)
 
 first-suffices : (b r s y o : List ℕ) (f : File) → Bytes b → admit b (lentIn r s y) ≡ accepted f → finalFigures f .bytes ≤ length o
-    → Suffices r s y o (written (fileAt (finalSpot f)))
+    → Suffices r s y o (written (loweredFile f))
 unfolding fieldFigures
 first-suffices b r s y o f bytes e long =
     let shown = file-shows b r s y f e bytes in
     let lent = admitted b r s y f e in
-    ((omega (arith, shown, lent), omega (arith, shown, lent), omega (arith, shown, lent)), omega (arith, final-length b r s y f bytes e))
+    ((omega (arith, shown, lent), omega (arith, shown, lent), omega (arith, shown, lent)), omega (arith, lowered-length b f (admitted b r s y f e .0) bytes))
 
 wrote-suffices : (b r s y o file : List ℕ) → Bytes b → Wrote lowerF b r s y o file → Suffices r s y o file
 wrote-suffices b r s y o file bytes wrote =

@@ -22,7 +22,7 @@ fn write_file(out: &[u8], length: u64) {
 
 fn lower(file: &[u8]) {
     let mut records = [0u16; 28672];
-    let mut scopes = [0u16; 2048];
+    let mut scopes = [0u16; 3072];
     let mut symbols = [0u16; 6144];
     let mut out = io::large_buffer();
     let answer = lowering::lower(file, &mut records, &mut scopes, &mut symbols, &mut out);

@@ -59,12 +59,11 @@ module _ (φ : Head → Head) (q : MakesNone φ) where
   mapped-quiet : (f : Forest) → AllQuiet f → AllQuiet (mapped φ f)
   unfolding AllQuiet Quiet mapped
   mapped-quiet none p = tt
-  mapped-quiet (more h k r) p =
-      (
-        rw (q .tag h) ((λ e. mapped-list k (p .0 .0 e)), (λ e. mapped-held k (p .0 .1 e))),
-        mapped-quiet k (p .1),
-        mapped-quiet r (p .2),
-      )
+  mapped-quiet (more h k r) p = (
+    rw (q .tag h) ((λ e. mapped-list k (p .0 .0 e)), (λ e. mapped-held k (p .0 .1 e))),
+    mapped-quiet k (p .1),
+    mapped-quiet r (p .2),
+  )
 
 -- ---- as it is written
 

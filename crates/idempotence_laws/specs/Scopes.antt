@@ -13,7 +13,7 @@ use Rattle.meaning.specs.Grammar.{tagsOf, two, number, fieldOf, symbolRight}
 use Rattle.meaning.specs.Reading.{accepted, symbolsIn, readFile}
 use Rattle.meaning.specs.declared.Place.the-variants.{SymbolRow}
 use Rattle.spec_laws.specs.Tags.{and-left, and-right}
-use Rattle.parsing.specs.Parsed.{FieldAt, RowsAt, SymbolTest}
+use Rattle.parsing.specs.Parsed.{FieldAt}
 use Rattle.parsing.specs.Fields.{only-tag}
 use Rattle.parsing.specs.Files.{file-parsed}
 use Rattle.bound_laws.specs.Numbers.{All}
@@ -35,8 +35,7 @@ rows-scopes : (f : List ℕ) (scopes n at : ℕ) → ((j : ℕ) → j < n → tw
 unfolding symbolsIn
 rows-scopes f scopes zero at each = tt
 rows-scopes f scopes (suc n) at each =
-    let here : at + symbolBytes * 0 + 7 ≡ at + 7 = omega arith in
-    (
+    let here : at + symbolBytes * 0 + 7 ≡ at + 7 = omega arith in (
       rw here at (each 0 (omega arith)),
       rows-scopes f scopes n (at + symbolBytes)
           (λ j l.

@@ -13,13 +13,13 @@ use Rattle.meaning.specs.File.{Scope}
 use Rattle.meaning.specs.Grammar.{isRow, scopeOf, below}
 use Rattle.meaning.specs.Scoping.{rowAt, noScope}
 
+-- the tags of records that always name a scope row
+abbrev pub namers : List ℕ
+namers = Tag.Program ∷ Tag.Block ∷ Tag.For ∷ Tag.ForOf ∷ Tag.Switch ∷ Tag.Catch ∷ Tag.Function ∷ Tag.Class ∷ Tag.StaticBlock ∷ []
+
 -- the record names a scope row: by its tag, and a Plain if its number is not 0
 unfoldable pub namesScope : Head → Bool
-namesScope h =
-    oneOf
-    (Tag.Program ∷ Tag.Block ∷ Tag.For ∷ Tag.ForOf ∷ Tag.Switch ∷ Tag.Catch ∷ Tag.Function ∷ Tag.Class ∷ Tag.StaticBlock ∷ [])
-    (h .tag)
-    || (eqb (h .tag) Tag.Plain && not (eqb (h .a) 0))
+namesScope h = oneOf namers (h .tag) || (eqb (h .tag) Tag.Plain && not (eqb (h .a) 0))
 
 -- For each record that names row s, in file order, the scope around it: that of the innermost record with one, `cur` around the forest, and 0 for
 -- none.

@@ -1,6 +1,6 @@
 -- Numbered in tree order, scope rows agree with the tree as before.
 -- Assumes nothing.
-use mathlib.Core.Path.{_≡_, refl, sym, ap, ap₂, subst, _∙_}
+use mathlib.Core.Path.{_≡_, refl, sym, ap, ap₂, _∙_}
 use mathlib.Core.Bool.{Bool, true, false, not, _&&_, _||_}
 use mathlib.Core.List.{List, [], _∷_, _++_, map}
 use Prim.Native.Nat.{ℕ, zero, suc, _+_, _≤_, _<_}
@@ -13,26 +13,23 @@ use Rattle.meaning.specs.Tree.{if_then_else_, oneOf, Head, hd, Forest, none, mo
 use Rattle.meaning.specs.File.{Scope, File}
 use Rattle.meaning.specs.Grammar.{scopeFirst, isRow, scopeOf, below}
 use Rattle.meaning.specs.Scoping.{rowAt, noScope}
-use Rattle.meaning.specs.Agreement.{namesScope, enclosingScopes, ScopesAgree}
+use Rattle.meaning.specs.Agreement.{namers, namesScope, enclosingScopes, ScopesAgree}
 use Rattle.meaning.specs.Renumbering.{scopeNamed, namedScopes, placeFrom, newNumber, withScope, renumberedTree, renumberedScope, renumbered}
 use Rattle.spec_laws.specs.Tags.{clash, and-right}
 use Rattle.bound_laws.specs.Numbers.{All}
 use Rattle.renumbering_laws.specs.Heads.{with-tag, scope-first, scope-with}
 use Rattle.renumbering_laws.specs.Order.{upFrom, places-up}
 use Rattle.renumbering_laws.specs.Trees.{some, all-split, map-++}
-use Rattle.renumbering_laws.specs.Named.{named-once, named-length, named-rows, no-zero, new-row, new-most, one-to-one}
+use Rattle.renumbering_laws.specs.Named.{named-once, named-length, named-rows, no-zero, new-row, one-to-one}
 use Rattle.renumbering_laws.specs.Files.{all-same, renumbered-scopes}
 
 -- ---- the record that names a scope, told by its scope
 
-abbrev namers : List ℕ
-namers = Tag.Program ∷ Tag.Block ∷ Tag.For ∷ Tag.ForOf ∷ Tag.Switch ∷ Tag.Catch ∷ Tag.Function ∷ Tag.Class ∷ Tag.StaticBlock ∷ []
-
 -- by its tag, and whether the number is 0
-abbrev tells : ℕ → Bool → Bool
+abbrev pub tells : ℕ → Bool → Bool
 tells t z = oneOf namers t || (eqb t Tag.Plain && not z)
 
-names-told : (h : Head) → namesScope h ≡ tells (h .tag) (eqb (scopeOf h) 0)
+pub names-told : (h : Head) → namesScope h ≡ tells (h .tag) (eqb (scopeOf h) 0)
 unfolding namesScope
 names-told h = ap (λ (b : Bool). oneOf namers (h .tag) || b) (go (eqb (h .tag) Tag.Plain) refl)
   where
@@ -164,8 +161,7 @@ module _ (g : File) (agree : ScopesAgree (g .scopes) (g .tree)) where
     follows : All (λ x. (eqb (new x) (suc j) ≡ eqb x (rowThere j)) × (eqb (new x) 0 ≡ eqb x 0)) order
     follows =
         all-same (λ (x : ℕ). isRow (length ss) x ≡ true) (λ x. (eqb (new x) (suc j) ≡ eqb x (rowThere j)) × (eqb (new x) 0 ≡ eqb x 0)) order
-        (λ x e.
-        (
+        (λ x e. (
           same-test (new x) (suc j) x (rowThere j) (λ q. ap new q ∙ there-new) (λ q. one-to-one ss (g .tree) agree x (rowThere j) e (q ∙ sym there-new)),
           not-zero x e,
         ))
@@ -203,8 +199,7 @@ module _ (g : File) (agree : ScopesAgree (g .scopes) (g .tree)) where
   rooted =
       let items = agree .program .0 in
       let is = agree .program .1 in
-      let first : new 1 ≡ 1 = ap (λ (f : Forest). newNumber (namedScopes f) 1) is ∙ program-first items in
-      (
+      let first : new 1 ≡ 1 = ap (λ (f : Forest). newNumber (namedScopes f) 1) is ∙ program-first items in (
         renumberedTree new items,
         ap (renumberedTree new) is ∙ ap (λ (a : ℕ). one (hd Tag.Program a 0 0) (renumberedTree new items)) first,
       )

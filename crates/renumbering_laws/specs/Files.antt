@@ -3,7 +3,7 @@
 use mathlib.Core.Path.{_≡_, refl, sym, ap, ap₂, _∙_}
 use mathlib.Core.Bool.{true, _&&_}
 use mathlib.Core.List.{List, [], _∷_, _++_, map, append-assoc}
-use Prim.Native.Nat.{ℕ, zero, suc, _+_, _≤_, _<_}
+use Prim.Native.Nat.{ℕ, zero, suc, _+_, _≤_}
 use native.Mathlib.Omega.{arith}
 use lib.ListN.{length, getD, length-map, length-append}
 use borrow.Author.Tests.{le-leb}
@@ -24,7 +24,7 @@ use Rattle.renumbering_laws.specs.Trees.{
   renumbered-named,
   renumbered-same,
 }
-use Rattle.renumbering_laws.specs.Named.{named-once, named-length, named-rows, no-zero, new-most, all-new, named-few, parents-few}
+use Rattle.renumbering_laws.specs.Named.{named-once, named-length, no-zero, new-most, all-new, named-few, parents-few}
 
 -- ---- rows of a list
 

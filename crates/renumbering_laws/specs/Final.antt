@@ -1,16 +1,15 @@
 -- THE FILE THAT LOWERING WRITES: what the last call for a visit leaves, its scopes numbered in tree order.
 -- Assumes nothing.
-use mathlib.Core.Path.{_≡_, sym, ap, _∙_}
+use mathlib.Core.Path.{_≡_, ap, _∙_}
 use mathlib.Core.List.{List}
-use Prim.Native.Nat.{ℕ, _+_, _*_, _≤_}
+use Prim.Native.Nat.{ℕ, _+_, _*_}
 use native.Mathlib.Omega.{arith}
 use lib.ListN.{length}
-use Rattle.meaning.specs.Tree.{Forest}
 use Rattle.meaning.specs.File.{File, written}
 use Rattle.meaning.specs.Reading.{accepted, readFile}
 use Rattle.meaning.specs.Agreement.{ScopesAgree}
 use Rattle.meaning.specs.Renumbering.{namedScopes, newNumber, renumbered}
-use Rattle.meaning.specs.Walk.{visits, start, treeAt, storeAt, fileAt}
+use Rattle.meaning.specs.Walk.{visits, start, fileAt}
 use Rattle.meaning.specs.ImportLine.{completed}
 use Rattle.meaning.specs.Charges.{Figures, figuresIn, figuresAt, finalFigures}
 use Rattle.meaning.specs.Lowering.{finalSpot, loweredFile}

@@ -5,16 +5,16 @@ use mathlib.Core.Bool.{Bool, true, false, _&&_}
 use mathlib.Core.List.{List, [], _∷_, _++_}
 use Prim.Native.Nat.{ℕ, zero, suc, _+_, _≤_, _<_}
 use native.Mathlib.Omega.{arith}
-use lib.ListN.{length, getD, length-append}
+use lib.ListN.{length, length-append}
 use lib.Dec.{eqb, leb}
-use borrow.Author.Tests.{eqb-true, leb-true, leb-false, le-leb, lt-leb}
-use Rattle.meaning.specs.Tree.{if_then_else_, Head, Forest, none, more}
+use borrow.Author.Tests.{eqb-true, leb-true, le-leb, lt-leb}
+use Rattle.meaning.specs.Tree.{if_then_else_, Forest, none, more}
 use Rattle.meaning.specs.File.{Scope}
 use Rattle.meaning.specs.Grammar.{isRow, scopeOf, below}
 use Rattle.meaning.specs.Scoping.{rowAt, noScope}
 use Rattle.meaning.specs.Agreement.{namesScope, enclosingScopes, ScopesAgree}
 use Rattle.meaning.specs.Renumbering.{scopeNamed, namedScopes, newNumber}
-use Rattle.spec_laws.specs.Tags.{clash, and-left, and-right}
+use Rattle.spec_laws.specs.Tags.{clash, and-right}
 use Rattle.bound_laws.specs.Numbers.{All, all-++}
 use Rattle.agreement_laws.specs.Demands.{no-scope}
 use Rattle.renumbering_laws.specs.Order.{oneIf, occurs, occurs-++, place-none, place-some, place-one, place-most, rows-only, once-each}

@@ -17,7 +17,7 @@ use Rattle.bound_laws.specs.Numbers.{All, TreeWithin}
 use Rattle.hint_laws.specs.Hints.{ofSource, given}
 use Rattle.readback_laws.specs.ReadBack.{Tagged}
 use Rattle.readback_laws.specs.Mapped.{mapped, mapped-gives}
-use Rattle.readback_laws.specs.Back.{plainHead, plain, Childless}
+use Rattle.readback_laws.specs.Back.{plain, Childless}
 use Rattle.readback_laws.specs.Loads.Contexts.{loadOf, loads}
 use Rattle.renumbering_laws.specs.Heads.{with-tag, scope-with, with-own, named-with, with-within, scope-plain, renumbering-keeps}
 

@@ -1,1 +1,1 @@
-// Theorems, no code: the scope rows agree with the tree.
+// Theorems, no code: scopes numbered in the order in which the tree names them.

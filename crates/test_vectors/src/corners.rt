@@ -39,7 +39,7 @@ fn show_refusal(number: u8, place: usize) {
 
 fn show_lowered(file: &[u8]) {
     let mut records = [0u16; 448];
-    let mut scopes = [0u16; 48];
+    let mut scopes = [0u16; 72];
     let mut symbols = [0u16; 96];
     let mut out = [0u8; 724];
     match lowering::lower(file, &mut records, &mut scopes, &mut symbols, &mut out) {

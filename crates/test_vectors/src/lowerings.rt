@@ -61,7 +61,7 @@ fn replay_lent(
     out: &mut [u8],
 ) -> bool {
     let mut records = [0u16; 28679];
-    let mut scopes = [0u16; 2050];
+    let mut scopes = [0u16; 3075];
     let mut symbols = [0u16; 6150];
     if 4096 < r {
         return false;
@@ -77,7 +77,7 @@ fn replay_lent(
         line,
         at,
         &mut records[..(r * 7 + r % 7)],
-        &mut scopes[..(s * 2 + s % 2)],
+        &mut scopes[..(s * 3 + s % 3)],
         &mut symbols[..(y * 6 + y % 6)],
         out,
     )

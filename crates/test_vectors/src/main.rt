@@ -1,6 +1,6 @@
 // Replays vectors, and prints how many agreed; then lowers the files of all vectors twice. A file of data/ is text, read line by line; its form says
-// what a line is (checks.rt, walks.rt, lowerings.rt, corners.rt, twice.rt). A further file is one line more in `replay_scope` or `replay_requests`, and
-// one in the like-named function for lowering twice.
+// what a line is (checks.rt, walks.rt, lowerings.rt, corners.rt, twice.rt). A further file is one line more in `replay_scope`, `replay_requests` or
+// `replay_rows`, and one in the like-named function for lowering twice.
 mod checks;
 mod corners;
 mod lowerings;
@@ -164,8 +164,13 @@ fn replay_requests(room: &mut [u8]) {
     replay(b"letter_visits.txt", Form::Walks, room);
     replay(b"imports.txt", Form::Lowerings, room);
     replay(b"import_visits.txt", Form::Walks, room);
+}
+
+// Those of the requests about the numbers in rows.
+fn replay_rows(room: &mut [u8]) {
     replay(b"counts.txt", Form::Lowerings, room);
     replay(b"count_visits.txt", Form::Walks, room);
+    replay(b"order.txt", Form::Lowerings, room);
 }
 
 // The files of all vectors, lowered twice.
@@ -182,16 +187,22 @@ fn replay_requests_twice(room: &mut [u8]) {
     replay(b"letter_visits.txt", Form::TwiceWalks, room);
     replay(b"imports.txt", Form::TwiceLowerings, room);
     replay(b"import_visits.txt", Form::TwiceWalks, room);
+}
+
+fn replay_rows_twice(room: &mut [u8]) {
     replay(b"counts.txt", Form::TwiceLowerings, room);
     replay(b"count_visits.txt", Form::TwiceWalks, room);
+    replay(b"order.txt", Form::TwiceLowerings, room);
 }
 
 fn replay_all(room: &mut [u8]) {
     replay_scope(room);
     replay_requests(room);
+    replay_rows(room);
     replay(b"corners.txt", Form::Corners, room);
     replay_scope_twice(room);
     replay_requests_twice(room);
+    replay_rows_twice(room);
 }
 
 fn main() {

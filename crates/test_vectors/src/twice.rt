@@ -138,7 +138,7 @@ fn agrees_rows(
 // With so many rows.
 fn agrees_again(first: FinalFigures, file: &[u8], r: usize, s: usize, y: usize) -> bool {
     let mut records = [0u16; 28672];
-    let mut scopes = [0u16; 2048];
+    let mut scopes = [0u16; 3072];
     let mut symbols = [0u16; 6144];
     if 4096 < r {
         return false;
@@ -153,7 +153,7 @@ fn agrees_again(first: FinalFigures, file: &[u8], r: usize, s: usize, y: usize) 
         first,
         file,
         &mut records[..(r * 7)],
-        &mut scopes[..(s * 2)],
+        &mut scopes[..(s * 3)],
         &mut symbols[..(y * 6)],
     )
 }
@@ -177,7 +177,7 @@ fn add_written(first: FinalFigures, file: &[u8], seen: Seen) -> Seen {
 
 fn add_file(file: &[u8], seen: Seen) -> Seen {
     let mut records = [0u16; 28672];
-    let mut scopes = [0u16; 2048];
+    let mut scopes = [0u16; 3072];
     let mut symbols = [0u16; 6144];
     let mut out = io::large_buffer();
     match lowering::lower(file, &mut records, &mut scopes, &mut symbols, &mut out) {

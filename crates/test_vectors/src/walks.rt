@@ -64,7 +64,7 @@ fn replay_states(
 fn replay_file(file: &[u8], text: &[u8], at: usize, seen: Seen) -> Seen {
     let mut tree = io::large_buffer();
     let mut records = [0u16; 3584];
-    let mut scopes = [0u16; 512];
+    let mut scopes = [0u16; 768];
     let mut symbols = [0u16; 1536];
     match states::begin(file, at, seen, &mut records, &mut scopes, &mut symbols) {
         Begun::Walking(first) => replay_states(

@@ -110,7 +110,13 @@ fn put_scopes(out: &mut [u8], scopes: &[u16], numbers: &[u16], records: &[u16], 
     let mut at = SETTINGS_BYTES;
     let mut k: u16 = 0;
     while k < count {
-        at = put_named(out, at, scopes, numbers, tables::row_after(records, RecordId(k)));
+        at = put_named(
+            out,
+            at,
+            scopes,
+            numbers,
+            tables::row_after(records, RecordId(k)),
+        );
         k += 1;
     }
     at
@@ -149,7 +155,13 @@ fn put_symbols(out: &mut [u8], first: usize, symbols: &[u16], numbers: &[u16], c
 {
     let mut k: u16 = 0;
     while k < count {
-        put_symbol(out, first + SYMBOL_BYTES * (k as usize), symbols, numbers, k);
+        put_symbol(
+            out,
+            first + SYMBOL_BYTES * (k as usize),
+            symbols,
+            numbers,
+            k,
+        );
         k += 1;
     }
 }

@@ -11,9 +11,8 @@ use borrow.Author.Tests.{ltb-true, ltb-false, lt-ltb, leb-true, leb-false, le-le
 use Rattle.meaning.specs.Tree.{if_then_else_}
 use Rattle.meaning.specs.File.{File, written}
 use Rattle.meaning.specs.Reading.{Outcome, accepted, refused, _>>=_, _>>_, ensure}
-use Rattle.meaning.specs.Walk.{fileAt}
 use Rattle.meaning.specs.Charges.{Figures, finalFigures}
-use Rattle.meaning.specs.Lowering.{Lent, checkRows, checkOutput, checkFile, admit, admitOutput, finalSpot, Written, lower}
+use Rattle.meaning.specs.Lowering.{Lent, checkRows, checkOutput, checkFile, admit, admitOutput, loweredFile, Written, lower}
 use Rattle.claims.specs.Refusals.Outcomes.{one-of-two, refused-by, taken-refused, first-refused}
 use Rattle.claims.specs.Refusals.Numbers.{check-numbers}
 
@@ -116,7 +115,7 @@ never-nine false out p e = let z : _≡_ {A = ℕ} 10 9 = cc in omega arith
 
 -- a file that is admitted is written
 first-written : (a : Outcome File) (c p : ℕ)
-    → _>>=_ {B = Written} a (λ f. accepted (record { file = written (fileAt (finalSpot f)); figures = finalFigures f })) ≡ refused c p
+    → _>>=_ {B = Written} a (λ f. accepted (record { file = written (loweredFile f); figures = finalFigures f })) ≡ refused c p
     → a ≡ refused c p
 first-written (accepted f) c p e = absurd (taken-refused _ c p e)
 first-written (refused c₀ p₀) c p e = cc
@@ -145,7 +144,7 @@ short-output b lent out f e h = rw (e, lt-leb (finalFigures f .bytes) out h)
 
 -- Any other is written.
 pub enough-output : (b : List ℕ) (lent : Lent) (out : ℕ) (f : File) → admit b lent ≡ accepted f → finalFigures f .bytes ≤ out
-    → lower b lent out ≡ accepted (record { file = written (fileAt (finalSpot f)); figures = finalFigures f })
+    → lower b lent out ≡ accepted (record { file = written (loweredFile f); figures = finalFigures f })
 unfolding lower admitOutput checkOutput
 enough-output b lent out f e h = rw (e, le-leb (finalFigures f .bytes) out h)
 
@@ -159,7 +158,7 @@ not-admitted b lent out c p e = rw e
 abbrev pub Lowers : List ℕ → Lent → ℕ → Type 0
 Lowers b lent out =
     (f : File) × (admit b lent ≡ accepted f) × (finalFigures f .bytes ≤ out)
-    × (lower b lent out ≡ accepted (record { file = written (fileAt (finalSpot f)); figures = finalFigures f }))
+    × (lower b lent out ≡ accepted (record { file = written (loweredFile f); figures = finalFigures f }))
 
 abbrev pub Refuses : List ℕ → Lent → ℕ → Type 0
 Refuses b lent out = (c : ℕ) × (p : ℕ) × (lower b lent out ≡ refused c p)

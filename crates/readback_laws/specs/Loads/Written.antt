@@ -12,27 +12,7 @@ use Rattle.meaning.specs.Mentions.{mentions}
 use Rattle.meaning.specs.File.{File, written}
 use Rattle.meaning.specs.Scoping.{Store}
 use Rattle.meaning.specs.Reading.{accepted, readFile}
-use Rattle.meaning.specs.Walk.{
-  enter,
-  leave,
-  Crumb,
-  crumb,
-  Spot,
-  at,
-  leaving,
-  over,
-  currentScope,
-  hoistScope,
-  settle,
-  visit,
-  visits,
-  storeOf,
-  start,
-  plug,
-  treeAt,
-  storeAt,
-  fileAt,
-}
+use Rattle.meaning.specs.Walk.{enter, leave, Crumb, crumb, Spot, at, leaving, over, currentScope, hoistScope, settle, visit, visits, storeOf, start, plug, treeAt, storeAt}
 use Rattle.meaning.specs.ImportLine.{withImport, completed}
 use Rattle.meaning.specs.Charges.{Figures, finalFigures}
 use Rattle.meaning.specs.Lowering.{lastSpot, finalSpot}

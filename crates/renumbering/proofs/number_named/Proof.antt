@@ -2,7 +2,6 @@
 use mathlib.Core.Path.{_≡_, refl, _∙_}
 use Prim.Native.Nat.{_+_, _-_, _≤_}
 use native.Mathlib.Nat.{sub-zero}
-use native.Mathlib.Omega.{arith}
 use lib.ListN.{length}
 use Rattle.renumbering.specs.Numbers.{namedIn, numbersF}
 use Rattle.renumbering.proofs.Laws.{named-turn, named-last, named-more}
