@@ -58,6 +58,7 @@ pub fn figures(file: &[u8]) -> Result<Figures, Refusal> {
 }
 
 /// Lowers a tree file into the front of `output`: refusals 1 to 10, which change nothing. An accepted lowering leaves the tables all 0.
+/// The written file numbers its scopes in the order in which its tree names them, whatever numbers the source had.
 /// What it wrote, if [`check`] accepts it, comes out of a second lowering unchanged, with 0 contexts; [`check`] refuses it if it now has more
 /// than 64 levels or 65,535 bytes.
 pub fn lower(file: &[u8], tables: Tables, output: &mut [u8]) -> Result<Figures, Refusal> {

@@ -464,8 +464,8 @@ tree-order = in-tree-order
 pub written-scopes-agree : AgreesInBytes lowerF
 written-scopes-agree = agrees-in-bytes
 
--- What is written is what the last call leaves, with new numbers for the scopes (`loweredFile`, `renumbered`). They are one to one: each row of what
--- is left gets the number of a row, and no two get the same.
+-- What is written is what the last call leaves, with new numbers for the scopes (`loweredFile`, `renumbered`). The k-th scope that the
+-- tree names gets k, and they are one to one: each row of what is left gets the number of a row, and no two get the same.
 pub renumbering-one-to-one : (bytes : List ℕ) (f : File) → readFile bytes ≡ accepted f → OneToOne (fileAt (finalSpot f))
 renumbering-one-to-one = final-one-to-one
 

@@ -3,7 +3,7 @@
 use mathlib.Core.Path.{_≡_, refl, sym, ap, ap₂, subst, _∙_}
 use mathlib.Core.Bool.{Bool, true, _&&_}
 use mathlib.Core.List.{List, [], _∷_, _++_, map, append-assoc, append-nil}
-use Prim.Native.Nat.{ℕ, suc, _≤_}
+use Prim.Native.Nat.{ℕ, suc, _-_, _≤_}
 use native.Mathlib.Omega.{arith}
 use lib.ListN.{length, getD}
 use lib.Dec.{eqb}
@@ -27,7 +27,7 @@ use Rattle.readback_laws.specs.Mapped.{mapped}
 use Rattle.readback_laws.specs.Back.{plainHead, plain, tree-back}
 use Rattle.renumbering_laws.specs.Heads.{scope-plain}
 use Rattle.renumbering_laws.specs.Order.{upFrom}
-use Rattle.renumbering_laws.specs.Named.{new-row, new-most, one-to-one}
+use Rattle.renumbering_laws.specs.Named.{new-place, new-row, new-most, one-to-one}
 use Rattle.renumbering_laws.specs.Files.{renumbered-scopes, in-order, already-ordered}
 use Rattle.renumbering_laws.specs.Agree.{tells, names-told, renumbered-agrees}
 use Rattle.renumbering_laws.specs.Final.{final-agrees, final-scopes, lowered-figures, lowered-tagged, lowered-childless, lowered-order}
@@ -53,8 +53,9 @@ abbrev pub AgreesInBytes : Run → Type 0
 AgreesInBytes run =
     (bytes r s y o file : List ℕ) → Bytes bytes → Wrote run bytes r s y o file → ScopesAgree (scopesSaid (fieldsOf file)) (treeIn file)
 
--- The new numbers of the scopes of a file: a row's is a row's, and no other's.
+-- The new numbers of the scopes of a file: the k-th scope that its tree names gets k; a row's is a row's, and no other's.
 pub record OneToOne (g : File) : Type 0 where
+  pub place : (s : ℕ) → isRow (length (g .scopes)) s ≡ true → getD (namedScopes (g .tree)) (newNumber (namedScopes (g .tree)) s - 1) 0 ≡ s
   pub rows : (s : ℕ) → isRow (length (g .scopes)) s ≡ true → isRow (length (g .scopes)) (newNumber (namedScopes (g .tree)) s) ≡ true
   pub different : (s t : ℕ) → isRow (length (g .scopes)) s ≡ true
       → newNumber (namedScopes (g .tree)) s ≡ newNumber (namedScopes (g .tree)) t → s ≡ t
@@ -150,6 +151,7 @@ module _ (b : List ℕ) (f : File) (read : readFile b ≡ accepted f) where
   pub final-one-to-one : OneToOne left
   final-one-to-one =
       record {
+        place = new-place (left .scopes) (left .tree) (final-agrees b f read);
         rows = new-row (left .scopes) (left .tree) (final-agrees b f read);
         different = one-to-one (left .scopes) (left .tree) (final-agrees b f read);
       }

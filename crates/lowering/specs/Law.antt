@@ -48,8 +48,7 @@ use Rattle.charge_laws.specs.Fit.Import.{some-records}
 use Rattle.path.specs.Path.{Tables, tables}
 use Rattle.import_line.specs.Import.{completeIn}
 use Rattle.readback_laws.specs.ReadBack.{Tagged}
-use Rattle.readback_laws.specs.Accepted.{calls-tagged}
-use Rattle.renumbering_laws.specs.Final.{final-agrees, lowered-length}
+use Rattle.renumbering_laws.specs.Final.{final-agrees, final-tagged, lowered-length}
 use Rattle.lowering.specs.Lower.{finished, zerosFor, writtenOver, lowerOf, lowerF}
 use Rattle.walk.specs.Over.{until-over}
 use Rattle.lowering.specs.Flat.{admitBy, runF, countVisitedF, bytesIn, finishF, lowerBy}
@@ -96,10 +95,6 @@ module _ (b r s y : List ℕ) (f : File) (bytes : Bytes b) (e : admit b (lentIn 
 
   read : readFile b ≡ accepted f
   read = admitted b r s y f e .0
-
-  final-tagged : Tagged (treeAt (finalSpot f))
-  unfolding finalSpot
-  final-tagged = rw (last-spot f) (calls-tagged b f n bytes read)
 
   small : min (x .records) 65535 ≡ x .records
   small = omega (arith, accepted-fits b f read)
@@ -175,7 +170,7 @@ module _ (b r s y : List ℕ) (f : File) (bytes : Bytes b) (e : admit b (lentIn 
       ∙ ap (λ (q : Tables). sets o 0 (bytesIn q)) counted-tables
       ∙ ap (sets o 0)
       (over-bytes x (zerosBefore f r s y) (length y - countsAt y) (length s - ScopeTable.Numbers * x .scopes) (finalSpot f) (final-over b f read)
-      final-tagged (final-agrees b f read) (placed b r s y f e) (omega (arith, all-symbols)) few all-scopes refl scopes-lent)
+      (final-tagged b f read bytes) (final-agrees b f read) (placed b r s y f e) (omega (arith, all-symbols)) few all-scopes refl scopes-lent)
       ∙ sets-front (written (loweredFile f)) o (omega (arith, lowered-length b f read bytes)))
 
 -- ---- the answer

@@ -80,7 +80,7 @@ module _ (b : List ℕ) (f : File) (read : readFile b ≡ accepted f) where
       )
 
   module _ (bytes : Bytes b) where
-    final-tagged : Tagged (left .tree)
+    pub final-tagged : Tagged (left .tree)
     unfolding fileAt
     final-tagged = rw final-spot (calls-tagged b f n bytes read)
 

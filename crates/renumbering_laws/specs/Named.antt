@@ -3,9 +3,9 @@
 use mathlib.Core.Path.{_≡_, refl, ap, ap₂, subst, _∙_}
 use mathlib.Core.Bool.{Bool, true, false, _&&_}
 use mathlib.Core.List.{List, [], _∷_, _++_}
-use Prim.Native.Nat.{ℕ, zero, suc, _+_, _≤_, _<_}
+use Prim.Native.Nat.{ℕ, zero, suc, _-_, _≤_, _<_}
 use native.Mathlib.Omega.{arith}
-use lib.ListN.{length, length-append}
+use lib.ListN.{length, getD, length-append}
 use lib.Dec.{eqb, leb}
 use borrow.Author.Tests.{eqb-true, leb-true, le-leb, lt-leb}
 use Rattle.meaning.specs.Tree.{if_then_else_, Forest, none, more}
@@ -17,7 +17,7 @@ use Rattle.meaning.specs.Renumbering.{scopeNamed, namedScopes, newNumber}
 use Rattle.spec_laws.specs.Tags.{clash, and-right}
 use Rattle.bound_laws.specs.Numbers.{All, all-++}
 use Rattle.agreement_laws.specs.Demands.{no-scope}
-use Rattle.renumbering_laws.specs.Order.{oneIf, occurs, occurs-++, place-none, place-some, place-one, place-most, rows-only, once-each}
+use Rattle.renumbering_laws.specs.Order.{oneIf, occurs, occurs-++, place-none, place-some, place-there, place-one, place-most, rows-only, once-each}
 use Rattle.renumbering_laws.specs.Trees.{all-split}
 
 -- ---- names, counted
@@ -140,6 +140,10 @@ module _ (ss : List Scope) (tree : Forest) (agree : ScopesAgree ss tree) where
   -- ONE TO ONE: the new number of a row is a row's, and no other's.
   pub new-row : (s : ℕ) → isRow (length ss) s ≡ true → isRow (length ss) (newNumber order s) ≡ true
   new-row s e = ap₂ _&&_ (le-leb 1 _ (place-some s 1 order (row-named s e))) (le-leb _ (length ss) (new-most s))
+
+  -- the k-th scope that the tree names gets k
+  pub new-place : (s : ℕ) → isRow (length ss) s ≡ true → getD order (newNumber order s - 1) 0 ≡ s
+  new-place s e = place-there s 1 order (row-named s e)
 
   pub one-to-one : (s t : ℕ) → isRow (length ss) s ≡ true → newNumber order s ≡ newNumber order t → s ≡ t
   one-to-one s t e d = place-one s t 1 order (omega arith) (row-named s e) d

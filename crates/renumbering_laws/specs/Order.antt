@@ -3,9 +3,9 @@
 use mathlib.Core.Path.{_≡_, refl, sym, ap, ap₂, _∙_}
 use mathlib.Core.Bool.{Bool, true, false, _&&_}
 use mathlib.Core.List.{List, [], _∷_, _++_, map}
-use Prim.Native.Nat.{ℕ, zero, suc, _+_, _≤_, _<_}
+use Prim.Native.Nat.{ℕ, zero, suc, _+_, _-_, _≤_, _<_}
 use native.Mathlib.Omega.{arith}
-use lib.ListN.{length}
+use lib.ListN.{length, getD}
 use lib.Dec.{eqb, leb}
 use borrow.Author.Tests.{eqb-true, eqb-false, eq-eqb, ne-eqb, leb-true, le-leb}
 use Rattle.meaning.specs.Tree.{if_then_else_}
@@ -69,6 +69,20 @@ place-late t k (x ∷ xs) l = go (eqb x t) l (place-late t (suc k) xs)
         → (if b then k else placeFrom (suc k) xs t) ≡ 0
     go true l rest = absurd (omega arith)
     go false l rest = rest (omega arith)
+
+-- the number stands at its place
+pub place-there : (s k : ℕ) (xs : List ℕ) → 1 ≤ occurs s xs → getD xs (placeFrom k xs s - k) 0 ≡ s
+unfolding occurs placeFrom
+place-there s k [] l = absurd (omega arith)
+place-there s k (x ∷ xs) l = go (eqb x s) refl l (place-there s (suc k) xs) (place-some s (suc k) xs)
+  where
+    go : (b : Bool) → eqb x s ≡ b → 1 ≤ oneIf b + occurs s xs → (1 ≤ occurs s xs → getD xs (placeFrom (suc k) xs s - suc k) 0 ≡ s)
+        → (1 ≤ occurs s xs → suc k ≤ placeFrom (suc k) xs s) → getD (x ∷ xs) ((if b then k else placeFrom (suc k) xs s) - k) 0 ≡ s
+    go true e l rest late = let here : k - k ≡ 0 = omega arith in rw here (eqb-true x s e)
+    go false e l rest late =
+        let some : 1 ≤ occurs s xs = omega arith in
+        let behind : placeFrom (suc k) xs s - k ≡ suc (placeFrom (suc k) xs s - suc k) = omega (arith, late some) in
+        rw behind (rest some)
 
 -- NO TWO NUMBERS HAVE ONE PLACE.
 pub place-one : (s t k : ℕ) (xs : List ℕ) → 1 ≤ k → 1 ≤ occurs s xs → placeFrom k xs s ≡ placeFrom k xs t → s ≡ t
