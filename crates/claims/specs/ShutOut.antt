@@ -1246,3 +1246,37 @@ no-old-parents agrees =
     (wrote-by keepingParents insideOut (zeros 21) (zeros 9) (zeros 0) (zeros 49) keptWritten
     (ap (λ (lent : Lent). keepingParents insideOut lent 49) kept-lent ∙ kept-first) kept-front) in
     omega (arith, kept-around, kept-row .1, ap (λ (around : List ℕ). getD around 0 0) (agree .rows 3 (kept-row .0)))
+
+-- ---- symbols that keep the old numbers of their scopes (excluded by `lowering-is-01`)
+
+abbrev oldSymbols : File → File
+oldSymbols g =
+    record {
+      mode = g .mode;
+      isModule = g .isModule;
+      scopes = renumbered g .scopes;
+      symbols = g .symbols;
+      tree = renumbered g .tree;
+    }
+
+unfoldable pub keepingSymbols : Lowering
+keepingSymbols file lent out = do
+  f ← admit file lent
+  checkOutput out (finalFigures f)
+  accepted (record { file = written (oldSymbols (fileAt (finalSpot f))); figures = finalFigures f })
+
+-- a symbol in the inner of two Blocks, whose row stands first
+abbrev innerSymbol : List ℕ
+innerSymbol = bytes "40:1,0 41:0,16 41:3,0 41:1,0 42:10,6,2,0,0 1:1,1 2:3,1 2:2,0"
+
+-- the number of its scope, of which the low byte is behind 36 others, is 2 still, and 3 by 02
+symbol-kept : getD (bytesOf (on keepingSymbols innerSymbol)) 36 0 ≡ 2
+unfolding keepingSymbols computing
+symbol-kept = refl
+
+symbol-follows : getD (bytesOf (on lower innerSymbol)) 36 0 ≡ 3
+unfolding computing
+symbol-follows = refl
+
+pub no-old-symbols : keepingSymbols ≡ lower → ⊥
+no-old-symbols e = omega (arith, symbol-kept, symbol-follows, ap (λ (l : Lowering). getD (bytesOf (on l innerSymbol)) 36 0) e)
