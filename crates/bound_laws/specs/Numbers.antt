@@ -78,12 +78,12 @@ pub all-++ : {X : Type 0} (P : X → Type 0) (xs ys : List X) → All P xs → A
 all-++ P [] ys p q = q
 all-++ P (x ∷ xs) ys p q = (p .0, all-++ P xs ys (p .1) q)
 
-all-getD : {X : Type 0} (P : X → Type 0) (d : X) (xs : List X) (i : ℕ) → P d → All P xs → P (getD xs i d)
+pub all-getD : {X : Type 0} (P : X → Type 0) (d : X) (xs : List X) (i : ℕ) → P d → All P xs → P (getD xs i d)
 all-getD P d [] i e p = e
 all-getD P d (x ∷ xs) zero e p = p .0
 all-getD P d (x ∷ xs) (suc i) e p = all-getD P d xs i e (p .1)
 
-all-row : {X : Type 0} (P : X → Type 0) (d : X) (xs : List X) (i : ℕ) → P d → All P xs → P (rowAt d xs i)
+pub all-row : {X : Type 0} (P : X → Type 0) (d : X) (xs : List X) (i : ℕ) → P d → All P xs → P (rowAt d xs i)
 all-row P d xs zero e p = e
 all-row P d xs (suc i) e p = all-getD P d xs i e p
 

@@ -2,7 +2,7 @@
 -- Assumes nothing.
 use mathlib.Core.Path.{_≡_, refl, sym, ap, ap₂, _∙_}
 use mathlib.Core.Bool.{Bool, true, false}
-use mathlib.Core.List.{List, [], _∷_, _++_, map, append-assoc}
+use mathlib.Core.List.{List, [], _∷_, _++_, map, append-assoc, map-append}
 use Prim.Native.Nat.{ℕ, zero, suc, _+_, _*_, _-_, _/_, _%_, _≤_, _<_}
 use native.Mathlib.Omega.{arith}
 use lib.ListN.{length, getD, take, drop, replicate}
@@ -227,17 +227,13 @@ tree-is (more h k r) q =
     ap₂ _++_ (record-is h (count k) (q .0))
     (bytes-++ (rowsOf k) (rowsOf r) ∙ (ap₂ _++_ (tree-is k (q .1)) (tree-is r (q .2)) ∙ sym (fields-++ (flatten k) (flatten r))))
 
-map-++ : (g : Row → Row) (rs qs : List Row) → map g (rs ++ qs) ≡ map g rs ++ map g qs
-map-++ g [] qs = refl
-map-++ g (r ∷ rs) qs = ap (_∷_ (g r)) (map-++ g rs qs)
-
 -- the rows of a tree, numbered anew, are those of the tree numbered anew
 rows-renumbered : (new : ℕ → ℕ) (f : Forest) → map (renumberedRow new) (rowsOf f) ≡ rowsOf (renumberedTree new f)
 unfolding rowsOf renumberedTree renumberedRow withScopeF
 rows-renumbered new none = refl
 rows-renumbered new (more h k r) =
     ap₂ _∷_ (ap (line (withScope h (new (scopeOf h)))) (sym (renumbered-count new k)))
-    (map-++ (renumberedRow new) (rowsOf k) (rowsOf r) ∙ ap₂ _++_ (rows-renumbered new k) (rows-renumbered new r))
+    (map-append (renumberedRow new) (rowsOf k) (rowsOf r) ∙ ap₂ _++_ (rows-renumbered new k) (rows-renumbered new r))
 
 -- ---- the file
 

@@ -6,7 +6,7 @@ use mathlib.Core.List.{List, [], _∷_, _++_}
 use Prim.Native.Nat.{ℕ, zero, suc, _+_, _-_, _≤_, _<_}
 use native.Mathlib.Omega.{arith}
 use lib.Dec.{eqb, leb}
-use lib.ListN.{length, getD, set, replicate, length-set, length-replicate}
+use lib.ListN.{length, getD, set, replicate, length-set, length-replicate, getD-replicate, List·getD-eq-default}
 use lib.Seq.{getD-set-same, getD-set-other}
 use borrow.Author.Tests.{eqb-true, eqb-false, ne-eqb, leb-true, leb-false}
 use Rattle.meaning.specs.Tree.{if_then_else_, Head}
@@ -88,16 +88,6 @@ module _ (s : ℕ) (some : 1 ≤ s) where
       numbers-at xs (suc v) (numberF t x v) (omega (arith, number-length t x v)) (omega arith)
       ∙ next-number t x v (placeFrom (suc v) xs s) (eqb x s) in-table l refl
 
-zeros-at : (n i : ℕ) → getD {A = ℕ} (replicate n 0) i 0 ≡ 0
-zeros-at zero i = refl
-zeros-at (suc n) zero = refl
-zeros-at (suc n) (suc i) = zeros-at n i
-
-past-end : (t : List ℕ) (i : ℕ) → length t ≤ i → getD t i 0 ≡ 0
-past-end [] i l = refl
-past-end (x ∷ t) zero l = absurd (omega arith)
-past-end (x ∷ t) (suc i) l = past-end t i (omega arith)
-
 pub numbers-length : (order : List ℕ) (v : ℕ) (t : List ℕ) → length (numbersF v order t) ≡ length t
 unfolding numbersF
 numbers-length [] v t = refl
@@ -112,14 +102,14 @@ module _ (order : List ℕ) (n : ℕ) (no-zero : newNumber order 0 ≡ 0) (no-mo
   unfolding numberIn
   in-column s some few =
       let e = there-is s some in
-      let z = zeros-at n (s - 1) in
+      let z = getD-replicate {A = ℕ} n (s - 1) 0 0 (omega arith) in
       numbers-at s some order 1 (replicate n 0) (omega (arith, length-replicate {A = ℕ} n 0)) (omega arith) ∙ rw (e, z)
 
   behind-column : (s : ℕ) → n < s → numberIn column s ≡ 0
   unfolding numberIn
   behind-column s l =
       let e = there-is s (omega arith) in
-      rw e (past-end column (s - 1) (omega (arith, numbers-length order 1 (replicate n 0), length-replicate {A = ℕ} n 0)))
+      rw e (List·getD-eq-default column 0 (omega (arith, numbers-length order 1 (replicate n 0), length-replicate {A = ℕ} n 0)))
 
   by-place : (j : ℕ) (b : Bool) → leb (suc j) n ≡ b → numberIn column (suc j) ≡ newNumber order (suc j)
   by-place j true e = in-column (suc j) (omega arith) (leb-true (suc j) n e)

@@ -2,7 +2,7 @@
 -- Assumes nothing.
 use mathlib.Core.Path.{_≡_, refl, sym, ap, ap₂, _∙_}
 use mathlib.Core.Bool.{Bool, true, false, not, _&&_, _||_}
-use mathlib.Core.List.{List, [], _∷_, _++_, map}
+use mathlib.Core.List.{List, [], _∷_, _++_, map, map-append}
 use Prim.Native.Nat.{ℕ, zero, suc, _+_, _≤_, _<_}
 use native.Mathlib.Omega.{arith}
 use lib.ListN.{length, getD, List·getD-map}
@@ -19,7 +19,7 @@ use Rattle.spec_laws.specs.Tags.{clash, and-right}
 use Rattle.bound_laws.specs.Numbers.{All}
 use Rattle.renumbering_laws.specs.Heads.{with-tag, scope-first, scope-with}
 use Rattle.renumbering_laws.specs.Order.{upFrom, places-up}
-use Rattle.renumbering_laws.specs.Trees.{some, all-split, map-++}
+use Rattle.renumbering_laws.specs.Trees.{some, all-split}
 use Rattle.renumbering_laws.specs.Named.{named-once, named-length, named-rows, no-zero, new-row, one-to-one}
 use Rattle.renumbering_laws.specs.Files.{all-same, renumbered-scopes}
 
@@ -88,7 +88,7 @@ module _ (new : ℕ → ℕ) (zero-stays : new 0 ≡ 0) (s t : ℕ) (zeros : eqb
       ∙ joined (if namesScope h && eqb x s then cur ∷ [] else []) (enclosingScopes s (below cur x) k) (enclosingScopes s cur r)
     where
       joined : (xs ys zs : List ℕ) → map new xs ++ (map new ys ++ map new zs) ≡ map new (xs ++ (ys ++ zs))
-      joined xs ys zs = rw (map-++ new xs (ys ++ zs), map-++ new ys zs)
+      joined xs ys zs = rw (map-append new xs (ys ++ zs), map-append new ys zs)
 
 -- ---- rows, by their new numbers
 

@@ -3,9 +3,10 @@
 use mathlib.Core.Path.{_≡_, refl, sym, ap, ap₂, _∙_}
 use mathlib.Core.Bool.{true, _&&_}
 use mathlib.Core.List.{List, [], _∷_, _++_, map, append-assoc}
-use Prim.Native.Nat.{ℕ, zero, suc, _+_, _≤_}
+use Prim.Native.Nat.{ℕ, suc, _+_, _≤_}
 use native.Mathlib.Omega.{arith}
-use lib.ListN.{length, getD, length-map, length-append}
+use lib.ListN.{length, length-map, length-append}
+use lib.Seq.{getD-append-seam}
 use borrow.Author.Tests.{le-leb}
 use Rattle.meaning.specs.File.{Scope, scopeRow, Symbol, File}
 use Rattle.meaning.specs.Grammar.{isRow}
@@ -13,7 +14,7 @@ use Rattle.meaning.specs.Scoping.{rowAt, noScope}
 use Rattle.meaning.specs.Agreement.{ScopesAgree}
 use Rattle.meaning.specs.Renumbering.{namedScopes, newNumber, renumberedScope, renumberedSymbol, renumbered}
 use Rattle.meaning.specs.Charges.{figures, figuresIn}
-use Rattle.bound_laws.specs.Numbers.{All, ScopeWithin, SymbolWithin}
+use Rattle.bound_laws.specs.Numbers.{All, ScopeWithin, SymbolWithin, all-row}
 use Rattle.readback_laws.specs.InBytes.{Small}
 use Rattle.renumbering_laws.specs.Order.{upFrom, places-up, up-keeps}
 use Rattle.renumbering_laws.specs.Trees.{
@@ -31,15 +32,6 @@ use Rattle.renumbering_laws.specs.Named.{named-once, named-length, no-ze
 all-map : {X Y : Type 0} (P : X → Type 0) (Q : Y → Type 0) (g : X → Y) (xs : List X) → ((x : X) → P x → Q (g x)) → All P xs → All Q (map g xs)
 all-map P Q g [] q p = tt
 all-map P Q g (x ∷ xs) q p = (q x (p .0), all-map P Q g xs q (p .1))
-
-all-getD : {X : Type 0} (P : X → Type 0) (d : X) (xs : List X) (i : ℕ) → P d → All P xs → P (getD xs i d)
-all-getD P d [] i e p = e
-all-getD P d (x ∷ xs) zero e p = p .0
-all-getD P d (x ∷ xs) (suc i) e p = all-getD P d xs i e (p .1)
-
-all-row : {X : Type 0} (P : X → Type 0) (d : X) (xs : List X) (i : ℕ) → P d → All P xs → P (rowAt d xs i)
-all-row P d xs zero e p = e
-all-row P d xs (suc i) e p = all-getD P d xs i e p
 
 pub all-same : {X : Type 0} (P Q : X → Type 0) (xs : List X) → ((x : X) → P x → Q x) → All P xs → All Q xs
 all-same P Q [] q p = tt
@@ -103,10 +95,6 @@ scope-same : (new : ℕ → ℕ) (ss : List Scope) (s : ℕ) → new (rowAt noSc
 unfolding renumberedScope
 scope-same new ss s e = ap (λ (p : ℕ). scopeRow p (rowAt noScope ss s .flags)) e
 
-row-behind : (before : List Scope) (s : Scope) (after : List Scope) → getD (before ++ s ∷ after) (length before) noScope ≡ s
-row-behind [] s after = refl
-row-behind (x ∷ before) s after = row-behind before s after
-
 -- the rows behind some others, in their order
 scopes-same : (new : ℕ → ℕ) (before after : List Scope)
     → ((s : ℕ) → isRow (length (before ++ after)) s ≡ true → new (rowAt noScope (before ++ after) s .parent) ≡ rowAt noScope (before ++ after) s .parent)
@@ -120,7 +108,7 @@ scopes-same new before (s ∷ after) keeps =
     let next : before ++ s ∷ after ≡ (before ++ s ∷ []) ++ after = sym (append-assoc before (s ∷ []) after) in
     let count : length (before ++ s ∷ []) ≡ suc (length before) = omega (arith, length-append before (s ∷ [])) in
     let rest = scopes-same new (before ++ s ∷ []) after (rw next at keeps) in
-    ap₂ _∷_ (scope-same new all (suc (length before)) (keeps (suc (length before)) row) ∙ row-behind before s after)
+    ap₂ _∷_ (scope-same new all (suc (length before)) (keeps (suc (length before)) row) ∙ getD-append-seam before s after noScope)
     (rw (← next, count) at rest)
 
 symbols-same : (new : ℕ → ℕ) (ys : List Symbol) → All (λ y. new (y .scope) ≡ y .scope) ys → map (renumberedSymbol new) ys ≡ ys

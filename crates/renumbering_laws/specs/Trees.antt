@@ -2,7 +2,7 @@
 -- Assumes nothing.
 use mathlib.Core.Path.{_≡_, refl, sym, ap, ap₂, _∙_}
 use mathlib.Core.Bool.{Bool, true, false}
-use mathlib.Core.List.{List, [], _∷_, _++_, map}
+use mathlib.Core.List.{List, [], _∷_, _++_, map, map-append}
 use Prim.Native.Nat.{ℕ, suc, _≤_}
 use native.Mathlib.Omega.{arith}
 use lib.Dec.{eqb}
@@ -26,10 +26,6 @@ use Rattle.renumbering_laws.specs.Heads.{with-tag, scope-with, with-own,
 pub all-split : {X : Type 0} (P : X → Type 0) (xs ys : List X) → All P (xs ++ ys) → All P xs × All P ys
 all-split P [] ys p = (tt, p)
 all-split P (x ∷ xs) ys p = let q = all-split P xs ys (p .1) in ((p .0, q .0), q .1)
-
-pub map-++ : (new : ℕ → ℕ) (xs ys : List ℕ) → map new (xs ++ ys) ≡ map new xs ++ map new ys
-map-++ new [] ys = refl
-map-++ new (x ∷ xs) ys = ap (_∷_ (new x)) (map-++ new xs ys)
 
 -- the scope, if it is one
 abbrev pub some : ℕ → List ℕ
@@ -124,7 +120,7 @@ module _ (new : ℕ → ℕ) where
         ∙ joined (some (scopeOf h)) (namedScopes k) (namedScopes r)
       where
         joined : (xs ys zs : List ℕ) → map new xs ++ (map new ys ++ map new zs) ≡ map new (xs ++ (ys ++ zs))
-        joined xs ys zs = rw (map-++ new xs (ys ++ zs), map-++ new ys zs)
+        joined xs ys zs = rw (map-append new xs (ys ++ zs), map-append new ys zs)
 
     -- numbers that stay leave the tree as it is
     same-head : (h : Head) (b : Bool) → eqb (scopeOf h) 0 ≡ b → All (λ s. new s ≡ s) (if b then [] else scopeOf h ∷ [])
