@@ -1131,12 +1131,16 @@ no-importing-again twice =
 
 -- ---- scopes numbered in the order of making (excluded by `tree-order`)
 
--- what the walk leaves as it stands: the scopes that it made have the last numbers
-unfoldable pub asMade : Lowering
-asMade file lent out = do
+-- what the last call leaves, written in some other form
+abbrev writingAs : (File → File) → Lowering
+writingAs form file lent out = do
   f ← admit file lent
   checkOutput out (finalFigures f)
-  accepted (record { file = written (fileAt (finalSpot f)); figures = finalFigures f })
+  accepted (record { file = written (form (fileAt (finalSpot f))); figures = finalFigures f })
+
+-- as it stands: the scopes that the walk made have the last numbers
+unfoldable pub asMade : Lowering
+asMade file lent out = writingAs (λ g. g) file lent out
 
 -- a Switch with a using: the Block made around it stands before it in the tree, and its row behind
 abbrev oneCase : List ℕ
@@ -1199,10 +1203,7 @@ oldParents g =
     }
 
 unfoldable pub keepingParents : Lowering
-keepingParents file lent out = do
-  f ← admit file lent
-  checkOutput out (finalFigures f)
-  accepted (record { file = written (oldParents (fileAt (finalSpot f))); figures = finalFigures f })
+keepingParents file lent out = writingAs oldParents file lent out
 
 -- a Block in a Block, the row of the inner one first
 abbrev insideOut : List ℕ
@@ -1260,10 +1261,7 @@ oldSymbols g =
     }
 
 unfoldable pub keepingSymbols : Lowering
-keepingSymbols file lent out = do
-  f ← admit file lent
-  checkOutput out (finalFigures f)
-  accepted (record { file = written (oldSymbols (fileAt (finalSpot f))); figures = finalFigures f })
+keepingSymbols file lent out = writingAs oldSymbols file lent out
 
 -- a symbol in the inner of two Blocks, whose row stands first
 abbrev innerSymbol : List ℕ
