@@ -334,19 +334,19 @@ givenBy l file w = given w (length (fileOf (readFile file) .symbols)) (treeIn (b
 abbrev Hinted : Lowering → List ℕ → Type 0
 Hinted l file = (w : Weight) → givenBy l file w ≡ askedIn file w
 
+-- what the last call leaves, written in some other form
+abbrev writingAs : (File → File) → Lowering
+writingAs form file lent out = do
+  f ← admit file lent
+  checkOutput out (finalFigures f)
+  accepted (record { file = written (form (fileAt (finalSpot f))); figures = finalFigures f })
+
 -- a lowering that changes the lowered tree before it is written
 abbrev withTree : File → Forest → File
 withTree f tree = record { mode = f .mode; isModule = f .isModule; scopes = f .scopes; symbols = f .symbols; tree = tree }
 
 abbrev changing : (List Symbol → Forest → Forest) → Lowering
-changing change file lent out = do
-  f ← admit file lent
-  checkOutput out (finalFigures f)
-  accepted
-      (record {
-        file = written (renumbered (withTree (fileAt (finalSpot f)) (change (fileAt (finalSpot f) .symbols) (fileAt (finalSpot f) .tree))));
-        figures = finalFigures f;
-      })
+changing change file lent out = writingAs (λ g. renumbered (withTree g (change (g .symbols) (g .tree)))) file lent out
 
 -- ---- the letters of two declarations swapped (excluded by `hints`)
 
@@ -1131,14 +1131,7 @@ no-importing-again twice =
 
 -- ---- scopes numbered in the order of making (excluded by `tree-order`)
 
--- what the last call leaves, written in some other form
-abbrev writingAs : (File → File) → Lowering
-writingAs form file lent out = do
-  f ← admit file lent
-  checkOutput out (finalFigures f)
-  accepted (record { file = written (form (fileAt (finalSpot f))); figures = finalFigures f })
-
--- as it stands: the scopes that the walk made have the last numbers
+-- what the last call leaves, as it stands: the scopes that the walk made have the last numbers
 unfoldable pub asMade : Lowering
 asMade file lent out = writingAs (λ g. g) file lent out
 
