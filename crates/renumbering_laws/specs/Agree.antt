@@ -19,9 +19,9 @@ use Rattle.spec_laws.specs.Tags.{clash, and-right}
 use Rattle.bound_laws.specs.Numbers.{All}
 use Rattle.renumbering_laws.specs.Heads.{with-tag, scope-first, scope-with}
 use Rattle.renumbering_laws.specs.Order.{upFrom, places-up}
-use Rattle.renumbering_laws.specs.Trees.{some, all-split}
+use Rattle.renumbering_laws.specs.Trees.{all-split, all-same, some}
 use Rattle.renumbering_laws.specs.Named.{named-once, named-length, named-rows, no-zero, new-row, one-to-one}
-use Rattle.renumbering_laws.specs.Files.{all-same, renumbered-scopes}
+use Rattle.renumbering_laws.specs.Files.{renumbered-scopes}
 
 -- ---- the record that names a scope, told by its scope
 

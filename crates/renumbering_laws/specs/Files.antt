@@ -18,6 +18,7 @@ use Rattle.bound_laws.specs.Numbers.{All, ScopeWithin, SymbolWithin, all-row}
 use Rattle.readback_laws.specs.InBytes.{Small}
 use Rattle.renumbering_laws.specs.Order.{upFrom, places-up, up-keeps}
 use Rattle.renumbering_laws.specs.Trees.{
+  all-same,
   renumbered-size,
   renumbered-bytes,
   renumbered-mentions,
@@ -32,10 +33,6 @@ use Rattle.renumbering_laws.specs.Named.{named-once, named-length, no-ze
 all-map : {X Y : Type 0} (P : X → Type 0) (Q : Y → Type 0) (g : X → Y) (xs : List X) → ((x : X) → P x → Q (g x)) → All P xs → All Q (map g xs)
 all-map P Q g [] q p = tt
 all-map P Q g (x ∷ xs) q p = (q x (p .0), all-map P Q g xs q (p .1))
-
-pub all-same : {X : Type 0} (P Q : X → Type 0) (xs : List X) → ((x : X) → P x → Q x) → All P xs → All Q xs
-all-same P Q [] q p = tt
-all-same P Q (x ∷ xs) q p = (q x (p .0), all-same P Q xs q (p .1))
 
 every : {X : Type 0} (P : X → Type 0) (xs : List X) → ((x : X) → P x) → All P xs
 every P [] p = tt

@@ -18,7 +18,7 @@ use Rattle.spec_laws.specs.Tags.{clash, and-right}
 use Rattle.bound_laws.specs.Numbers.{All, all-++}
 use Rattle.agreement_laws.specs.Demands.{no-scope}
 use Rattle.renumbering_laws.specs.Order.{oneIf, occurs, occurs-++, place-none, place-some, place-there, place-one, place-most, rows-only, once-each}
-use Rattle.renumbering_laws.specs.Trees.{all-split}
+use Rattle.renumbering_laws.specs.Trees.{all-split, all-same}
 
 -- ---- names, counted
 
@@ -149,20 +149,15 @@ module _ (ss : List Scope) (tree : Forest) (agree : ScopesAgree ss tree) where
   one-to-one s t e d = place-one s t 1 order (omega arith) (row-named s e) d
 
   pub all-new : All (λ s. 1 ≤ newNumber order s) order
-  all-new = each order named-rows
-    where
-      each : (xs : List ℕ) → All (λ s. isRow (length ss) s ≡ true) xs → All (λ s. 1 ≤ newNumber order s) xs
-      each [] p = tt
-      each (x ∷ xs) p = (place-some x 1 order (row-named x (p .0)), each xs (p .1))
+  all-new =
+      all-same (λ (s : ℕ). isRow (length ss) s ≡ true) (λ s. 1 ≤ newNumber order s) order (λ s e. place-some s 1 order (row-named s e)) named-rows
 
   -- ---- the parents of rows
 
   pub named-few : All (λ s. s ≤ length ss) order
-  named-few = each order named-rows
-    where
-      each : (xs : List ℕ) → All (λ s. isRow (length ss) s ≡ true) xs → All (λ s. s ≤ length ss) xs
-      each [] p = tt
-      each (x ∷ xs) p = (leb-true x (length ss) (and-right (leb 1 x) (leb x (length ss)) (p .0)), each xs (p .1))
+  named-few =
+      all-same (λ (s : ℕ). isRow (length ss) s ≡ true) (λ s. s ≤ length ss) order
+      (λ s e. leb-true s (length ss) (and-right (leb 1 s) (leb s (length ss)) e)) named-rows
 
   pub parents-few : (s : ℕ) → isRow (length ss) s ≡ true → rowAt noScope ss s .parent ≤ length ss
   parents-few s e = subst (All (λ p. p ≤ length ss)) (agree .rows s e) (around-few s (length ss) tree 0 (omega arith) named-few) .0

@@ -27,6 +27,10 @@ pub all-split : {X : Type 0} (P : X → Type 0) (xs ys : List X) → All P (xs +
 all-split P [] ys p = (tt, p)
 all-split P (x ∷ xs) ys p = let q = all-split P xs ys (p .1) in ((p .0, q .0), q .1)
 
+pub all-same : {X : Type 0} (P Q : X → Type 0) (xs : List X) → ((x : X) → P x → Q x) → All P xs → All Q xs
+all-same P Q [] q p = tt
+all-same P Q (x ∷ xs) q p = (q x (p .0), all-same P Q xs q (p .1))
+
 -- the scope, if it is one
 abbrev pub some : ℕ → List ℕ
 some s = if eqb s 0 then [] else s ∷ []
