@@ -1,1 +1,3 @@
 // Theorems, no code: the scope rows agree with the tree.
+
+#![tactic(auto)]

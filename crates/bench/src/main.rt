@@ -1,4 +1,5 @@
 // Checks the file on standard input, takes its figures and lowers it, a hundred times each, and prints what came of it. For measuring.
+#![tactic(auto)]
 use checking::Checked;
 use figures::Figured;
 use libc::STDOUT_FILENO;

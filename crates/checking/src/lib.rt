@@ -1,4 +1,5 @@
 // Checking a tree file on its bytes, and the figures of what it is lowered to.
+#![tactic(auto)]
 ghost use Rattle.std.specs.Prelude.{◌≡◌, ◌||◌, suc, ◌+◌, ◌≤◌, min, get_or, length, replicate, eqb};
 ghost use Rattle.meaning.specs.Tree.{if◌then◌else◌};
 ghost use Rattle.meaning.specs.Grammar.{two, may_name, naming, unnamed};
@@ -40,14 +41,14 @@ const MENTION_LENGTH: u16 = LENGTHS[tag::READ as usize] as u16;
 const MENTION_SIZE: u32 = MENTION_BYTES as u32;
 
 // The offset behind what was checked and the tally so far, or a refusal's number and place.
-#[derive(Drop)]
+#[derive(Clone, Copy)]
 enum Answer {
     Next(usize, Tally),
     Refused(u8, usize),
 }
 
 // Where a record stands: its place, what it is to the record around it, and the scope around it.
-#[derive(Drop)]
+#[derive(Clone, Copy)]
 struct Site {
     place: Place,
     role: Role,
@@ -55,14 +56,14 @@ struct Site {
 }
 
 // The offset behind what was checked, and the tally so far.
-#[derive(Drop)]
+#[derive(Clone, Copy)]
 struct Progress {
     at: usize,
     tally: Tally,
 }
 
 // How many scope and symbol rows a file has.
-#[derive(Drop)]
+#[derive(Clone, Copy)]
 pub struct RowCounts {
     pub scopes: u16,
     pub symbols: u16,
@@ -70,7 +71,7 @@ pub struct RowCounts {
 
 // What the check knows of a file: its settings, how many scope rows, symbol rows and records it has, and the offsets of the first symbol row
 // and of Program.
-#[derive(Drop)]
+#[derive(Clone, Copy)]
 pub struct Layout {
     pub mode: u16,
     pub esm: u16,
@@ -82,21 +83,21 @@ pub struct Layout {
 }
 
 // What a whole file comes to: its layout and the tally of its tree, or the refusal.
-#[derive(Drop)]
+#[derive(Clone, Copy)]
 enum Whole {
     Accepted(Layout, Tally),
     Refused(u8, usize),
 }
 
 // What a survey answers: the layout of a file and the figures of the lowered one, or a refusal's number and place.
-#[derive(Drop)]
+#[derive(Clone, Copy)]
 pub enum Surveyed {
     Fine(Layout, FinalFigures),
     Refused(u8, usize),
 }
 
 // What a check answers: fine, or a refusal's number and place.
-#[derive(Drop)]
+#[derive(Clone, Copy)]
 pub enum Checked {
     Fine,
     Refused(u8, usize),

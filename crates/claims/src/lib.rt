@@ -1,1 +1,3 @@
 // What is claimed, demand by demand; no code.
+
+#![tactic(auto)]

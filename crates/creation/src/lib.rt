@@ -1,4 +1,5 @@
 // The scopes and symbols that a context makes.
+#![tactic(auto)]
 ghost use Rattle.std.specs.Prelude.{◌≡◌};
 ghost use Rattle.tables.specs.Table.{capped};
 ghost use Rattle.path.specs.Path.{current_scope_f, hoist_scope_f};
@@ -13,7 +14,7 @@ use scoping::Ctx;
 use statements::Parts;
 
 // The counters, the context's symbol, and the form and the symbol of its Load.
-#[derive(Drop)]
+#[derive(Clone, Copy)]
 pub struct Transformed {
     pub ctx: Ctx,
     pub context: SymbolId,
@@ -32,14 +33,14 @@ impl Transformed {
 }
 
 // The counters, and the numbers of a Try's rows.
-#[derive(Drop)]
+#[derive(Clone, Copy)]
 pub struct Created {
     pub ctx: Ctx,
     pub parts: Parts,
 }
 
 // The last row looked at, how many records beside each other are still to be looked at, and how many to be passed over before.
-#[derive(Drop)]
+#[derive(Clone, Copy)]
 pub struct ScopeMove {
     pub at: RecordId,
     pub pending: u16,

@@ -2,6 +2,7 @@
 //
 // It lends 4,096 record rows, 1,024 scope rows, 1,024 symbol rows and 65,536 output bytes. One byte more is read than a file may have, so
 // that a longer input is refused with 1.
+#![tactic(auto)]
 use libc::{STDIN_FILENO, STDOUT_FILENO};
 use lowering::Lowered;
 

@@ -1,4 +1,5 @@
 // Fields of a tree file: the table of their lengths, the field at an offset, whether its tag may stand there, and the file reader.
+#![tactic(auto)]
 ghost use Rattle.std.specs.Prelude.{◌≡◌, [], ◌∷◌, ◌++◌, ◌+◌, ◌*◌, ◌≤◌, get_or, length, set};
 ghost use Rattle.std.proofs.lemmas.List.Edits.{sets};
 ghost use Rattle.meaning.specs.Numbers.Tag;
@@ -391,7 +392,7 @@ pub fn field_of(file: &[u8], offset: u32) -> Field
 // ---- the file reader
 
 // The file reader: the lent file, and an offset in it.
-#[derive(Drop)]
+#[derive(Clone, Copy)]
 pub struct Reader<'a> {
     pub file: &'a [u8],
     pub at: usize,

@@ -1,4 +1,5 @@
 // 01's figures of a tally: what the lowered file comes to.
+#![tactic(auto)]
 pub mod tally;
 
 ghost use Rattle.std.specs.Prelude.{◌≡◌, ◌&&◌, ◌+◌, ◌*◌, ◌≤◌, eqb, leb};
@@ -16,7 +17,7 @@ use meaning::{mode, refusal};
 use tally::Tally;
 
 // Records, scopes and symbols of the lowered file, contexts made, and its length in bytes.
-#[derive(Drop)]
+#[derive(Clone, Copy)]
 pub struct FinalFigures {
     pub records: u64,
     pub scopes: u64,
@@ -26,7 +27,7 @@ pub struct FinalFigures {
 }
 
 // The figures, or a refusal's number and place.
-#[derive(Drop)]
+#[derive(Clone, Copy)]
 pub enum Figured {
     Fine(FinalFigures),
     Refused(u8, usize),

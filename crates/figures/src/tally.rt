@@ -38,7 +38,7 @@ const MOST: u32 = 4294967295;
 // others; wrapped initializers; ForOfs whose using goes into the body, and those whose body is wrapped; lowered Programs; and of its items
 // classes, exports, exported declarations and their names. And of the records beside each other alone: usings, initializers that their
 // context wraps, and the same of Cases.
-#[derive(Drop)]
+#[derive(Clone, Copy)]
 pub struct Tally {
     pub records: u32,
     pub bytes: u32,
@@ -60,7 +60,7 @@ pub struct Tally {
 
 // What a record is to the one around it: a try part, an item of Program, what 18 and 19 export and the parts of that, a Declarator of a
 // using, the body of a ForOf with a using of this symbol.
-#[derive(Drop)]
+#[derive(Clone, Copy)]
 pub enum Role {
     Plain,
     Part,

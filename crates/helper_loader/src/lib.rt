@@ -1,4 +1,5 @@
 // `helper_load` (src/common/helper_loader.rs).
+#![tactic(auto)]
 ghost use Rattle.std.specs.Prelude.{◌≡◌};
 ghost use Rattle.scoping.specs.Changes.{in_symbols};
 ghost use Rattle.helper_loader.specs.Load.{loading, helper_flags, make_helper_f, load_runtime_f, is_first_f, helper_load_f};
@@ -7,7 +8,7 @@ use meaning::{ScopeId, SymbolId, known_name, mode, symbol_flag};
 use scoping::Ctx;
 
 // The counters, the form and the symbol of a Load, and whether it is the walk's first.
-#[derive(Drop)]
+#[derive(Clone, Copy)]
 pub struct Loaded {
     pub ctx: Ctx,
     pub form: u16,

@@ -1,1 +1,3 @@
 // Theorems, no code: what lowering writes is lowered to itself.
+
+#![tactic(auto)]

@@ -1,4 +1,5 @@
 // The types that the definitions and the code share, and the numbers that 01 gives a meaning, by name.
+#![tactic(auto)]
 pub mod form;
 pub mod kind;
 pub mod known_name;
@@ -13,17 +14,17 @@ pub mod symbol_flag;
 pub mod tag;
 
 // Numbers of scope, symbol and record rows, from 1 on; 0 is none.
-#[derive(Drop)]
+#[derive(Clone, Copy)]
 pub struct ScopeId(pub u16);
 
-#[derive(Drop)]
+#[derive(Clone, Copy)]
 pub struct SymbolId(pub u16);
 
-#[derive(Drop)]
+#[derive(Clone, Copy)]
 pub struct RecordId(pub u16);
 
 // A place where a field may stand.
-#[derive(Drop)]
+#[derive(Clone, Copy)]
 pub enum Place {
     Settings,
     ScopeRow,
@@ -51,7 +52,7 @@ pub enum Place {
 }
 
 // A field: its tag, its numbers filled up with 0, and the offset behind it.
-#[derive(Drop)]
+#[derive(Clone, Copy)]
 pub struct Field {
     pub tag: u16,
     pub a: u16,
@@ -62,14 +63,14 @@ pub struct Field {
 }
 
 // What a reading step answers: a field, or a refusal's number and place.
-#[derive(Drop)]
+#[derive(Clone, Copy)]
 pub enum Reading {
     Whole(Field),
     Refused(u8, usize),
 }
 
 // So many rows of a kind and the offset behind them, or a refusal.
-#[derive(Drop)]
+#[derive(Clone, Copy)]
 pub enum Rows {
     Read(usize, usize),
     Refused(u8, usize),

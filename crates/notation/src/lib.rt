@@ -1,6 +1,7 @@
 // The notation of 01 for files, read and printed: `5:3,1` is tag 5 with the numbers 3 and 1, a tag without numbers stands alone, and fields
 // are parted by spaces or line ends. So that every file can be shown, and read back as it was, a byte that belongs to no whole field is
 // written with a dot: `24.0.4.` are the bytes 24, 0 and 4. A text is thus never longer than 4 characters for each byte.
+#![tactic(auto)]
 ghost use Rattle.std.specs.Prelude.{◌≡◌, List, ◌++◌, ℕ, ◌+◌, ◌*◌, ◌-◌, ◌<◌, ◌≤◌, length, take, drop};
 ghost use Rattle.std.proofs.lemmas.List.Edits.{sets};
 ghost use Rattle.meaning.specs.File.{head_bytes};
@@ -32,7 +33,7 @@ const TAG_DIGITS: usize = 3;
 const NUMBER_DIGITS: usize = 5;
 
 // Whether a text is spelled right, or the place of the first character that may not stand where it does.
-#[derive(Drop)]
+#[derive(Clone, Copy)]
 pub enum Spelling {
     Right,
     Wrong(usize),
@@ -42,7 +43,7 @@ pub enum Spelling {
 
 // Where the field that is being read begins in the file, how many of its numbers are read, whether digits stand behind these, and their
 // value.
-#[derive(Drop)]
+#[derive(Clone, Copy)]
 struct Spot {
     at: usize,
     count: usize,

@@ -2,6 +2,7 @@
 //
 // The table's rows in use are those visited, free rows, and the rows still to visit. An open row has in `up` the row around it and in `left`
 // how many of its children are still to be entered; both are 0 in all other rows. So a walk needs no stack, and no depth is assumed.
+#![tactic(auto)]
 ghost use Rattle.std.specs.Prelude.{◌≡◌};
 ghost use Rattle.meaning.specs.Grammar.{scope_of};
 ghost use Rattle.tables.specs.Loops.{until};
@@ -13,7 +14,7 @@ use scoping::Ctx;
 use tables::{Cursor, Row, record};
 
 // The last row visited, the last free row, the last row in use, the innermost open row or 0, and the counters.
-#[derive(Drop)]
+#[derive(Clone, Copy)]
 pub struct Walk {
     pub visited: RecordId,
     pub gap: RecordId,

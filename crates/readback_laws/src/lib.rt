@@ -1,1 +1,3 @@
 // Theorems, no code: the written bytes, read back.
+
+#![tactic(auto)]

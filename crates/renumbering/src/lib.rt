@@ -2,6 +2,7 @@
 //
 // They stand in a column behind the rows of the scope table (`tables::new_numbers_at`), which is 0 before; the number of the scope in row s
 // is behind s - 1 others.
+#![tactic(auto)]
 ghost use Rattle.std.specs.Prelude.{◌≡◌, ◌+◌, ◌<◌, length};
 ghost use Rattle.meaning.specs.Renumbering.{scope_named};
 ghost use Rattle.tables.specs.Table.{largest, head_f};

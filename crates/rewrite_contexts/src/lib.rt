@@ -1,4 +1,5 @@
 // Block, function body, static block and try parts get a context. Each is rewritten where it stands, as the first of the rows still to visit.
+#![tactic(auto)]
 ghost use Rattle.std.specs.Prelude.{◌≡◌};
 ghost use Rattle.path.specs.Path.{tables};
 ghost use Rattle.tables.specs.Stream.{buf};
@@ -125,7 +126,7 @@ pub fn exit_static_block(
 // ---- try parts
 
 // A Try's rows on their way, and the counters.
-#[derive(Drop)]
+#[derive(Clone, Copy)]
 pub struct Parting {
     pub at: Cursor,
     pub ctx: Ctx,
@@ -220,7 +221,7 @@ fn transform_parts(
 }
 
 // The last row looked at, and the scope of the last child if it is a Block, or 0.
-#[derive(Drop)]
+#[derive(Clone, Copy)]
 pub struct LastChild {
     pub at: RecordId,
     pub scope: ScopeId,

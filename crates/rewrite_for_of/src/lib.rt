@@ -1,6 +1,7 @@
 // `enter_for_of_statement`: `for (using x of e)` becomes `for (const _x of e)`, and `using x = _x` goes into the body.
 //
 // The rows of such a ForOf: its own, the Declaration's, the Declarator's, the Name's, then the expression and the body.
+#![tactic(auto)]
 ghost use Rattle.std.specs.Prelude.{◌≡◌};
 ghost use Rattle.path.specs.Path.{tables};
 ghost use Rattle.scoping.specs.Changes.{in_symbols};

@@ -1,4 +1,5 @@
 // The items of a Program that is lowered: declarations, classes and exports.
+#![tactic(auto)]
 ghost use Rattle.std.specs.Prelude.{◌≡◌};
 ghost use Rattle.meaning.specs.Tree.{if◌then◌else◌};
 ghost use Rattle.scoping.specs.Changes.{in_symbols};
@@ -12,7 +13,7 @@ use scoping::Ctx;
 use tables::{Cursor, Row, record, symbol};
 
 // What becomes of an item: it stays, it moves, or it is one of those that change.
-#[derive(Drop)]
+#[derive(Clone, Copy)]
 pub enum Item {
     Kept,
     Moved,
@@ -89,7 +90,7 @@ pub fn item_after(records: &[u16], after: RecordId) -> Item
 // ---- the names that a Declaration binds
 
 // The last row looked at; the Declarators, the children of a Declarator, and the records below one of those that are still to come.
-#[derive(Drop)]
+#[derive(Clone, Copy)]
 pub struct Names {
     pub at: RecordId,
     pub declarators: u16,
@@ -170,7 +171,7 @@ fn number_if(b: bool) -> u16
 }
 
 // Where the names stand, and how many there were.
-#[derive(Drop)]
+#[derive(Clone, Copy)]
 pub struct Counted {
     pub names: Names,
     pub sum: u16,
@@ -253,7 +254,7 @@ fn flag_names(records: &[u16], symbols: &mut [u16], ctx: Ctx, after: RecordId, n
 }
 
 // Rows while Specifiers are written, and the names still to come.
-#[derive(Drop)]
+#[derive(Clone, Copy)]
 pub struct Specifying {
     pub at: Cursor,
     pub names: Names,
@@ -374,7 +375,7 @@ fn preserve_class_expression_name(symbols: &mut [u16], ctx: Ctx, r: Row) -> Ctx
 // ---- items
 
 // Items while they are rewritten, and the counters.
-#[derive(Drop)]
+#[derive(Clone, Copy)]
 pub struct Passing {
     pub at: Cursor,
     pub ctx: Ctx,

@@ -1,4 +1,5 @@
 // `enter_program`: functions, imports and exports stay first, all else goes into a new Block.
+#![tactic(auto)]
 mod placing;
 
 ghost use Rattle.std.specs.Prelude.{◌≡◌};
@@ -17,7 +18,7 @@ use statements::Counting;
 use tables::{Cursor, record};
 
 // The last row looked at, the rows that the items add, and how many items stay and move.
-#[derive(Drop)]
+#[derive(Clone, Copy)]
 pub struct ProgramPlan {
     pub at: RecordId,
     pub added: u16,
@@ -183,7 +184,7 @@ fn kept_rows(records: &[u16], after: RecordId, n: u16) -> u16
 }
 
 // The last row looked at, and the places of the next row that stays and the next that moves.
-#[derive(Drop)]
+#[derive(Clone, Copy)]
 pub struct Numbering {
     pub at: RecordId,
     pub kept: RecordId,
@@ -263,7 +264,7 @@ fn transform_items(records: &mut [u16], symbols: &mut [u16], start: Passing, n: 
 }
 
 // The counters, and the Block's row.
-#[derive(Drop)]
+#[derive(Clone, Copy)]
 pub struct Rewritten {
     pub ctx: Ctx,
     pub block: RecordId,

@@ -1,4 +1,5 @@
 // The rules of a record's numbers, by its tag and place.
+#![tactic(auto)]
 ghost use Rattle.std.specs.Prelude.{◌≡◌, ◌&&◌, ◌||◌, not, ℕ, ◌+◌, ◌*◌, ◌≤◌, leb, eqb, ltb};
 ghost use Rattle.meaning.specs.Numbers.Letter;
 ghost use Rattle.meaning.specs.Numbers.Mode;

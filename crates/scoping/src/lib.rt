@@ -3,6 +3,7 @@
 // A scope row takes two numbers, parent and flags; a symbol row five: name, flags, scope, made, and the scope that was read. Rows are
 // numbered from 1, new ones come behind the others, and the tables are 0 behind the last row, up to the counts of symbols (`tables::counts_at`),
 // which nothing here looks at.
+#![tactic(auto)]
 ghost use Rattle.std.specs.Prelude.{◌≡◌, ◌+◌, ◌*◌, ◌-◌, ◌<◌, length};
 ghost use Rattle.meaning.specs.Tree.{if◌then◌else◌};
 ghost use Rattle.meaning.specs.Scoping.{binds, get_binding, find_binding, is_among_bindings};
@@ -21,7 +22,7 @@ use tables::{scope, symbol};
 pub const ROOT: u16 = 1;
 
 // The settings (mode, and 1 for a module), how many rows there are and how many symbol rows were read, the runtime helper's symbol or 0, and the contexts made.
-#[derive(Drop)]
+#[derive(Clone, Copy)]
 pub struct Ctx {
     pub mode: u16,
     pub esm: u16,
@@ -348,7 +349,7 @@ fn search_outwards(scopes: &[u16], symbols: &[u16], ctx: Ctx, from: ScopeId, nam
 }
 
 // The rows that bind a name in whatever scope: how many there are, and the number and the scope of the last one.
-#[derive(Drop)]
+#[derive(Clone, Copy)]
 struct Candidates {
     count: u16,
     row: SymbolId,

@@ -1,1 +1,3 @@
 // Small laws that all theorems share; no code.
+
+#![tactic(auto)]

@@ -1,4 +1,5 @@
 // Usings taken up by a context, and the rows of the Try around them.
+#![tactic(auto)]
 ghost use Rattle.std.specs.Prelude.{◌≡◌, false};
 ghost use Rattle.meaning.specs.Tree.{if◌then◌else◌};
 ghost use Rattle.meaning.specs.Statements.{is_using, is_await_using, letter_if};
@@ -13,7 +14,7 @@ use tables::{Cursor, Row};
 
 // The numbers of the rows that a context makes: its symbol, the form and the symbol of its Load, the Catch's scope (that of its body and that
 // of the last Block come next), the symbol of `_`, and the form of the last Step.
-#[derive(Drop)]
+#[derive(Clone, Copy)]
 pub struct Parts {
     pub context: SymbolId,
     pub form: u16,
@@ -31,14 +32,14 @@ pub const CONTEXT_ROWS: u16 = 11;
 pub const WRAPPED_CONTEXT_ROWS: u16 = 12;
 
 // The last row looked at, and a count so far.
-#[derive(Drop)]
+#[derive(Clone, Copy)]
 pub struct Counting {
     pub at: RecordId,
     pub sum: u16,
 }
 
 // The last row looked at, and the usings, the `await using`s and the initializers of usings so far.
-#[derive(Drop)]
+#[derive(Clone, Copy)]
 pub struct Plan {
     pub at: RecordId,
     pub usings: u16,

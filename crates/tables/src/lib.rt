@@ -6,6 +6,7 @@
 //
 // A pass reads at the right end of the free rows and writes at their left end, so that a made row takes a free one and no row behind the
 // list that is rewritten moves. A row is named by the number of rows up to it, from 1 on; a place between rows by the row before it.
+#![tactic(auto)]
 pub mod record;
 pub mod scope;
 pub mod symbol;
@@ -20,7 +21,7 @@ use meaning::RecordId;
 pub const LARGEST: u16 = 65535;
 
 // A row of the record table.
-#[derive(Drop)]
+#[derive(Clone, Copy)]
 pub struct Row {
     pub tag: u16,
     pub a: u16,
@@ -32,7 +33,7 @@ pub struct Row {
 }
 
 // The last row read and the last row written.
-#[derive(Drop)]
+#[derive(Clone, Copy)]
 pub struct Cursor {
     pub read: RecordId,
     pub written: RecordId,

@@ -20,7 +20,7 @@ pub fn put_number(text: &[u8], n: u64) {
 
 // ---- how many agreed
 
-#[derive(Drop)]
+#[derive(Clone, Copy)]
 pub struct Seen {
     pub all: u64,
     pub right: u64,
@@ -139,7 +139,7 @@ pub fn to_front(room: &mut [u8], from: usize, end: usize) -> usize {
 // ---- numbers
 
 // A number, and the place behind the character that follows it.
-#[derive(Drop)]
+#[derive(Clone, Copy)]
 pub struct Number {
     pub value: usize,
     pub next: usize,

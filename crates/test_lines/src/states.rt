@@ -7,7 +7,7 @@ use start::Started;
 use tables::Row;
 
 // How many rows of each kind there are.
-#[derive(Drop)]
+#[derive(Clone, Copy)]
 pub struct Rows {
     records: u16,
     scopes: u16,
@@ -189,7 +189,7 @@ fn same_tree(tree: &[u8], w: Walk, records: &[u16], scopes: &[u16], symbols: &[u
 // ---- states
 
 // Where a walk stands: the place of the last line and of the next one, the length of the tree expected, and what was seen.
-#[derive(Drop)]
+#[derive(Clone, Copy)]
 pub struct Stand {
     pub last: usize,
     pub next: usize,
@@ -245,7 +245,7 @@ pub fn is_state(text: &[u8], at: usize) -> bool {
 }
 
 // What `start` makes of a file.
-#[derive(Drop)]
+#[derive(Clone, Copy)]
 pub enum Begun {
     Walking(Stand),
     Refused,

@@ -1,6 +1,7 @@
 // Replays vectors, and prints how many agreed; then lowers the files of all vectors twice. A file of data/ is text, read line by line; its form says
 // what a line is (checks.rt, walks.rt, lowerings.rt, corners.rt, twice.rt). A further file is one line more in `replay_scope`, `replay_requests` or
 // `replay_rows`, and one in the like-named function for lowering twice.
+#![tactic(auto)]
 mod checks;
 mod corners;
 mod lowerings;
@@ -19,7 +20,7 @@ const MOST_PIECES: u32 = 1000;
 const MOST_LINES: u32 = 100000;
 
 // What the lines of a file are.
-#[derive(Drop)]
+#[derive(Clone, Copy)]
 enum Form {
     Checks,
     Walks,
@@ -104,7 +105,7 @@ fn replay_lines(text: &[u8], form: Form, before: Seen) -> Seen {
 }
 
 // What was seen, how many bytes of the line that is begun are kept, and whether there was a line.
-#[derive(Drop)]
+#[derive(Clone, Copy)]
 struct Piece {
     seen: Seen,
     kept: usize,

@@ -3,6 +3,7 @@
 // A tree file begins with its Settings, tag 40, and no text in the notation begins with that byte, a `(`: so the first byte tells which of
 // the two is given. A file may have 65,536 bytes, one more than 01 allows, and a text 262,144, which is enough for the text of any such
 // file. What is longer, or is no notation, is answered with a line that says so.
+#![tactic(auto)]
 use libc::{STDIN_FILENO, STDOUT_FILENO};
 use meaning::tag;
 use notation::Spelling;

@@ -1,4 +1,5 @@
 // The walk over lent tables, one visit at a time.
+#![tactic(auto)]
 ghost use Rattle.std.specs.Prelude.{◌≡◌};
 ghost use Rattle.meaning.specs.Tree.{one_of};
 ghost use Rattle.path.specs.Path.{tables};
@@ -237,7 +238,7 @@ fn stops(records: &[u16], w: Walk, visits: u32) -> bool
 }
 
 // Where the walk stands after some visits, and how many they were.
-#[derive(Drop)]
+#[derive(Clone, Copy)]
 pub struct Visited {
     pub walk: Walk,
     pub visits: u32,
@@ -301,7 +302,7 @@ fn visit(walk: Walk, records: &mut [u16], scopes: &mut [u16], symbols: &mut [u16
 // ---- visits that keep the counts of symbols true
 
 // The rows that a visit may change: the visited ones behind a row, and those to visit up to another.
-#[derive(Drop)]
+#[derive(Clone, Copy)]
 struct Part {
     from: RecordId,
     end: RecordId,

@@ -1,6 +1,7 @@
 // The file in the tables, written to the lent output.
 //
 // Bytes go to an offset; past the end of the output nothing is stored.
+#![tactic(auto)]
 ghost use Rattle.std.specs.Prelude.{◌≡◌, [], ◌∷◌, ◌+◌, ◌*◌, ◌-◌, ◌≤◌, ltb, length, set};
 ghost use Rattle.std.proofs.lemmas.List.Edits.{sets};
 ghost use Rattle.meaning.specs.Tree.{if◌then◌else◌};
