@@ -7,6 +7,7 @@
 // A pass reads at the right end of the free rows and writes at their left end, so that a made row takes a free one and no row behind the
 // list that is rewritten moves. A row is named by the number of rows up to it, from 1 on; a place between rows by the row before it.
 #![tactic(auto)]
+
 pub mod record;
 pub mod scope;
 pub mod symbol;
