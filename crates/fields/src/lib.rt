@@ -1,5 +1,6 @@
 // Fields of a tree file: the table of their lengths, the field at an offset, whether its tag may stand there, and the file reader.
 #![tactic(auto)]
+
 ghost use Rattle.std.specs.Prelude.{◌≡◌, [], ◌∷◌, ◌++◌, ◌+◌, ◌*◌, ◌≤◌, get_or, length, set};
 ghost use Rattle.std.proofs.lemmas.List.Edits.{sets};
 ghost use Rattle.meaning.specs.Numbers.Tag;

@@ -1,0 +1,87 @@
+-- `fields::field_at` meets its contract. Assumes nothing.
+use Prim.Native.Nat.{◌+◌}
+use native.Mathlib.Omega.{arith}
+use lib.ListN.{length}
+use borrow.Author.Tests.{eq-eqb, ne_eqb, lt-ltb, le-ltb}
+use Rattle.meaning.specs.File.{field_bytes}
+use Rattle.meaning.specs.Grammar.{field_at, field_of}
+use Rattle.fields.specs.Lengths.{half}
+use Rattle.fields.proofs.field_at.Goals as goal
+
+pub returns-then-file-at : goal.returns-then-file-at
+unfolding field_at
+returns-then-file-at c =
+    let file = c.args.file.now in
+    let at = c.args.at in
+    rw (lt-ltb (length file) (at + 3) (omega arith))
+
+pub returns-then-file-at-lt-HEAD_BYTES : goal.returns-then-file-at-lt-HEAD_BYTES
+unfolding field_at
+returns-then-file-at-lt-HEAD_BYTES c =
+    let file = c.args.file.now in
+    let at = c.args.at in
+    rw (lt-ltb (length file) (at + 3) (omega arith))
+
+pub returns-then-not-is_allowed : goal.returns-then-not-is_allowed
+unfolding field_at
+returns-then-not-is_allowed c =
+    let file = c.args.file.now in
+    let at = c.args.at in
+    rw (
+      le-ltb (length file) (at + 3) (omega arith),
+      ← c.tag_at-tag.ensures,
+      ← c.is_allowed.ensures,
+      c.if-not-is_allowed.true,
+    )
+
+pub returns-then-two_at-length : goal.returns-then-two_at-length
+unfolding field_at
+returns-then-two_at-length c =
+    let file = c.args.file.now in
+    let at = c.args.at in
+    rw (
+      le-ltb (length file) (at + 3) (omega arith),
+      ← c.tag_at-tag.ensures,
+      ← c.is_allowed.ensures,
+      c.if-not-is_allowed.false,
+      ← c.two_at.ensures,
+      ← c.length_of-length.ensures.rule,
+      ne_eqb _ _ c.if-two_at-length.true,
+    )
+
+pub returns-then-file-at-2 : goal.returns-then-file-at-2
+unfolding field_at field_bytes
+returns-then-file-at-2 c =
+    let file = c.args.file.now in
+    let at = c.args.at in
+    rw (
+      le-ltb (length file) (at + 3) (omega arith),
+      ← c.tag_at-tag.ensures,
+      ← c.is_allowed.ensures,
+      c.if-not-is_allowed.false,
+      ← c.two_at.ensures,
+      ← c.length_of-length.ensures.rule,
+      eq-eqb _ _ c.if-two_at-length.false,
+      lt-ltb (length file) (at + (3 + c.length_of-length.result)) (omega arith),
+    )
+
+pub returns : goal.returns
+unfolding field_at field_bytes field_of
+returns c =
+    let file = c.args.file.now in
+    let at = c.args.at in
+    rw (
+      le-ltb (length file) (at + 3) (omega arith),
+      ← c.tag_at-tag.ensures,
+      ← c.is_allowed.ensures,
+      c.if-not-is_allowed.false,
+      ← c.two_at.ensures,
+      ← c.length_of-length.ensures.rule,
+      half c.length_of-length.ensures.rule,
+      eq-eqb _ _ c.if-two_at-length.false,
+      le-ltb (length file) (at + (3 + c.length_of-length.result)) (omega arith),
+      ← c.read_number.ensures,
+      ← c.read_number-2.ensures,
+      ← c.read_number-3.ensures,
+      ← c.read_number-4.ensures,
+    )
