@@ -1,5 +1,6 @@
 // How often symbols are named: a counter for each, and records added to them or taken off (02, request 7).
 #![tactic(auto)]
+
 ghost use Rattle.std.specs.Prelude.{◌≡◌};
 ghost use Rattle.meaning.specs.Mentions.{first_named, second_named};
 ghost use Rattle.tables.specs.Table.{head_f};

@@ -1,5 +1,6 @@
 // The rules of a record's numbers, by its tag and place.
 #![tactic(auto)]
+
 ghost use Rattle.std.specs.Prelude.{◌≡◌, ◌&&◌, ◌||◌, not, ℕ, ◌+◌, ◌*◌, ◌≤◌, leb, eqb, ltb};
 ghost use Rattle.meaning.specs.Numbers.Letter;
 ghost use Rattle.meaning.specs.Numbers.Mode;
@@ -32,6 +33,7 @@ const SYMBOL_FLAGS: u16 = symbol_flag::FUNCTION_SCOPED
 // ---- places
 
 // A place's number: the places are told apart by their order.
+#[tactic(auto, unfolding(meaning::specs::Grammar::index))]
 fn index_of(place: Place) -> u8
     ensures { result ≡ index place }
 {
@@ -70,6 +72,7 @@ fn is_place(place: Place, other: Place) -> bool
 }
 
 // Whether a Function or Class of this form may stand at a place.
+#[tactic(auto, unfolding(meaning::specs::Grammar::form_fits, meaning::specs::Grammar::forms_of))]
 fn form_fits(place: Place, form: u16) -> bool
     ensures { result ≡ form_fits place form }
 {
@@ -161,6 +164,7 @@ fn declaration_right(place: Place, x: Field) -> bool
 }
 
 // A Declarator: pattern 0 has one Name. An initializer may follow the Names, but not left in a ForOf.
+#[tactic(auto, unfolding(meaning::specs::Grammar::declarator_right, meaning::specs::Grammar::index))]
 fn declarator_right(place: Place, x: Field) -> bool
     ensures { result ≡ declarator_right place x }
 {
@@ -179,6 +183,7 @@ fn declarator_right(place: Place, x: Field) -> bool
 }
 
 // A Try: its Block, and one part more or two.
+#[tactic(auto, unfolding(meaning::specs::Grammar::try_right))]
 fn try_right(x: Field) -> bool
     ensures { result ≡ try_right x }
 {
@@ -341,6 +346,7 @@ fn module_line_right(x: Field) -> bool
 }
 
 // The numbers of a record are right at its place; its scope row apart.
+#[tactic(auto, unfolding(meaning::specs::Grammar::right, meaning::specs::Grammar::declaration_right, meaning::specs::Grammar::declarator_right, meaning::specs::Grammar::try_right, meaning::specs::Grammar::function_right, meaning::specs::Grammar::class_right, meaning::specs::Grammar::module_line_right))]
 pub fn is_right(place: Place, symbols: usize, x: Field) -> bool
     ensures { result ≡ right place symbols x }
 {
@@ -379,6 +385,7 @@ pub fn is_right(place: Place, symbols: usize, x: Field) -> bool
 // ---- scopes and children
 
 // The scope row that a record names, or 0.
+#[tactic(auto, unfolding(meaning::specs::Grammar::scope_of, meaning::specs::Grammar::head_of, meaning::specs::File::own_numbers, meaning::specs::File::has_children, meaning::specs::File::numbers_of))]
 pub fn scope_in(x: Field) -> ScopeId
     ensures { result.0 ≡ scope_of (head_of x) }
 {
@@ -439,6 +446,7 @@ pub fn own_numbers(tag: u16) -> u8
 }
 
 // How many children a record has.
+#[tactic(auto, unfolding(meaning::specs::Grammar::children_of, meaning::specs::File::own_numbers, meaning::specs::File::has_children, meaning::specs::File::numbers_of))]
 pub fn children_of(x: Field) -> u16
     ensures { result ≡ children_of x }
 {
@@ -524,6 +532,7 @@ fn by_place(place: Place, key: Place, there: Place, elsewhere: Place) -> Place
 }
 
 // The place of child k of a record that stands at `place`.
+#[tactic(auto, unfolding(meaning::specs::Grammar::place_of, meaning::specs::Grammar::index))]
 pub fn place_of(place: Place, x: Field, k: u16) -> Place
     ensures { result ≡ place_of place x k }
 {
