@@ -1,5 +1,6 @@
 // 01's figures of a tally: what the lowered file comes to.
 #![tactic(auto)]
+
 pub mod tally;
 
 ghost use Rattle.std.specs.Prelude.{◌≡◌, ◌&&◌, ◌+◌, ◌*◌, ◌≤◌, eqb, leb};

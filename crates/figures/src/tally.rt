@@ -76,6 +76,7 @@ pub enum Role {
 // ---- what a record is to the one around it
 
 // A role's number: the roles are told apart by their order.
+#[tactic(auto, unfolding(crate::specs::Tally::role_index))]
 fn role_index(role: Role) -> u8
     ensures { result ≡ role_index role }
 {
@@ -184,6 +185,7 @@ fn third_role(file: &[u8], at: usize, k: u16) -> Role
 }
 
 // The role of child k of a record.
+#[tactic(auto, unfolding(crate::specs::Tally::role_of, crate::specs::Tally::role_index))]
 pub fn role_in(file: &[u8], role: Role, x: Field, k: u16) -> Role
     ensures { result ≡ role_of role x.tag (is_using (head_of x)) (body_role file.now x.next) k }
 {
@@ -301,6 +303,7 @@ fn body_inserts(file: &[u8], at: u32, symbols: u16, y: u16, x: Field) -> bool
 }
 
 // Whether a using goes in at index 0 of this record's list.
+#[tactic(auto, unfolding(crate::specs::Tally::inserts_in))]
 pub fn inserts(file: &[u8], scopes: u16, symbols: u16, role: Role, x: Field) -> bool
     ensures { result ≡ inserts_in (symbols_in file.now symbols (settings_bytes + scope_bytes * scopes)) role (head_of x) }
 {
@@ -360,6 +363,7 @@ fn and(a: bool, b: bool) -> bool
 }
 
 // Whether a record of this tag, with so many usings in its list, gets a context for them.
+#[tactic(auto, unfolding(crate::specs::Tally::takes_up))]
 fn takes_up(tag: u16, usings: u32) -> bool
     ensures { result ≡ takes_up tag usings }
 {
@@ -536,6 +540,7 @@ fn charged_tally(role: Role, inserted: bool, x: Field, kids: Tally) -> Tally
 }
 
 // Whether a record of this role and tag adds only itself.
+#[tactic(auto, unfolding(crate::specs::Tally::is_silent))]
 fn is_silent(role: Role, tag: u16) -> bool
     ensures { result ≡ is_silent role tag }
 {

@@ -4,6 +4,7 @@
 // numbered from 1, new ones come behind the others, and the tables are 0 behind the last row, up to the counts of symbols (`tables::counts_at`),
 // which nothing here looks at.
 #![tactic(auto)]
+
 ghost use Rattle.std.specs.Prelude.{◌≡◌, ◌+◌, ◌*◌, ◌-◌, ◌<◌, length};
 ghost use Rattle.meaning.specs.Tree.{if◌then◌else◌};
 ghost use Rattle.meaning.specs.Scoping.{binds, get_binding, find_binding, is_among_bindings};
