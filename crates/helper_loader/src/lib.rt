@@ -1,5 +1,6 @@
 // `helper_load` (src/common/helper_loader.rs).
 #![tactic(auto)]
+
 ghost use Rattle.std.specs.Prelude.{◌≡◌};
 ghost use Rattle.scoping.specs.Changes.{in_symbols};
 ghost use Rattle.helper_loader.specs.Load.{loading, helper_flags, make_helper_f, load_runtime_f, is_first_f, helper_load_f};

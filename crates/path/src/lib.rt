@@ -3,6 +3,7 @@
 // The table's rows in use are those visited, free rows, and the rows still to visit. An open row has in `up` the row around it and in `left`
 // how many of its children are still to be entered; both are 0 in all other rows. So a walk needs no stack, and no depth is assumed.
 #![tactic(auto)]
+
 ghost use Rattle.std.specs.Prelude.{◌≡◌};
 ghost use Rattle.meaning.specs.Grammar.{scope_of};
 ghost use Rattle.tables.specs.Loops.{until};
@@ -76,6 +77,7 @@ impl Walk {
 // ---- scopes of open rows
 
 // The scope that a record has, or 0.
+#[tactic(auto, unfolding(meaning::specs::Grammar::scope_of))]
 pub fn scope_of(r: Row) -> ScopeId
     ensures { result.0 ≡ scope_of (head_f r) }
 {

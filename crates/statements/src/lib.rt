@@ -1,5 +1,6 @@
 // Usings taken up by a context, and the rows of the Try around them.
 #![tactic(auto)]
+
 ghost use Rattle.std.specs.Prelude.{◌≡◌, false};
 ghost use Rattle.meaning.specs.Tree.{if◌then◌else◌};
 ghost use Rattle.meaning.specs.Statements.{is_using, is_await_using, letter_if};

@@ -1,0 +1,27 @@
+-- `path::settle` meets its contract. Assumes nothing.
+use mathlib.Core.Path.{sym, refl, ◌∙◌}
+use native.Mathlib.Nat.{sub-zero}
+use Rattle.tables.specs.Loops.{go_on, run_out, stopped}
+use Rattle.path.specs.Path.{settle_f}
+use borrow.Author.Rules.{rules}
+use Rattle.path.proofs.settle.Goals as goal
+
+pub loop-k-init : goal.loop-k-init
+loop-k-init c = (search rules, refl, rw sub-zero)
+
+pub loop-k-preserved : goal.loop-k-preserved
+loop-k-preserved c = (
+  search rules,
+  c.close-at.auto.records ∙ c.loop-k.invariant.1,
+  rw c.close-at.ensures (go_on _ _ _ _ _ _ c.loop-k.invariant.2 c.loop-k-test.true (sym c.stays.ensures ∙ c.if-stays.false)),
+)
+
+pub returns-after-loop-k : goal.returns-after-loop-k
+unfolding settle_f
+returns-after-loop-k c =
+    run_out _ _ _ _ _ _ c.loop-k.invariant.2 c.loop-k-test.false
+
+pub returns-then-stays : goal.returns-then-stays
+unfolding settle_f
+returns-then-stays c =
+    stopped _ _ _ _ _ c.loop-k.invariant.2 (sym c.stays.ensures ∙ c.if-stays.true)

@@ -1,0 +1,22 @@
+-- `statements::take_up` meets its contract. Assumes nothing.
+use mathlib.Core.Path.{refl, ◌∙◌}
+use native.Mathlib.Nat.{sub-zero}
+use Rattle.tables.specs.Loops.{next_turn, last_turn}
+use Rattle.statements.specs.TakeUp.{take_up_f}
+use borrow.Author.Rules.{rules}
+use Rattle.statements.proofs.take_up.Goals as goal
+
+pub loop-k-init : goal.loop-k-init
+loop-k-init c = (search rules, refl, rw sub-zero)
+
+pub loop-k-preserved : goal.loop-k-preserved
+loop-k-preserved c = (
+  search rules,
+  c.take_up_item-q.auto.records ∙ c.loop-k.invariant.1,
+  rw c.take_up_item-q.ensures (next_turn _ _ _ _ _ c.loop-k.invariant.2 c.loop-k-test.true),
+)
+
+pub returns : goal.returns
+unfolding take_up_f
+returns c =
+    last_turn _ _ _ _ _ c.loop-k.invariant.2 c.loop-k-test.false
