@@ -97,7 +97,9 @@ entered_left : (ys : List Symbol) (d r : Forest) (p : List Crumb) (e : Node × S
     ++ leave_then (is_static_block e.0.head) e.0.children
     (visits_in ys r standing ++ rest ys (d & more e.0.head e.0.children r) p)
 unfolding rest ◌&◌
-entered_left ys d r p e a = rw (left_settle (crumb e.0.head d r ∷ p) none e.0.children e.1, a)
+entered_left ys d r p e a =
+    left_settle (crumb e.0.head d r ∷ p) none e.0.children e.1
+    ∙ ap (λ (zs : List Symbol). visits_in zs e.0.children standing ++ rest zs (none & e.0.children) (crumb e.0.head d r ∷ p)) a
 
 enter_step : (cur hoist : ℕ) (d : Forest) (h : Head) (k r : Forest) (p : List Crumb) (st : Store) → Fit h k
     → left (at d h k r p st) ≡ enter_lines (act_of st.as_read h k) h k ∷ left (opened d r p (enter cur hoist h k st))
