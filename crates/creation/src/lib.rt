@@ -1,5 +1,6 @@
 // The scopes and symbols that a context makes.
 #![tactic(auto)]
+
 ghost use Rattle.std.specs.Prelude.{◌≡◌};
 ghost use Rattle.tables.specs.Table.{capped};
 ghost use Rattle.path.specs.Path.{current_scope_f, hoist_scope_f};

@@ -1,5 +1,6 @@
 // The runtime helper's import (02, request 1): once the walk of a module in runtime mode is over, it becomes Program's first child.
 #![tactic(auto)]
+
 ghost use Rattle.std.specs.Prelude.{◌≡◌};
 ghost use Rattle.tables.specs.Stream.{buf};
 ghost use Rattle.path.specs.Path.{on_records};

@@ -219,8 +219,9 @@ module _ (f : List ℕ) (syms scopes : ℕ) {d : Forest} where
   tree_found (in_list_lem e w) many (parsed_more {m = m} {h = h} y kids rest) =
       let inner = naming_length m (scope_of h) ∙ many in
       found_below f syms scopes many y (word_count w) (word_found w inner kids) (marks_length kids ∙ inner) rest
-  tree_found (inside t) many (parsed_more {m = m} {h = h} y kids rest) =
+  tree_found {place = place} {i = i} {at = at} (inside t) many (parsed_more {m = m} {h = h} y kids rest) =
       let inner = naming_length m (scope_of h) ∙ many in
-      found_below f syms scopes many y (alike t).0 (tree_found t inner kids) (marks_length kids ∙ inner) rest
+      let below = tree_found {place = place_of (place i) (field_of f at)} t inner kids in
+      found_below f syms scopes many y (alike t).0 below (marks_length kids ∙ inner) rest
   tree_found (beside t) many (parsed_more {m = m} {h = h} y kids rest) =
       found_behind f syms scopes many y kids (tree_found t (marks_length kids ∙ naming_length m (scope_of h) ∙ many) rest)

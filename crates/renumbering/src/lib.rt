@@ -3,6 +3,7 @@
 // They stand in a column behind the rows of the scope table (`tables::new_numbers_at`), which is 0 before; the number of the scope in row s
 // is behind s - 1 others.
 #![tactic(auto)]
+
 ghost use Rattle.std.specs.Prelude.{◌≡◌, ◌+◌, ◌<◌, length};
 ghost use Rattle.meaning.specs.Renumbering.{scope_named};
 ghost use Rattle.tables.specs.Table.{largest, head_f};
@@ -95,6 +96,7 @@ fn with_b(r: Row, v: u16) -> Row
 }
 
 // The row with another number for its scope, if its tag has one.
+#[tactic(auto, unfolding(crate::specs::Numbers::with_scope_f, meaning::specs::Renumbering::with_scope))]
 fn with_scope(r: Row, v: u16) -> Row
     ensures { result ≡ with_scope_f r v }
 {

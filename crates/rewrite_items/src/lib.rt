@@ -1,5 +1,6 @@
 // The items of a Program that is lowered: declarations, classes and exports.
 #![tactic(auto)]
+
 ghost use Rattle.std.specs.Prelude.{◌≡◌};
 ghost use Rattle.meaning.specs.Tree.{if◌then◌else◌};
 ghost use Rattle.scoping.specs.Changes.{in_symbols};
