@@ -1,5 +1,6 @@
 // Checking a tree file on its bytes, and the figures of what it is lowered to.
 #![tactic(auto)]
+
 ghost use Rattle.std.specs.Prelude.{◌≡◌, ◌||◌, suc, ◌+◌, ◌≤◌, min, get_or, length, replicate, eqb};
 ghost use Rattle.meaning.specs.Tree.{if◌then◌else◌};
 ghost use Rattle.meaning.specs.Grammar.{two, may_name, naming, unnamed};

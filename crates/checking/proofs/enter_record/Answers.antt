@@ -1,0 +1,45 @@
+-- `checking::enter_record` meets its contract. Assumes nothing.
+use Rattle.checking.specs.Flat.{enter_f}
+use Rattle.checking.proofs.enter_record.Goals as goal
+
+pub returns-in_default : goal.returns-in_default
+unfolding enter_f
+returns-in_default c =
+    rw (← c.read_field-read.ensures, c.in_default.is)
+
+pub returns-then-not-is_right : goal.returns-then-not-is_right
+unfolding enter_f
+returns-then-not-is_right c =
+    rw (
+      ← c.read_field-read.ensures,
+      c.in-Whole.is,
+      ← c.is_right.ensures,
+      c.if-not-is_right.true,
+    )
+
+pub returns-then-not-name_scope : goal.returns-then-not-name_scope
+unfolding enter_f
+returns-then-not-name_scope c =
+    rw (
+      ← c.read_field-read.ensures,
+      c.in-Whole.is,
+      ← c.is_right.ensures,
+      c.if-not-is_right.false,
+      ← c.scope_in.ensures,
+      ← c.name_scope.ensures.told,
+      c.if-not-name_scope.true,
+    )
+
+pub returns : goal.returns
+unfolding enter_f
+returns c =
+    rw (
+      c.name_scope.ensures.marked,
+      ← c.read_field-read.ensures,
+      c.in-Whole.is,
+      ← c.is_right.ensures,
+      c.if-not-is_right.false,
+      ← c.scope_in.ensures,
+      ← c.name_scope.ensures.told,
+      c.if-not-name_scope.false,
+    )

@@ -1,0 +1,17 @@
+-- `checking::read_scopes` meets its contract. Assumes nothing.
+use mathlib.Core.Path.{◌≡◌}
+use mathlib.Core.Bool.{◌||◌}
+use Prim.Native.Nat.{◌-◌, ◌≤◌}
+use lib.ListN.{get_or}
+use lib.Dec.{eqb}
+use Rattle.meaning.specs.Reading.{read_rows, read_scopes, scope_at, most_rows}
+use Rattle.checking.proofs.read_scopes.Given as goal
+
+abbrev pub invariant-loop-k : goal.invariant-loop-k
+invariant-loop-k l =
+    (l.k ≤ most_rows)
+    × (read_scopes l.file l.from
+    ≡ read_rows (λ l.k l.at. eqb l.k 0 || eqb (get_or l.file l.at 0) 41) (scope_at l.file) (most_rows - l.k) l.k l.at)
+
+abbrev pub decreases-loop-k : goal.decreases-loop-k
+decreases-loop-k l = most_rows - l.k
