@@ -1,15 +1,20 @@
 // Checks the file on standard input, takes its figures and lowers it, a hundred times each, and prints what came of it. For measuring.
 #![tactic(auto)]
+
 use checking::Checked;
 use figures::Figured;
-use libc::STDOUT_FILENO;
 use lowering::Lowered;
+use std::io;
+use std::io::Read;
 
 const TIMES: u32 = 100;
 
-fn show(text: &[u8], n: u64) {
-    io::write_all(STDOUT_FILENO, text);
-    io::print_decimal(STDOUT_FILENO, n);
+// The most bytes that are read.
+const MOST_READ: u64 = 65536;
+
+fn show(rt: &impl Print, text: &[u8], n: u64) -> io::Result<()> {
+    rt.write_all(text)?;
+    rt.print(n)
 }
 
 // 1 if the file is fine.
@@ -44,20 +49,16 @@ fn lower_once(
 
 fn checks(file: &[u8]) -> u64 {
     let mut fine: u64 = 0;
-    let mut k: u32 = 0;
-    while k < TIMES {
+    for _ in 0..TIMES {
         fine = check_once(file);
-        k += 1;
     }
     fine
 }
 
 fn figures_again(file: &[u8]) -> u64 {
     let mut records: u64 = 0;
-    let mut k: u32 = 0;
-    while k < TIMES {
+    for _ in 0..TIMES {
         records = figures_once(file);
-        k += 1;
     }
     records
 }
@@ -70,10 +71,8 @@ fn lowerings(
     out: &mut [u8],
 ) -> u64 {
     let mut bytes: u64 = 0;
-    let mut k: u32 = 0;
-    while k < TIMES {
+    for _ in 0..TIMES {
         bytes = lower_once(file, records, scopes, symbols, out);
-        k += 1;
     }
     bytes
 }
@@ -86,15 +85,15 @@ fn lower(file: &[u8]) -> u64 {
     lowerings(file, &mut records, &mut scopes, &mut symbols, &mut out)
 }
 
-fn run(file: &[u8]) {
-    show(b"fine ", checks(file));
-    show(b", records when lowered ", figures_again(file));
-    show(b", bytes written ", lower(file));
-    io::write_all(STDOUT_FILENO, b"\n");
+fn run(rt: &impl Print, file: &[u8]) -> io::Result<()> {
+    show(rt, b"fine ", checks(file))?;
+    show(rt, b", records when lowered ", figures_again(file))?;
+    show(rt, b", bytes written ", lower(file))?;
+    rt.write_all(b"\n")
 }
 
-fn main() {
-    let mut buf = io::large_buffer();
-    let n = io::read_full(libc::STDIN_FILENO, &mut buf);
-    run(&buf[..n]);
+fn main(rt: HostRuntime) -> io::Result<()> {
+    let mut file = Vec::new(rt.alloc());
+    rt.reader().take(MOST_READ).read_to_end(&mut file)?;
+    run(&rt, &file)
 }

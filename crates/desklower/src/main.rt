@@ -1,39 +1,41 @@
 // The desk's program: a tree file from standard input, lowered to standard output, or its refusal.
 //
 // It lends 4,096 record rows, 1,024 scope rows, 1,024 symbol rows and 65,536 output bytes. One byte more is read than a file may have, so
-// that a longer input is refused with 1.
+// that a longer input is refused with 1. Where reading or writing fails, the program ends with that error.
 #![tactic(auto)]
-use libc::{STDIN_FILENO, STDOUT_FILENO};
+
 use lowering::Lowered;
+use std::io;
+use std::io::Read;
 
-fn write_refusal(number: u8, place: usize) {
-    io::write_all(STDOUT_FILENO, b"refused ");
-    io::print_decimal(STDOUT_FILENO, number as u64);
-    io::write_all(STDOUT_FILENO, b" at ");
-    io::print_decimal(STDOUT_FILENO, place as u64);
-    io::write_all(STDOUT_FILENO, b"\n");
+// The most bytes that are read.
+const MOST_READ: u64 = 65536;
+
+fn write_refusal(rt: &impl Print, number: u8, place: usize) -> io::Result<()> {
+    println!(rt; "refused {number} at {place}")
 }
 
-fn write_file(out: &[u8], length: u64) {
+fn write_file(rt: &impl Print, out: &[u8], length: u64) -> io::Result<()> {
     if length <= (out.len() as u64) {
-        io::write_all(STDOUT_FILENO, &out[..(length as usize)]);
+        rt.write_all(&out[..(length as usize)])?;
     }
+    Ok(())
 }
 
-fn lower(file: &[u8]) {
+fn lower(rt: &impl Print, file: &[u8]) -> io::Result<()> {
     let mut records = [0u16; 28672];
     let mut scopes = [0u16; 3072];
     let mut symbols = [0u16; 6144];
-    let mut out = io::large_buffer();
+    let mut out = [0u8; 65536];
     let answer = lowering::lower(file, &mut records, &mut scopes, &mut symbols, &mut out);
     match answer {
-        Lowered::Written(g) => write_file(&out, g.bytes),
-        Lowered::Refused(number, place) => write_refusal(number, place),
+        Lowered::Written(g) => write_file(rt, &out, g.bytes),
+        Lowered::Refused(number, place) => write_refusal(rt, number, place),
     }
 }
 
-fn main() {
-    let mut file = io::large_buffer();
-    let n = io::read_full(STDIN_FILENO, &mut file);
-    lower(&file[..n]);
+fn main(rt: HostRuntime) -> io::Result<()> {
+    let mut file = Vec::new(rt.alloc());
+    rt.reader().take(MOST_READ).read_to_end(&mut file)?;
+    lower(&rt, &file)
 }

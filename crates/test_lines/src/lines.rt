@@ -1,21 +1,22 @@
 // What the forms share: places in a text, decimal numbers, bytes in hexadecimal, answers, and the count of what agreed.
-ghost use Rattle.std.specs.Prelude.{◌≤◌};
+ghost use Rattle.std.specs.Prelude.{◌≤◌, length, IfOk};
 
 use figures::FinalFigures;
-use libc::STDOUT_FILENO;
+use std::io;
+use std::io::Read;
 
 // No place is larger.
 const LAST: usize = 100000000;
 
 // ---- printing
 
-pub fn put(text: &[u8]) {
-    io::write_all(STDOUT_FILENO, text);
+pub fn put(rt: &impl Print, text: &[u8]) -> io::Result<()> {
+    rt.write_all(text)
 }
 
-pub fn put_number(text: &[u8], n: u64) {
-    put(text);
-    io::print_decimal(STDOUT_FILENO, n);
+pub fn put_number(rt: &impl Print, text: &[u8], n: u64) -> io::Result<()> {
+    put(rt, text)?;
+    rt.print(n)
 }
 
 // ---- how many agreed
@@ -35,20 +36,20 @@ fn one_more(n: u64) -> u64 {
 }
 
 // One case more; one that differs is named by its number.
-pub fn add(seen: Seen, agrees: bool) -> Seen {
+pub fn add(rt: &impl Print, seen: Seen, agrees: bool) -> io::Result<Seen> {
     let all = one_more(seen.all);
     if agrees {
-        return Seen {
+        return Ok(Seen {
             all: all,
             right: one_more(seen.right),
-        };
+        });
     }
-    put_number(b"differs: ", all);
-    put(b"\n");
-    Seen {
+    put_number(rt, b"differs: ", all)?;
+    put(rt, b"\n")?;
+    Ok(Seen {
         all: all,
         right: seen.right,
-    }
+    })
 }
 
 // ---- places in a text
@@ -68,16 +69,14 @@ pub fn byte(text: &[u8], at: usize) -> u8 {
     if at < text.len() { text[at] } else { 0 }
 }
 
-// The place of the next such character, or the end.
+// The place of the next such character, or the end; a place past the end stays.
 pub fn find(text: &[u8], from: usize, c: u8) -> usize {
-    let mut i = from;
-    while i < text.len() {
+    for i in from..text.len() {
         if text[i] == c {
             return i;
         }
-        i += 1;
     }
-    i
+    from.max(text.len())
 }
 
 // The place behind the next such character.
@@ -97,22 +96,36 @@ pub fn part(text: &[u8], from: usize, end: usize) -> &[u8] {
 
 // ---- reading
 
-// Reads on behind the bytes that are there; how many there are then.
-pub fn read_more(fd: i32, room: &mut [u8], kept: usize) -> usize {
-    if room.len() < kept {
-        return kept;
+// Reads until the room is full or the file ends; how many bytes were read.
+fn read_full(file: &mut impl Read, room: &mut [u8]) -> io::Result<usize>
+    ensures { IfOk result (λ n. n ≤ length room.new) }
+{
+    let mut done = 0;
+    while done < room.len() {
+        let n = file.read(&mut room[done..])?;
+        if n == 0 {
+            break;
+        }
+        done += n;
     }
-    plus(kept, io::read_full(fd, &mut room[kept..]))
+    Ok(done)
+}
+
+// Reads on behind the bytes that are there; how many there are then.
+pub fn read_more(file: &mut impl Read, room: &mut [u8], kept: usize) -> io::Result<usize> {
+    if room.len() < kept {
+        return Ok(kept);
+    }
+    let n = read_full(file, &mut room[kept..])?;
+    Ok(plus(kept, n))
 }
 
 // How many of the first bytes are whole lines.
 pub fn whole_lines(room: &[u8], n: usize) -> usize {
-    let mut end = n;
-    while 0 < end {
-        if byte(room, end - 1) == b'\n' {
-            return end;
+    for last in (0..n).rev() {
+        if byte(room, last) == b'\n' {
+            return last + 1;
         }
-        end -= 1;
     }
     0
 }
@@ -121,8 +134,7 @@ pub fn whole_lines(room: &[u8], n: usize) -> usize {
 pub fn to_front(room: &mut [u8], from: usize, end: usize) -> usize {
     let most = room.len();
     let mut n: usize = 0;
-    let mut at = from;
-    while at < end {
+    for at in from..end {
         if most <= at {
             break;
         }
@@ -130,7 +142,6 @@ pub fn to_front(room: &mut [u8], from: usize, end: usize) -> usize {
             break;
         }
         room[n] = room[at];
-        at += 1;
         n += 1;
     }
     n
@@ -229,13 +240,11 @@ pub fn read_hex(text: &[u8], from: usize, file: &mut [u8]) -> usize {
 // The text from a place on is these bytes.
 pub fn spells(text: &[u8], from: usize, file: &[u8]) -> bool {
     let mut at = from;
-    let mut i = 0;
-    while i < file.len() {
-        if hex_at(text, at) != wide(file[i]) {
+    for x in file {
+        if hex_at(text, at) != wide(*x) {
             return false;
         }
         at = plus(at, 2);
-        i += 1;
     }
     at == text.len()
 }

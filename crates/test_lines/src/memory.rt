@@ -2,6 +2,9 @@
 use crate::lines;
 use figures::FinalFigures;
 
+// A file has fewer bytes. So many are lent for a file, for what is written and for its text.
+pub const LARGE: usize = 65536;
+
 // What stands in the lent memory before a call.
 pub const NUMBER: u16 = 43981;
 
@@ -10,44 +13,32 @@ const BYTE: u8 = 170;
 // ---- the lent memory
 
 pub fn fill_numbers(table: &mut [u16]) {
-    let n = table.len();
-    let mut i = 0;
-    while i < n {
-        table[i] = NUMBER;
-        i += 1;
+    for x in table.iter_mut() {
+        *x = NUMBER;
     }
 }
 
 pub fn fill_bytes(out: &mut [u8]) {
-    let n = out.len();
-    let mut i = 0;
-    while i < n {
-        out[i] = BYTE;
-        i += 1;
+    for x in out.iter_mut() {
+        *x = BYTE;
     }
 }
 
 fn all_numbers(table: &[u16], v: u16) -> bool {
-    let n = table.len();
-    let mut i = 0;
-    while i < n {
-        if table[i] != v {
+    for x in table {
+        if *x != v {
             return false;
         }
-        i += 1;
     }
     true
 }
 
 // Behind an offset the output is as it was.
 fn kept_behind(out: &[u8], from: usize) -> bool {
-    let n = out.len();
-    let mut i = from;
-    while i < n {
+    for i in from..out.len() {
         if out[i] != BYTE {
             return false;
         }
-        i += 1;
     }
     true
 }

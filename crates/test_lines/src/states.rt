@@ -171,8 +171,7 @@ fn next_field(tree: &[u8], at: usize) -> usize {
 fn same_tree(tree: &[u8], w: Walk, records: &[u16], scopes: &[u16], symbols: &[u16]) -> bool {
     let mut rows = no_rows();
     let mut at: usize = 0;
-    let mut k: u32 = 0;
-    while k < MOST_FIELDS {
+    for _ in 0..MOST_FIELDS {
         if tree.len() <= at {
             break;
         }
@@ -181,7 +180,6 @@ fn same_tree(tree: &[u8], w: Walk, records: &[u16], scopes: &[u16], symbols: &[u
         }
         rows = counted(rows, fields::tag_at(tree, at));
         at = next_field(tree, at);
-        k += 1;
     }
     same_rows(rows, rows_of(w))
 }

@@ -2,7 +2,7 @@
 // with records, scopes, symbols, contexts and bytes.
 use checking::Checked;
 use figures::{Figured, FinalFigures};
-use test_lines::lines;
+use test_lines::{lines, memory};
 
 fn check_agrees(file: &[u8], line: &[u8], at: usize) -> bool {
     match checking::check(file) {
@@ -28,7 +28,7 @@ fn figures_agree(file: &[u8], line: &[u8], at: usize) -> bool {
 }
 
 pub fn agrees(line: &[u8]) -> bool {
-    let mut buffer = io::large_buffer();
+    let mut buffer = [0u8; memory::LARGE];
     let n = lines::read_hex(line, 0, &mut buffer);
     let file = lines::part(&buffer, 0, n);
     let check = lines::behind(line, 0, b'|');

@@ -3,80 +3,81 @@
 // enough for every case but those that show refusals 9 and 10.
 use figures::FinalFigures;
 use lowering::Lowered;
-use test_lines::lines;
+use std::io;
 use test_lines::lines::Seen;
+use test_lines::{lines, memory};
 
-fn show_file(name: &[u8], file: &[u8]) {
-    lines::put(name);
+fn show_file(rt: &impl Print, name: &[u8], file: &[u8]) -> io::Result<()> {
+    lines::put(rt, name)?;
     if 0 < file.len() {
-        lines::put(b" ");
+        lines::put(rt, b" ")?;
     }
-    let mut text = io::large_buffer();
+    let mut text = [0u8; memory::LARGE];
     let n = notation::show(file, &mut text);
-    lines::put(lines::part(&text, 0, n));
-    lines::put(b"\n");
+    lines::put(rt, lines::part(&text, 0, n))?;
+    lines::put(rt, b"\n")
 }
 
-fn show_figures(f: FinalFigures) {
-    lines::put_number(b"  figures: records ", f.records);
-    lines::put_number(b", scopes ", f.scopes);
-    lines::put_number(b", symbols ", f.symbols);
-    lines::put_number(b", contexts ", f.contexts);
-    lines::put_number(b", bytes ", f.bytes);
-    lines::put(b"\n");
+fn show_figures(rt: &impl Print, f: FinalFigures) -> io::Result<()> {
+    lines::put_number(rt, b"  figures: records ", f.records)?;
+    lines::put_number(rt, b", scopes ", f.scopes)?;
+    lines::put_number(rt, b", symbols ", f.symbols)?;
+    lines::put_number(rt, b", contexts ", f.contexts)?;
+    lines::put_number(rt, b", bytes ", f.bytes)?;
+    lines::put(rt, b"\n")
 }
 
-fn show_written(f: FinalFigures, out: &[u8]) {
-    show_file(b"  out:", lines::part(out, 0, f.bytes as usize));
-    show_figures(f);
+fn show_written(rt: &impl Print, f: FinalFigures, out: &[u8]) -> io::Result<()> {
+    show_file(rt, b"  out:", lines::part(out, 0, f.bytes as usize))?;
+    show_figures(rt, f)
 }
 
-fn show_refusal(number: u8, place: usize) {
-    lines::put_number(b"  refused ", number as u64);
-    lines::put_number(b" at ", place as u64);
-    lines::put(b"\n");
+fn show_refusal(rt: &impl Print, number: u8, place: usize) -> io::Result<()> {
+    lines::put_number(rt, b"  refused ", number as u64)?;
+    lines::put_number(rt, b" at ", place as u64)?;
+    lines::put(rt, b"\n")
 }
 
-fn show_lowered(file: &[u8]) {
+fn show_lowered(rt: &impl Print, file: &[u8]) -> io::Result<()> {
     let mut records = [0u16; 448];
     let mut scopes = [0u16; 72];
     let mut symbols = [0u16; 96];
     let mut out = [0u8; 724];
     match lowering::lower(file, &mut records, &mut scopes, &mut symbols, &mut out) {
-        Lowered::Written(f) => show_written(f, &out),
-        Lowered::Refused(number, place) => show_refusal(number, place),
+        Lowered::Written(f) => show_written(rt, f, &out),
+        Lowered::Refused(number, place) => show_refusal(rt, number, place),
     }
 }
 
-fn show_case(line: &[u8]) {
-    let mut buffer = io::buffer();
+fn show_case(rt: &impl Print, line: &[u8]) -> io::Result<()> {
+    let mut buffer = [0u8; 4096];
     let n = notation::encode(line, &mut buffer);
     let file = lines::part(&buffer, 0, n);
-    show_file(b"  in:", file);
-    show_lowered(file);
+    show_file(rt, b"  in:", file)?;
+    show_lowered(rt, file)
 }
 
 // A file that no line can hold: 65,536 zeros.
-fn show_too_long() {
-    let file = io::large_buffer();
-    show_lowered(&file);
+fn show_too_long(rt: &impl Print) -> io::Result<()> {
+    let file = [0u8; memory::LARGE];
+    show_lowered(rt, &file)
 }
 
-pub fn show_line(line: &[u8], seen: Seen) -> Seen {
+pub fn show_line(rt: &impl Print, line: &[u8], seen: Seen) -> io::Result<Seen> {
     let c = lines::byte(line, 0);
     match c {
         b'#' => {
-            lines::put(line);
-            lines::put(b"\n");
-            seen
+            lines::put(rt, line)?;
+            lines::put(rt, b"\n")?;
+            Ok(seen)
         }
         b'z' => {
-            show_too_long();
-            lines::add(seen, true)
+            show_too_long(rt)?;
+            lines::add(rt, seen, true)
         }
         _ => {
-            show_case(line);
-            lines::add(seen, true)
+            show_case(rt, line)?;
+            lines::add(rt, seen, true)
         }
     }
 }

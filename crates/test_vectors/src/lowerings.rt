@@ -84,7 +84,7 @@ fn replay_lent(
 
 // With so many output bytes.
 fn replay_file(file: &[u8], line: &[u8], at: usize) -> bool {
-    let mut out = io::large_buffer();
+    let mut out = [0u8; memory::LARGE];
     let records = lines::read_number(line, 0);
     let scopes = lines::read_number(line, records.next);
     let symbols = lines::read_number(line, scopes.next);
@@ -105,7 +105,7 @@ fn replay_file(file: &[u8], line: &[u8], at: usize) -> bool {
 }
 
 pub fn agrees(line: &[u8]) -> bool {
-    let mut buffer = io::large_buffer();
+    let mut buffer = [0u8; memory::LARGE];
     let file = lines::behind(line, 0, b'|');
     let n = lines::read_hex(line, file, &mut buffer);
     replay_file(

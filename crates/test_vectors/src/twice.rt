@@ -4,8 +4,9 @@ use checking::Checked;
 use figures::FinalFigures;
 use lowering::Lowered;
 use meaning::refusal;
-use test_lines::lines;
+use std::io;
 use test_lines::lines::Seen;
+use test_lines::{lines, memory};
 
 // ---- the second answer
 
@@ -38,12 +39,10 @@ fn same_bytes(file: &[u8], out: &[u8]) -> bool {
     if file.len() != n {
         return false;
     }
-    let mut i = 0;
-    while i < n {
+    for i in 0..n {
         if out[i] != lines::byte(file, i) {
             return false;
         }
-        i += 1;
     }
     true
 }
@@ -95,7 +94,7 @@ fn agrees_with(
     symbols: &mut [u16],
     n: usize,
 ) -> bool {
-    let mut out = io::large_buffer();
+    let mut out = [0u8; memory::LARGE];
     if out.len() < n {
         return false;
     }
@@ -110,7 +109,7 @@ fn agrees_short(
     symbols: &mut [u16],
     n: usize,
 ) -> bool {
-    let mut out = io::large_buffer();
+    let mut out = [0u8; memory::LARGE];
     if out.len() < n {
         return false;
     }
@@ -161,9 +160,9 @@ fn agrees_again(first: FinalFigures, file: &[u8], r: usize, s: usize, y: usize) 
 // ---- the first
 
 // A file that reading does not accept, since it has grown too long or too deep, is not counted.
-fn add_written(first: FinalFigures, file: &[u8], seen: Seen) -> Seen {
+fn add_written(rt: &impl Print, first: FinalFigures, file: &[u8], seen: Seen) -> io::Result<Seen> {
     if !is_read(file) {
-        return seen;
+        return Ok(seen);
     }
     let agrees = agrees_again(
         first,
@@ -172,56 +171,57 @@ fn add_written(first: FinalFigures, file: &[u8], seen: Seen) -> Seen {
         first.scopes as usize,
         first.symbols as usize,
     );
-    lines::add(seen, agrees)
+    lines::add(rt, seen, agrees)
 }
 
-fn add_file(file: &[u8], seen: Seen) -> Seen {
+fn add_file(rt: &impl Print, file: &[u8], seen: Seen) -> io::Result<Seen> {
     let mut records = [0u16; 28672];
     let mut scopes = [0u16; 3072];
     let mut symbols = [0u16; 6144];
-    let mut out = io::large_buffer();
+    let mut out = [0u8; memory::LARGE];
     match lowering::lower(file, &mut records, &mut scopes, &mut symbols, &mut out) {
-        Lowered::Written(g) => add_written(g, lines::part(&out, 0, g.bytes as usize), seen),
-        Lowered::Refused(_, _) => seen,
+        Lowered::Written(g) => add_written(rt, g, lines::part(&out, 0, g.bytes as usize), seen),
+        Lowered::Refused(_, _) => Ok(seen),
     }
 }
 
 // ---- the files of lines
 
 // From a place on, in hexadecimal digits; of a lowering, behind its memory.
-pub fn add_digits(line: &[u8], at: usize, seen: Seen) -> Seen {
-    let mut buffer = io::large_buffer();
+pub fn add_digits(rt: &impl Print, line: &[u8], at: usize, seen: Seen) -> io::Result<Seen> {
+    let mut buffer = [0u8; memory::LARGE];
     let n = lines::read_hex(line, at, &mut buffer);
-    add_file(lines::part(&buffer, 0, n), seen)
+    add_file(rt, lines::part(&buffer, 0, n), seen)
 }
 
-pub fn add_lowering(line: &[u8], seen: Seen) -> Seen {
-    add_digits(line, lines::behind(line, 0, b'|'), seen)
+pub fn add_lowering(rt: &impl Print, line: &[u8], seen: Seen) -> io::Result<Seen> {
+    add_digits(rt, line, lines::behind(line, 0, b'|'), seen)
 }
 
-fn add_notation(text: &[u8], seen: Seen) -> Seen {
-    let mut buffer = io::large_buffer();
+fn add_notation(rt: &impl Print, text: &[u8], seen: Seen) -> io::Result<Seen> {
+    let mut buffer = [0u8; memory::LARGE];
     let n = notation::encode(text, &mut buffer);
-    add_file(lines::part(&buffer, 0, n), seen)
+    add_file(rt, lines::part(&buffer, 0, n), seen)
 }
 
 // Of a walk, its first line.
-pub fn add_walk(line: &[u8], seen: Seen) -> Seen {
+pub fn add_walk(rt: &impl Print, line: &[u8], seen: Seen) -> io::Result<Seen> {
     if lines::byte(line, 0) != b'f' {
-        return seen;
+        return Ok(seen);
     }
     add_notation(
+        rt,
         lines::part(line, lines::behind(line, 0, b' '), line.len()),
         seen,
     )
 }
 
 // Of the corners, all but headings and the file that is too long.
-pub fn add_corner(line: &[u8], seen: Seen) -> Seen {
+pub fn add_corner(rt: &impl Print, line: &[u8], seen: Seen) -> io::Result<Seen> {
     let c = lines::byte(line, 0);
     match c {
-        b'#' => seen,
-        b'z' => seen,
-        _ => add_notation(line, seen),
+        b'#' => Ok(seen),
+        b'z' => Ok(seen),
+        _ => add_notation(rt, line, seen),
     }
 }

@@ -1,21 +1,23 @@
 // A walk is a line `file FILE` in the notation of 01, and a line for what `start` leaves and for each `visit_call` after it: `K R,S,Y TREE`, the
 // visits made, how many records, scopes and symbols there are, and the scope rows, symbol rows and records in the notation, or `same`.
+use std::io;
 use test_lines::lines::Seen;
 use test_lines::states::{Begun, Stand};
-use test_lines::{lines, states};
+use test_lines::{lines, memory, states};
 
 // A walk has at most so many states.
 const MOST_STATES: u32 = 100000;
 
 // A state is compared, and a visit made.
 fn step(
+    rt: &impl Print,
     text: &[u8],
     s: Stand,
     tree: &mut [u8],
     records: &mut [u16],
     scopes: &mut [u16],
     symbols: &mut [u16],
-) -> Stand {
+) -> io::Result<Stand> {
     let at = s.next;
     let w = s.walk;
     let end = lines::find(text, at, b'\n');
@@ -23,49 +25,55 @@ fn step(
     let told = states::rows_told(text, at);
     let agrees = states::holds(told, tree, len, w, records, scopes, symbols);
     let before = s.seen;
-    let seen = lines::add(before, agrees);
+    let seen = lines::add(rt, before, agrees)?;
     let moved = walk::visit_call(w, records, scopes, symbols);
-    Stand {
+    Ok(Stand {
         last: at,
         next: lines::plus(end, 1),
         len: len,
         seen: seen,
         walk: moved,
-    }
+    })
 }
 
 // The states of a walk, and one call more, which changes nothing.
 fn replay_states(
+    rt: &impl Print,
     text: &[u8],
     first: Stand,
     tree: &mut [u8],
     records: &mut [u16],
     scopes: &mut [u16],
     symbols: &mut [u16],
-) -> Seen {
+) -> io::Result<Seen> {
     let mut s = first;
-    let mut k: u32 = 0;
-    while k < MOST_STATES {
+    for _ in 0..MOST_STATES {
         if !states::is_state(text, s.next) {
             break;
         }
-        s = step(text, s, tree, records, scopes, symbols);
-        k += 1;
+        s = step(rt, text, s, tree, records, scopes, symbols)?;
     }
     let w = s.walk;
     let told = states::rows_told(text, s.last);
     let agrees = states::holds(told, tree, s.len, w, records, scopes, symbols);
     let seen = s.seen;
-    lines::add(seen, agrees)
+    lines::add(rt, seen, agrees)
 }
 
-fn replay_file(file: &[u8], text: &[u8], at: usize, seen: Seen) -> Seen {
-    let mut tree = io::large_buffer();
+fn replay_file(
+    rt: &impl Print,
+    file: &[u8],
+    text: &[u8],
+    at: usize,
+    seen: Seen,
+) -> io::Result<Seen> {
+    let mut tree = [0u8; memory::LARGE];
     let mut records = [0u16; 3584];
     let mut scopes = [0u16; 768];
     let mut symbols = [0u16; 1536];
     match states::begin(file, at, seen, &mut records, &mut scopes, &mut symbols) {
         Begun::Walking(first) => replay_states(
+            rt,
             text,
             first,
             &mut tree,
@@ -73,20 +81,26 @@ fn replay_file(file: &[u8], text: &[u8], at: usize, seen: Seen) -> Seen {
             &mut scopes,
             &mut symbols,
         ),
-        Begun::Refused => lines::add(seen, false),
+        Begun::Refused => lines::add(rt, seen, false),
     }
 }
 
 // The walk whose first line the text begins with; none, if that line is none's.
-pub fn replay(text: &[u8], seen: Seen) -> Seen {
+pub fn replay(rt: &impl Print, text: &[u8], seen: Seen) -> io::Result<Seen> {
     if lines::byte(text, 0) != b'f' {
-        return seen;
+        return Ok(seen);
     }
-    let mut buffer = io::large_buffer();
+    let mut buffer = [0u8; memory::LARGE];
     let end = lines::find(text, 0, b'\n');
     let n = notation::encode(
         lines::part(text, lines::behind(text, 0, b' '), end),
         &mut buffer,
     );
-    replay_file(lines::part(&buffer, 0, n), text, lines::plus(end, 1), seen)
+    replay_file(
+        rt,
+        lines::part(&buffer, 0, n),
+        text,
+        lines::plus(end, 1),
+        seen,
+    )
 }
