@@ -1,5 +1,6 @@
 // Block, function body, static block and try parts get a context. Each is rewritten where it stands, as the first of the rows still to visit.
 #![tactic(auto)]
+
 ghost use Rattle.std.specs.Prelude.{◌≡◌};
 ghost use Rattle.path.specs.Path.{tables};
 ghost use Rattle.tables.specs.Stream.{buf};

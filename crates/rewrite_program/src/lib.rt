@@ -1,5 +1,6 @@
 // `enter_program`: functions, imports and exports stay first, all else goes into a new Block.
 #![tactic(auto)]
+
 mod placing;
 
 ghost use Rattle.std.specs.Prelude.{◌≡◌};

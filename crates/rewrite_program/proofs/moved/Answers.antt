@@ -1,0 +1,43 @@
+-- `rewrite_program::moved` meets its contract. Assumes nothing.
+use Rattle.rewrite_program.specs.Plan.{moved_f}
+use Rattle.rewrite_program.proofs.moved.Goals as goal
+
+pub returns-in-Kept : goal.returns-in-Kept
+unfolding moved_f
+returns-in-Kept c =
+    rw c.in-Kept.is
+
+pub returns-in-Moved : goal.returns-in-Moved
+unfolding moved_f
+returns-in-Moved c =
+    rw c.in-Moved.is
+
+pub returns-in-Declared : goal.returns-in-Declared
+unfolding moved_f
+returns-in-Declared c =
+    rw c.in-Declared.is
+
+pub returns-in-Class : goal.returns-in-Class
+unfolding moved_f
+returns-in-Class c =
+    rw c.in-Class.is
+
+pub returns-in-DefaultClass : goal.returns-in-DefaultClass
+unfolding moved_f
+returns-in-DefaultClass c =
+    rw c.in-DefaultClass.is
+
+pub returns-in-DefaultValue : goal.returns-in-DefaultValue
+unfolding moved_f
+returns-in-DefaultValue c =
+    rw c.in-DefaultValue.is
+
+pub returns-in-ExportedClass : goal.returns-in-ExportedClass
+unfolding moved_f
+returns-in-ExportedClass c =
+    rw c.in-ExportedClass.is
+
+pub returns-in-ExportedDeclaration : goal.returns-in-ExportedDeclaration
+unfolding moved_f
+returns-in-ExportedDeclaration c =
+    rw c.in-ExportedDeclaration.is

@@ -1,0 +1,23 @@
+-- `rewrite_program::transform_items` meets its contract. Assumes nothing.
+use mathlib.Core.Path.{refl, ◌∙◌}
+use native.Mathlib.Nat.{sub-zero}
+use Rattle.tables.specs.Loops.{next_turn, last_turn}
+use Rattle.rewrite_program.specs.Program.{transform_items_f}
+use borrow.Author.Rules.{rules}
+use Rattle.rewrite_program.proofs.transform_items.Goals as goal
+
+pub loop-k-init : goal.loop-k-init
+loop-k-init c = (search rules, refl, refl, rw sub-zero)
+
+pub loop-k-preserved : goal.loop-k-preserved
+loop-k-preserved c = (
+  search rules,
+  c.transform_item-s.auto.records ∙ c.loop-k.invariant.1,
+  c.transform_item-s.auto.symbols ∙ c.loop-k.invariant.2,
+  rw c.transform_item-s.ensures (next_turn _ _ _ _ _ c.loop-k.invariant.3 c.loop-k-test.true),
+)
+
+pub returns : goal.returns
+unfolding transform_items_f
+returns c =
+    last_turn _ _ _ _ _ c.loop-k.invariant.3 c.loop-k-test.false
