@@ -2,6 +2,7 @@
 //
 // The rows of such a ForOf: its own, the Declaration's, the Declarator's, the Name's, then the expression and the body.
 #![tactic(auto)]
+
 ghost use Rattle.std.specs.Prelude.{◌≡◌};
 ghost use Rattle.path.specs.Path.{tables};
 ghost use Rattle.scoping.specs.Changes.{in_symbols};

@@ -1,5 +1,6 @@
 // The For, with its Labels, and the Switch.
 #![tactic(auto)]
+
 ghost use Rattle.std.specs.Prelude.{◌≡◌};
 ghost use Rattle.path.specs.Path.{tables};
 ghost use Rattle.tables.specs.Loops.{until};

@@ -1,6 +1,5 @@
 -- `rewrite_contexts::move_names` meets its contract. Assumes nothing.
 use mathlib.Core.Path.{refl, ap, ◌∙◌}
-use Prim.Native.Nat.{◌-◌}
 use native.Mathlib.Nat.{sub-zero}
 use Rattle.tables.specs.Loops.{next_turn, last_turn}
 use Rattle.rewrite_contexts.specs.Tries.{Naming, move_names_f}

@@ -1,6 +1,5 @@
 -- `rewrite_contexts::plan_parts` meets its contract. Assumes nothing.
 use mathlib.Core.Path.{ap}
-use Prim.Native.Nat.{◌-◌}
 use native.Mathlib.Nat.{sub-zero}
 use Rattle.tables.specs.Loops.{next_turn, last_turn}
 use Rattle.statements.specs.declared.Counting.{Counting}

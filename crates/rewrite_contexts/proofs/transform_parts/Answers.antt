@@ -1,6 +1,5 @@
 -- `rewrite_contexts::transform_parts` meets its contract. Assumes nothing.
 use mathlib.Core.Path.{refl, ◌∙◌}
-use Prim.Native.Nat.{◌-◌}
 use native.Mathlib.Nat.{sub-zero}
 use Rattle.tables.specs.Loops.{next_turn, last_turn}
 use Rattle.rewrite_contexts.specs.Tries.{transform_parts_f}
@@ -15,7 +14,7 @@ loop-k-preserved c = (
   search rules,
   c.transform_part-s.auto.records ∙ c.loop-k.invariant.1,
   c.transform_part-s.auto.scopes ∙ c.loop-k.invariant.2,
-  c.transform_part-s.auto.scopes ∙ c.loop-k.invariant.3,
+  c.transform_part-s.auto.symbols ∙ c.loop-k.invariant.3,
   rw c.transform_part-s.ensures (next_turn _ _ _ _ _ c.loop-k.invariant.4 c.loop-k-test.true),
 )
 
