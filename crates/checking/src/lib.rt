@@ -330,7 +330,7 @@ fn below_last(file: &[u8], n: u16, at: usize) -> Answer
 }
 
 // What is left of a record when its field was entered: its children, with so many levels left for them, and its tally.
-#[cycle(check_child_check_children_check_entered_check_expression_check_statement)]
+#[cycle(records)]
 fn check_entered(
     file: &[u8],
     marks: &mut [u8],
@@ -357,7 +357,7 @@ fn check_entered(
 
 // A statement, what else stands in Program or a list, or a part of one: Declarators, Cases, Catches, Bodies, StaticBlocks, Specifiers. Most
 // of them name a scope. So many levels are left for its children.
-#[cycle(check_child_check_children_check_entered_check_expression_check_statement)]
+#[cycle(records)]
 fn check_statement(
     file: &[u8],
     marks: &mut [u8],
@@ -380,7 +380,7 @@ fn check_statement(
 
 // An expression: an Expression, a Read, a Call, a Load, or a Function or Class of form 1. An Expression without children and a Read are
 // leaves and passed at once, and so is a Name, though it is a part of a Declarator or a Catch. So many levels are left for its children.
-#[cycle(check_child_check_children_check_entered_check_expression_check_statement)]
+#[cycle(records)]
 fn check_expression(
     file: &[u8],
     marks: &mut [u8],
@@ -410,7 +410,7 @@ fn check_expression(
 }
 
 // A child at its place: an expression, or a statement or a part of one. So many levels are left for its own children.
-#[cycle(check_child_check_children_check_entered_check_expression_check_statement)]
+#[cycle(records)]
 fn check_child(
     file: &[u8],
     marks: &mut [u8],
@@ -430,7 +430,7 @@ fn check_child(
 }
 
 // The children of a record at `site`, one after another, with so many levels left for them; the site's scope is that around the children.
-#[cycle(check_child_check_children_check_entered_check_expression_check_statement)]
+#[cycle(records)]
 fn check_children(
     file: &[u8],
     marks: &mut [u8],

@@ -1,5 +1,4 @@
 -- `checking::first_unnamed` meets its contract. Assumes nothing.
-use Prim.Native.Nat.{◌-◌}
 use native.Mathlib.Nat.{zero-add}
 use borrow.Author.Rules.{rules}
 use Rattle.checking.proofs.Laws.{unnamed_here, unnamed_step, unnamed_end}

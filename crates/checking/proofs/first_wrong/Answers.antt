@@ -1,5 +1,4 @@
 -- `checking::first_wrong` meets its contract. Assumes nothing.
-use Prim.Native.Nat.{◌-◌}
 use borrow.Author.Rules.{rules}
 use Rattle.checking.proofs.Counts.{wrong_first, wrong_here, wrong_step, wrong_end}
 use Rattle.checking.proofs.first_wrong.Goals as goal

@@ -4,9 +4,9 @@ use Prim.Native.Nat.{ℕ}
 use Rattle.meaning.specs.Numbers.Tag
 use Rattle.spec_laws.specs.Match.{other}
 use Rattle.checking.specs.Flat.{expression_at}
--- the last arm first
 use Rattle.checking.proofs.is_expression.Goals as goal
 
+-- the last arm first
 abbrev keys : List ℕ
 keys = Tag.Class ∷ Tag.Function ∷ Tag.Load ∷ Tag.Call ∷ Tag.Read ∷ Tag.Expression ∷ []
 

@@ -6,12 +6,12 @@ use Rattle.checking.proofs.name_scope.Goals as goal
 
 pub returns-then-n-eq0 : goal.returns-then-n-eq0
 unfolding may_name naming parent_in
-returns-then-n-eq0 c = rw (eq-eqb _ _ c.if-n-eq0.true) (refl, refl)
+returns-then-n-eq0 c = rw (eq-eqb _ _ c.if-n-eq0.true) (record { told = refl; marked = refl })
 
 pub returns-then-marks-n : goal.returns-then-marks-n
 unfolding may_name naming parent_in
 returns-then-marks-n c =
-    rw (ne_eqb _ _ c.if-n-eq0.false, lt-leb _ _ c.if-marks-n.true) (refl, refl)
+    rw (ne_eqb _ _ c.if-n-eq0.false, lt-leb _ _ c.if-marks-n.true) (record { told = refl; marked = refl })
 
 pub returns-then-read_two-cur : goal.returns-then-read_two-cur
 unfolding may_name naming parent_in
@@ -21,7 +21,7 @@ returns-then-read_two-cur c =
       le-leb _ _ c.if-marks-n.false,
       ← c.read_two.ensures,
       ne_eqb _ _ c.if-read_two-cur.true,
-    ) (refl, refl)
+    ) (record { told = refl; marked = refl })
 
 pub returns-then-marks-n-ne0 : goal.returns-then-marks-n-ne0
 unfolding may_name naming parent_in
@@ -32,7 +32,7 @@ returns-then-marks-n-ne0 c =
       ← c.read_two.ensures,
       eq-eqb _ _ c.if-read_two-cur.false,
       ne_eqb _ _ c.if-marks-n-ne0.true,
-    ) (refl, refl)
+    ) (record { told = refl; marked = refl })
 
 pub returns : goal.returns
 unfolding may_name naming parent_in
@@ -43,4 +43,4 @@ returns c =
       ← c.read_two.ensures,
       eq-eqb _ _ c.if-read_two-cur.false,
       eq-eqb _ _ c.if-marks-n-ne0.false,
-    ) (refl, refl)
+    ) (record { told = refl; marked = refl })

@@ -11,7 +11,7 @@ abbrev pub invariant-loop-k : goal.invariant-loop-k
 invariant-loop-k l =
     (l.k ≤ most_rows)
     × (read_scopes l.file l.from
-    ≡ read_rows (λ l.k l.at. eqb l.k 0 || eqb (get_or l.file l.at 0) 41) (scope_at l.file) (most_rows - l.k) l.k l.at)
+    ≡ read_rows (λ k at. eqb k 0 || eqb (get_or l.file at 0) 41) (scope_at l.file) (most_rows - l.k) l.k l.at)
 
 abbrev pub decreases-loop-k : goal.decreases-loop-k
 decreases-loop-k l = most_rows - l.k

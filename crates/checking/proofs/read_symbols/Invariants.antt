@@ -10,7 +10,7 @@ abbrev pub invariant-loop-k : goal.invariant-loop-k
 invariant-loop-k l =
     (l.k ≤ most_symbols)
     × (read_symbols l.file l.scopes l.from
-    ≡ read_rows (λ l.k l.at. eqb (get_or l.file l.at 0) 42) (λ l.k l.at. symbol_at l.file l.scopes l.at) (most_symbols - l.k) l.k l.at)
+    ≡ read_rows (λ k at. eqb (get_or l.file at 0) 42) (λ k at. symbol_at l.file l.scopes at) (most_symbols - l.k) l.k l.at)
 
 abbrev pub decreases-loop-k : goal.decreases-loop-k
 decreases-loop-k l = most_symbols - l.k

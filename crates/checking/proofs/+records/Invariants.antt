@@ -1,0 +1,37 @@
+-- The cycle of calls: records and lists of children. Assumes nothing.
+use mathlib.Core.Path.{◌≡◌}
+use Prim.Native.Nat.{◌+◌, ◌-◌, ◌*◌, ◌≤◌}
+use Rattle.meaning.specs.Grammar.{place_of}
+use Rattle.checking.specs.Flat.{ups_f, list_f, record_f, children_f}
+use Rattle.checking.proofs.+records.Given as goal
+
+-- a list asks for its children with a level less; a child asks for its record, a record for what is left of it, and that for its list of
+-- children, with the same levels
+abbrev pub decreases-check_child : goal.decreases-check_child
+decreases-check_child l = 4 * l.levels + 3
+
+abbrev pub decreases-check_children : goal.decreases-check_children
+decreases-check_children l = 4 * l.levels
+
+abbrev pub decreases-check_entered : goal.decreases-check_entered
+decreases-check_entered l = 4 * l.levels + 1
+
+abbrev pub decreases-check_expression : goal.decreases-check_expression
+decreases-check_expression l = 4 * l.levels + 2
+
+abbrev pub decreases-check_statement : goal.decreases-check_statement
+decreases-check_statement l = 4 * l.levels + 2
+
+-- what the children so far came to, and those that are left
+abbrev pub invariant-check_children-loop-k : goal.invariant-check_children-loop-k
+invariant-check_children-loop-k l =
+    (1 ≤ l.levels)
+    × (l.k ≤ l.n)
+    × (children_f l.levels l.file l.rows.scopes l.rows.symbols l.around l.role_around l.x l.scope.0 l.initial.marks
+    ≡ list_f
+    (λ j s a m.
+    record_f l.levels l.file l.rows.scopes l.rows.symbols (place_of l.around l.x j) (ups_f l.file l.role_around l.x j) l.scope.0 s a m)
+    (l.n - l.k) l.k l.t l.at l.marks)
+
+abbrev pub decreases-check_children-loop-k : goal.decreases-check_children-loop-k
+decreases-check_children-loop-k l = l.n - l.k
