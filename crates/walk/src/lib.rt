@@ -1,5 +1,6 @@
 // The walk over lent tables, one visit at a time.
 #![tactic(auto)]
+
 ghost use Rattle.std.specs.Prelude.{◌≡◌};
 ghost use Rattle.meaning.specs.Tree.{one_of};
 ghost use Rattle.path.specs.Path.{tables};
@@ -127,6 +128,7 @@ fn rewrite_for_of(records: &mut [u16], scopes: &mut [u16], symbols: &mut [u16], 
 }
 
 // The first record to visit is rewritten, by its tag.
+#[tactic(auto, unfolding(crate::specs::Visit::rewrite_f))]
 fn rewrite(records: &mut [u16], scopes: &mut [u16], symbols: &mut [u16], w: Walk) -> Walk
     ensures { tables records.new scopes.new symbols.new result
         ≡ rewrite_f (tables records.old scopes.old symbols.old w) }
