@@ -2,7 +2,7 @@
 -- Assumes nothing.
 use Rattle.std.specs.Prelude.{◌≡◌, length, get_or, drop}
 use Rattle.std.proofs.Math.Path.{refl, ap₂}
-use Rattle.std.proofs.Common.{sym, ap, ◌∙◌, arith, length-append}
+use Rattle.std.proofs.Common.{sym, ap, subst, ◌∙◌, arith, length-append}
 use mathlib.Core.List.{List, [], ◌∷◌, ◌++◌, append_assoc, append-nil}
 use Prim.Native.Nat.{ℕ, zero, suc, ◌+◌, ◌*◌, ◌-◌}
 use Rattle.std.proofs.Math.Seq.{append_snoc}
@@ -38,7 +38,9 @@ records_at_lem z a [] w = refl
 records_at_lem z a (x ∷ v) w =
     ap₂ ◌∷◌
     (ap (λ (r : Row). row (head_f r) r.n) (row_at_lem z a x (v ++ w)))
-    (rw (← length_snoc a x, ← append_snoc a x (v ++ w)) (records_at_lem z (a ++ x ∷ []) v w))
+    (rw (← length_snoc a x)
+    (subst (λ (u : List Row). list_from (record_in (table u z)) (length (a ++ x ∷ [])) (length v) ≡ shown_in v)
+    (append_snoc a x (v ++ w)) (records_at_lem z (a ++ x ∷ []) v w)))
 
 -- ---- the tree
 

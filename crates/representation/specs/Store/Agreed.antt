@@ -98,7 +98,7 @@ scopes_agreed st a (more h k r) parent =
     let s = scope_of h in
     let p = scopes_agreed st a k parent in
     let q = parent_agreed st a s parent in
-    scopes_agreed _ (either (eqb s 0) (move_scopes k parent) (change_scope_parent s parent) st p q) r parent
+    scopes_agreed ((if eqb s 0 then move_scopes k parent else change_scope_parent s parent) st).1 (either (eqb s 0) (move_scopes k parent) (change_scope_parent s parent) st p q) r parent
 
 pub below_agreed : (st : Store) → Agreed st → (s : ℕ) (f : Forest) → Agreed (insert_scope_below s f st).1
 unfolding insert_scope_below
