@@ -1,6 +1,6 @@
 -- The counts of symbols that start leaves are those of the tree just read.
 -- Assumes nothing.
-use Rattle.std.specs.Prelude.{◌≡◌, ℕ, ◌+◌, ◌*◌, ◌-◌, ◌≤◌}
+use Rattle.std.specs.Prelude.{◌≡◌, ℕ, ◌*◌, ◌-◌, ◌≤◌}
 use Rattle.std.proofs.Math.Path.{sym, ap}
 use Rattle.std.proofs.Common.{◌∙◌}
 use mathlib.Core.List.{List, [], ◌++◌, append-nil}
@@ -17,9 +17,8 @@ use Rattle.charge_laws.specs.Totals.Fits.{accepted_room}
 use Rattle.tables.specs.Columns.SymbolTable
 use Rattle.tables.specs.Table.{counts_at}
 use Rattle.mentions.specs.Counters.{add_record_f, add_rows_f}
-use Rattle.mentions.specs.Sums.{heads_of, all, two_a_record, counts_from, counted_tree}
+use Rattle.mentions.specs.Sums.{heads_of, two_a_record, counts_from, counted_tree}
 use Rattle.path.specs.Path.{Tables, tables}
-use Rattle.representation.specs.Gap.Cells.{table}
 use Rattle.representation.specs.Spots.Spots.{rest_at, Rest, walk_at, held}
 use Rattle.representation.specs.Spots.Lengths.{store_settled}
 use Rattle.representation.specs.Counts.Rows.{heads_length}

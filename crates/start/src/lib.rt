@@ -3,6 +3,7 @@
 // A refused file leaves the tables as they are. Otherwise they are cleared: the scope and symbol rows stand first in their tables, and the
 // records behind the free rows in theirs. The counts of symbols stand behind the rows for which their table has numbers.
 #![tactic(auto)]
+
 ghost use Rattle.std.specs.Prelude.{◌≡◌, ◌≤◌, min, ltb, length, replicate};
 ghost use Rattle.meaning.specs.Tree.{if◌then◌else◌};
 ghost use Rattle.path.specs.Path.{tables};

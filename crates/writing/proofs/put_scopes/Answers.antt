@@ -1,0 +1,29 @@
+-- `writing::put_scopes` meets its contract. Assumes nothing.
+use mathlib.Core.Path.{refl, ◌∙◌}
+use Prim.Native.Nat.{◌-◌}
+use native.Mathlib.Nat.{sub-zero}
+use Rattle.writing.proofs.Laws.{scopes_turn, scopes_last, behind_turn, behind_last, behind_most}
+use borrow.Author.Rules.{rules}
+use Rattle.writing.proofs.put_scopes.Goals as goal
+
+pub loop-k-init : goal.loop-k-init
+loop-k-init c = (search rules, search rules, refl, rw sub-zero, rw sub-zero)
+
+pub loop-k-preserved : goal.loop-k-preserved
+loop-k-preserved c =
+    let put = c.put_named-at.ensures in
+    let inv = c.loop-k.invariant in
+    let row = c.row_after.ensures in
+    let more = c.loop-k-test.true in (
+      search rules,
+      behind_most _ _ _ _ inv.1 put.1,
+      c.put_named-at.auto.out ∙ inv.2,
+      scopes_turn _ _ _ _ _ _ _ _ _ _ _ inv.3 more row put.0 put.1,
+      behind_turn _ _ _ _ _ _ _ inv.4 more row put.1,
+    )
+
+pub returns : goal.returns
+returns c =
+    let inv = c.loop-k.invariant in
+    let last = c.loop-k-test.false in
+    (scopes_last _ _ _ _ _ _ _ _ inv.3 last, (behind_last _ _ _ _ _ inv.4 last, search rules))

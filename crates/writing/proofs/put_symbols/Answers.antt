@@ -1,0 +1,18 @@
+-- `writing::put_symbols` meets its contract. Assumes nothing.
+use mathlib.Core.Path.{refl, ◌∙◌}
+use Prim.Native.Nat.{◌-◌}
+use Rattle.writing.specs.Stored.{rows_last}
+use Rattle.writing.proofs.Laws.{first_symbol_lem, symbols_turn}
+use borrow.Author.Rules.{rules}
+use Rattle.writing.proofs.put_symbols.Goals as goal
+
+pub loop-k-init : goal.loop-k-init
+loop-k-init c = (search rules, refl, first_symbol_lem _ _ _ _ _)
+
+pub loop-k-preserved : goal.loop-k-preserved
+loop-k-preserved c =
+    (search rules, c.put_symbol.auto.out ∙ c.loop-k.invariant.1, symbols_turn _ _ _ _ _ _ _ _ c.loop-k.invariant.2 c.loop-k-test.true c.put_symbol.ensures)
+
+pub returns : goal.returns
+returns c =
+    rows_last _ _ _ _ _ _ c.loop-k.invariant.2 c.loop-k-test.false

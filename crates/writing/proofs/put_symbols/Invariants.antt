@@ -1,0 +1,18 @@
+-- `writing::put_symbols` meets its contract. Assumes nothing.
+use mathlib.Core.Path.{◌≡◌}
+use Prim.Native.Nat.{◌+◌, ◌*◌, ◌-◌, ◌≤◌}
+use lib.ListN.{length}
+use lib.Seq.{sets}
+use Rattle.meaning.specs.File.{symbol_bytes}
+use Rattle.renumbering.specs.Numbers.{number_in}
+use Rattle.writing.specs.Writing.{symbol_field, rows_bytes}
+use Rattle.writing.proofs.put_symbols.Given as goal
+
+abbrev pub invariant-loop-k : goal.invariant-loop-k
+invariant-loop-k l =
+    (l.k ≤ l.count) × (length l.out ≡ length l.initial.out)
+    × (sets l.initial.out l.first (rows_bytes (symbol_field l.symbols (number_in l.numbers)) 0 l.count) ≡ sets l.out (l.first + symbol_bytes * l.k) (rows_bytes (symbol_field l.symbols (number_in l.numbers)) l.k (l.count - l.k)))
+
+abbrev pub decreases-loop-k : goal.decreases-loop-k
+decreases-loop-k l =
+    l.count - l.k
