@@ -2,6 +2,7 @@
 // are parted by spaces or line ends. So that every file can be shown, and read back as it was, a byte that belongs to no whole field is
 // written with a dot: `24.0.4.` are the bytes 24, 0 and 4. A text is thus never longer than 4 characters for each byte.
 #![tactic(auto)]
+
 ghost use Rattle.std.specs.Prelude.{◌≡◌, List, ◌++◌, ℕ, ◌+◌, ◌*◌, ◌-◌, ◌<◌, ◌≤◌, length, take, drop};
 ghost use Rattle.std.proofs.lemmas.List.Edits.{sets};
 ghost use Rattle.meaning.specs.File.{head_bytes};
