@@ -10,9 +10,9 @@ use Rattle.meaning.specs.Mentions.{first_named, second_named, named, mentions}
 use Rattle.meaning.specs.Reading.{accepted, read_file}
 use Rattle.meaning.specs.Grammar.{two}
 use Rattle.meaning.specs.declared.Place.TheVariants.{Settings, Program}
-use Rattle.parsing.specs.Parsed.{Parsed, Levels, ParsedFile}
+use Rattle.parsing.specs.Parsed.{Parsed, Levels, ParsedFile, AcceptedFile}
 use Rattle.parsing.specs.Fields.{scopes_are, symbols_are}
-use Rattle.parsing.specs.Files.{settings_are, file_parsed}
+use Rattle.parsing.specs.Files.{settings_are, file_accepted}
 use Rattle.parsing.specs.Accepted.{parsed_accepted}
 use Rattle.one_word_laws.specs.Changed.{WordChanged, here, behind, TreeChanged, in_list_lem, inside, beside, OneWord}
 use Rattle.one_word_laws.specs.Alike.{alike}
@@ -107,7 +107,6 @@ module _ (d : Forest) (f f' : File) (c : OneWord d f f') (b b' : List ℕ) (q ki
             subst (λ (n : ℕ). Parsed b' p.symbol_number_lem (λ _. Program) 0 0 p.root (replicate p.scope_number_lem 0) f'.tree n p.marks)
             long tree;
         one_program = sym (alike c.tree).0 ∙ p.one_program;
-        levels = tree_levels 64 c.tree p.levels;
         all_named = p.all_named;
         all_counted_lem =
             let same_counts =
@@ -120,9 +119,11 @@ module _ (d : Forest) (f f' : File) (c : OneWord d f f') (b b' : List ℕ) (q ki
 pub word_read : (d : Forest) (f f' : File) (b : List ℕ) → OneWord d f f' → read_file b ≡ accepted f
     → (at : ℕ) × (kind : ℕ) × (read_file (set b at kind) ≡ accepted f')
 word_read d f f' b c read =
-    let p = file_parsed b f read in
+    let accepted_file = file_accepted b f read in
+    let p = accepted_file.parsed in
     let (q, kind, low, high, parsed) = tree_found b p.symbol_number_lem p.scope_number_lem c.tree (length-replicate p.scope_number_lem 0) p.tree in
     let w = other_word b q kind (omega arith) in
     let b' = set b (q + 4) kind in
     let tree = parsed b' w (same_parents d f f' c b b' q kind w p low) in
-    (q + 4, kind, parsed_accepted b' f' (file_again d f f' c b b' q kind w p low tree))
+    let again : AcceptedFile b' f' = record { parsed = file_again d f f' c b b' q kind w p low tree; levels = tree_levels 64 c.tree accepted_file.levels } in
+    (q + 4, kind, parsed_accepted b' f' again)

@@ -13,7 +13,7 @@ use Rattle.meaning.specs.Reading.{accepted, read_list, read_forest, wrong_count,
 use Rattle.meaning.specs.declared.Place.{Place}
 use Rattle.meaning.specs.declared.Place.TheVariants.{Program}
 use Rattle.meaning.specs.declared.Reading.TheVariants.{Whole}
-use Rattle.parsing.specs.Parsed.{FieldAt, Parsed, parsed_none, parsed_more, Levels, ParsedFile}
+use Rattle.parsing.specs.Parsed.{FieldAt, Parsed, parsed_none, parsed_more, Levels, ParsedFile, AcceptedFile}
 use Rattle.parsing.specs.Files.{settings_are}
 
 -- ---- the steps of the reader
@@ -47,7 +47,7 @@ module _ (f : List ℕ) (syms : ℕ) where
 
 -- ---- a file
 
-module _ (f : List ℕ) (g : File) (q : ParsedFile f g) where
+module _ (f : List ℕ) (g : File) (q : ParsedFile f g) (levels : Levels 64 g.tree) where
   settings_right : (leb (field_of f 0).a 2 && leb (field_of f 0).b 1) ≡ true
   settings_right =
       let s = settings_are f q.settings in
@@ -56,12 +56,11 @@ module _ (f : List ℕ) (g : File) (q : ParsedFile f g) where
   program_read
       : read_forest 64 f q.symbol_number_lem (λ _. Program) 0 0 1 q.root (replicate q.scope_number_lem 0)
       ≡ accepted (record { forest = g.tree; next = length f; marks = q.marks })
-  program_read = rw q.one_program at (forest_accepted f q.symbol_number_lem 64 q.levels q.tree)
+  program_read = rw q.one_program at (forest_accepted f q.symbol_number_lem 64 levels q.tree)
 
-  -- WHAT IS PARSED is accepted.
-  pub parsed_accepted : read_file f ≡ accepted g
+  whole_read : read_file f ≡ accepted g
   unfolding read_file
-  parsed_accepted =
+  whole_read =
       let s = settings_are f q.settings in
       rw (
         le-leb (length f) 65535 q.small,
@@ -84,3 +83,7 @@ module _ (f : List ℕ) (g : File) (q : ParsedFile f g) where
         symbols = sym q.symbols i;
         tree = g.tree;
       }))
+
+-- WHAT IS PARSED, with at most 64 levels, is accepted.
+pub parsed_accepted : (f : List ℕ) (g : File) → AcceptedFile f g → read_file f ≡ accepted g
+parsed_accepted f g a = whole_read f g a.parsed a.levels

@@ -16,4 +16,4 @@ slice_bounds-numbers-start c = numbers_few _ _ c.new_numbers_at-at.ensures
 pub returns : goal.returns
 returns c =
     file_stored _ _ _ _ _ _ _ _ _ _ _ c.new_numbers_at-at.ensures c.put_field.ensures
-    c.put_scopes-first.ensures.bytes c.put_scopes-first.ensures.next.0 c.put_symbols.ensures c.put_records.ensures
+    c.put_scopes-first.ensures.bytes c.put_scopes-first.ensures.next c.put_symbols.ensures c.put_records.ensures

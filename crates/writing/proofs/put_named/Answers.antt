@@ -10,12 +10,12 @@ use Rattle.writing.proofs.put_named.Goals as goal
 pub returns-then-s-eq0 : goal.returns-then-s-eq0
 unfolding scope_named list_bytes
 returns-then-s-eq0 c =
-    let no_scope_lem = eq-eqb _ 0 (sym c.scope_of-s.ensures ∙ c.if-s-eq0.true) in
-    rw no_scope_lem (refl, omega arith)
+    let none = eq-eqb _ 0 (sym c.scope_of-s.ensures ∙ c.if-s-eq0.true) in
+    rw none (record { bytes = refl; next = omega arith })
 
 pub returns : goal.returns
 unfolding scope_named list_bytes
 returns c =
     let is = c.scope_of-s.ensures in
     let e = ne_eqb _ 0 c.if-s-eq0.false in
-    rw (← is, e) (rw append-nil c.put_scope.ensures, omega arith)
+    rw (← is, e) (record { bytes = rw append-nil c.put_scope.ensures; next = omega arith })

@@ -1,6 +1,5 @@
 -- `writing::put_records` meets its contract. Assumes nothing.
 use mathlib.Core.Path.{refl, sym, ◌∙◌}
-use Prim.Native.Nat.{◌-◌}
 use native.Mathlib.Nat.{sub-zero}
 use Rattle.writing.proofs.Laws.{next_most, records_turn}
 use borrow.Author.Rules.{rules}

@@ -1,6 +1,5 @@
 -- `writing::put_scopes` meets its contract. Assumes nothing.
 use mathlib.Core.Path.{refl, ◌∙◌}
-use Prim.Native.Nat.{◌-◌}
 use native.Mathlib.Nat.{sub-zero}
 use Rattle.writing.proofs.Laws.{scopes_turn, scopes_last, behind_turn, behind_last, behind_most}
 use borrow.Author.Rules.{rules}
@@ -16,14 +15,14 @@ loop-k-preserved c =
     let row = c.row_after.ensures in
     let more = c.loop-k-test.true in (
       search rules,
-      behind_most _ _ _ _ inv.1 put.1,
+      behind_most _ _ _ _ inv.1 put.next,
       c.put_named-at.auto.out ∙ inv.2,
-      scopes_turn _ _ _ _ _ _ _ _ _ _ _ inv.3 more row put.0 put.1,
-      behind_turn _ _ _ _ _ _ _ inv.4 more row put.1,
+      scopes_turn _ _ _ _ _ _ _ _ _ _ _ inv.3 more row put.bytes put.next,
+      behind_turn _ _ _ _ _ _ _ inv.4 more row put.next,
     )
 
 pub returns : goal.returns
 returns c =
     let inv = c.loop-k.invariant in
     let last = c.loop-k-test.false in
-    (scopes_last _ _ _ _ _ _ _ _ inv.3 last, (behind_last _ _ _ _ _ inv.4 last, search rules))
+    record { bytes = scopes_last _ _ _ _ _ _ _ _ inv.3 last; next = behind_last _ _ _ _ _ inv.4 last; most = search rules }

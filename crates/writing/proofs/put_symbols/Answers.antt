@@ -1,6 +1,5 @@
 -- `writing::put_symbols` meets its contract. Assumes nothing.
 use mathlib.Core.Path.{refl, ◌∙◌}
-use Prim.Native.Nat.{◌-◌}
 use Rattle.writing.specs.Stored.{rows_last}
 use Rattle.writing.proofs.Laws.{first_symbol_lem, symbols_turn}
 use borrow.Author.Rules.{rules}
