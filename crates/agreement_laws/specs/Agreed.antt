@@ -1,10 +1,10 @@
 -- IN AN ACCEPTED FILE, AND BETWEEN ANY TWO CALLS FOR A VISIT, THE SCOPE ROWS AGREE WITH THE TREE.
 -- Assumes nothing.
-use Rattle.std.specs.Prelude.{◌≡◌, refl, Bool, true, false, ◌&&◌, ℕ, zero, suc, ◌+◌, ◌≤◌, ◌<◌, length, get_or, eqb, leb}
+use Rattle.std.specs.Prelude.{if◌then◌else◌, ◌≡◌, refl, Bool, true, false, ◌&&◌, ℕ, zero, suc, ◌+◌, ◌≤◌, ◌<◌, length, get_or, eqb, leb}
 use Rattle.std.proofs.Common.{sym, ap, subst, ◌∙◌, arith, leb-true, leb-false, eq-eqb, ne_eqb, le-leb}
 use mathlib.Core.List.{List, [], ◌∷◌, ◌++◌}
 use Rattle.meaning.specs.Numbers.Tag
-use Rattle.meaning.specs.Tree.{if◌then◌else◌, hd, Forest, none, more, one, ◌&◌}
+use Rattle.meaning.specs.Tree.{hd, Forest, none, more, one, ◌&◌}
 use Rattle.meaning.specs.File.{Scope, File}
 use Rattle.meaning.specs.Grammar.{is_row, scope_of, below}
 use Rattle.meaning.specs.Agreement.{names_scope, enclosing_scopes, ScopesAgree}

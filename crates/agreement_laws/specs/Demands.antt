@@ -1,9 +1,9 @@
 -- Demands of records beside each other, around a place, and of records that get another scope above them.
 -- Assumes nothing.
-use Rattle.std.specs.Prelude.{◌≡◌, refl, Bool, true, false, not, List, [], ◌∷◌, ℕ, ◌+◌, eqb}
+use Rattle.std.specs.Prelude.{if◌then◌else◌, ◌≡◌, refl, Bool, true, false, not, List, [], ◌∷◌, ℕ, ◌+◌, eqb}
 use Rattle.std.proofs.Common.{arith, eqb-true}
 use Rattle.meaning.specs.Numbers.Tag
-use Rattle.meaning.specs.Tree.{if◌then◌else◌, Head, hd, Forest, none, more, one, ◌&◌}
+use Rattle.meaning.specs.Tree.{Head, hd, Forest, none, more, one, ◌&◌}
 use Rattle.meaning.specs.Grammar.{scope_of}
 use Rattle.meaning.specs.Scoping.{Store, create_child_scope, change_scope_parent, move_scopes, insert_scope_below}
 use Rattle.meaning.specs.Walk.{Crumb, crumb, current_scope, plug}

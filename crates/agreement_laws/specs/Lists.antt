@@ -1,11 +1,11 @@
 -- Lists that a context takes up demand what they demanded, and the context's declaration before them demands nothing.
 -- Assumes nothing.
-use Rattle.std.specs.Prelude.{◌≡◌, refl, Bool, true, false, ℕ, ◌+◌, eqb}
+use Rattle.std.specs.Prelude.{if◌then◌else◌, ◌≡◌, refl, Bool, true, false, ℕ, ◌+◌, eqb}
 use Rattle.std.proofs.Common.{arith}
 use Rattle.meaning.specs.Numbers.Tag
 use Rattle.meaning.specs.Numbers.Kind
 use Rattle.meaning.specs.Numbers.Mode
-use Rattle.meaning.specs.Tree.{if◌then◌else◌, Head, Forest, more, ◌&◌}
+use Rattle.meaning.specs.Tree.{Head, Forest, more, ◌&◌}
 use Rattle.meaning.specs.Grammar.{scope_of, below}
 use Rattle.meaning.specs.Agreement.{names_scope}
 use Rattle.meaning.specs.Scoping.{Store}

@@ -1,9 +1,9 @@
 -- The parts of a Try, and those of its Catch: the rows offer what comes of them demands.
 -- Assumes nothing.
-use Rattle.std.specs.Prelude.{◌≡◌, refl, Bool, true, false, ◌&&◌, List, [], ◌∷◌, ℕ, ◌+◌, eqb}
+use Rattle.std.specs.Prelude.{if◌then◌else◌, ◌≡◌, refl, Bool, true, false, ◌&&◌, List, [], ◌∷◌, ℕ, ◌+◌, eqb}
 use Rattle.std.proofs.Common.{arith}
 use Rattle.meaning.specs.Numbers.Tag
-use Rattle.meaning.specs.Tree.{if◌then◌else◌, Head, hd, Forest, none, more, Node, node, single}
+use Rattle.meaning.specs.Tree.{Head, hd, Forest, none, more, Node, node, single}
 use Rattle.meaning.specs.Grammar.{scope_of, below}
 use Rattle.meaning.specs.Agreement.{names_scope}
 use Rattle.meaning.specs.Scoping.{Store, Change, return, move_bindings}

@@ -1,12 +1,12 @@
 -- A Program with a using: the rows offer what comes of it demands.
 -- Assumes nothing.
-use Rattle.std.specs.Prelude.{◌≡◌, refl, Bool, true, false, List, [], ◌∷◌, ℕ, ◌+◌, eqb}
+use Rattle.std.specs.Prelude.{if◌then◌else◌, ◌≡◌, refl, Bool, true, false, List, [], ◌∷◌, ℕ, ◌+◌, eqb}
 use Rattle.std.proofs.Common.{sym, ◌∙◌, arith, eqb-true}
 use Rattle.meaning.specs.Numbers.Tag
 use Rattle.meaning.specs.Numbers.Kind
 use Rattle.meaning.specs.Numbers.Form
 use Rattle.meaning.specs.Numbers.SymbolFlag
-use Rattle.meaning.specs.Tree.{if◌then◌else◌, Head, hd, Forest, none, more, one, ◌&◌}
+use Rattle.meaning.specs.Tree.{Head, hd, Forest, none, more, one, ◌&◌}
 use Rattle.meaning.specs.Grammar.{scope_of, below}
 use Rattle.meaning.specs.Agreement.{names_scope}
 use Rattle.meaning.specs.Scoping.{Store, set_flags_of, insert_scope_below}

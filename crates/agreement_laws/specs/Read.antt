@@ -1,6 +1,6 @@
 -- The scope rows of an accepted file offer what its tree demands: reading marks the rows that are named, and at the end all are.
 -- Assumes nothing.
-use Rattle.std.specs.Prelude.{◌≡◌, Bool, true, false, ◌||◌, ◌&&◌, length, get_or, set, replicate, eqb}
+use Rattle.std.specs.Prelude.{if◌then◌else◌, ◌≡◌, Bool, true, false, ◌||◌, ◌&&◌, length, get_or, set, replicate, eqb}
 use Rattle.std.proofs.Math.Path.{refl}
 use Rattle.std.proofs.Common.{◌∙◌, length-set}
 use mathlib.Core.List.{List, [], ◌∷◌}
@@ -10,7 +10,7 @@ use Rattle.std.proofs.lemmas.List.{length-replicate}
 use Rattle.std.proofs.Math.Dec.{leb}
 use borrow.Author.Tests.{eqb-true, eqb-false, leb-true, not-true}
 use Rattle.meaning.specs.Numbers.Form
-use Rattle.meaning.specs.Tree.{if◌then◌else◌, Head, Forest}
+use Rattle.meaning.specs.Tree.{Head, Forest}
 use Rattle.meaning.specs.File.{File, numbers_of, has_children, own_numbers}
 use Rattle.meaning.specs.Grammar.{
   is,

@@ -1,8 +1,7 @@
 -- What the scope rows offer after each change of the store.
 -- Assumes nothing.
-use Rattle.std.specs.Prelude.{◌≡◌, refl, Bool, true, false, ◌&&◌, List, [], ◌∷◌, ◌++◌, ℕ, zero, suc, ◌+◌, ◌%◌, ◌≤◌, ◌<◌, length, get_or, set, eqb}
+use Rattle.std.specs.Prelude.{if◌then◌else◌, ◌≡◌, refl, Bool, true, false, ◌&&◌, List, [], ◌∷◌, ◌++◌, ℕ, zero, suc, ◌+◌, ◌%◌, ◌≤◌, ◌<◌, length, get_or, set, eqb}
 use Rattle.std.proofs.Common.{ap, ◌∙◌, arith, eqb-true, eq-eqb}
-use Rattle.meaning.specs.Tree.{if◌then◌else◌}
 use Rattle.meaning.specs.File.{Scope, scope_row}
 use Rattle.meaning.specs.Scoping.{Store, no_scope, row_at, set_row, scope_in, create_child_scope, change_scope_parent, set_scope_flags, insert_scope_between}
 use Rattle.spec_laws.specs.Tags.{and_left, and_right}

@@ -1,9 +1,9 @@
 -- What a tree demands of the scope rows, and what they offer, as sums over weights of a row's number and its parent. The weights are free: two sums
 -- that agree for all of them go over the same rows and parents, each as often.
 -- Assumes nothing.
-use Rattle.std.specs.Prelude.{◌≡◌, List, [], ◌∷◌, ℕ, suc, ◌+◌}
+use Rattle.std.specs.Prelude.{if◌then◌else◌, ◌≡◌, List, [], ◌∷◌, ℕ, suc, ◌+◌}
 use Rattle.std.proofs.Common.{sym, subst}
-use Rattle.meaning.specs.Tree.{if◌then◌else◌, Forest, none, more}
+use Rattle.meaning.specs.Tree.{Forest, none, more}
 use Rattle.meaning.specs.File.{Scope}
 use Rattle.meaning.specs.Grammar.{scope_of, below}
 use Rattle.meaning.specs.Agreement.{names_scope}

@@ -1,11 +1,11 @@
 -- The tree, the scope rows and the symbol rows fit 16 bits all along the walk, and so does what records mention: the bytes of an accepted file
 -- pay for what they weigh.
 -- Assumes nothing.
-use Rattle.std.specs.Prelude.{◌≡◌, refl, Bool, true, false, ◌||◌, ◌&&◌, List, [], ◌∷◌, ◌++◌, ℕ, ◌+◌, ◌*◌, ◌≤◌, length, eqb}
+use Rattle.std.specs.Prelude.{if◌then◌else◌, ◌≡◌, refl, Bool, true, false, ◌||◌, ◌&&◌, List, [], ◌∷◌, ◌++◌, ℕ, ◌+◌, ◌*◌, ◌≤◌, length, eqb}
 use Rattle.std.proofs.Common.{arith}
 use Rattle.meaning.specs.Numbers.Tag
 use Rattle.meaning.specs.Numbers.Kind
-use Rattle.meaning.specs.Tree.{if◌then◌else◌, one_of, Head, Forest, none, more, size, Row, flatten}
+use Rattle.meaning.specs.Tree.{one_of, Head, Forest, none, more, size, Row, flatten}
 use Rattle.meaning.specs.File.{settings_bytes, File, field_bytes, numbers_of}
 use Rattle.meaning.specs.Reading.{accepted, read_file}
 use Rattle.meaning.specs.Statements.{is_using}

@@ -1,8 +1,8 @@
 -- The walk of an accepted file is over after twice as many visits as there are records in the end.
 -- Assumes nothing.
-use Rattle.std.specs.Prelude.{◌≡◌, refl, Bool, true, false, List, [], ◌∷◌, ℕ, zero, suc, ◌+◌, ◌*◌, ◌≤◌, ◌<◌, leb}
+use Rattle.std.specs.Prelude.{if◌then◌else◌, ◌≡◌, refl, Bool, true, false, List, [], ◌∷◌, ℕ, zero, suc, ◌+◌, ◌*◌, ◌≤◌, ◌<◌, leb}
 use Rattle.std.proofs.Common.{sym, ap, ◌∙◌, arith, leb-true, leb-false}
-use Rattle.meaning.specs.Tree.{if◌then◌else◌, Head, Forest, none, more, one, size, ◌&◌}
+use Rattle.meaning.specs.Tree.{Head, Forest, none, more, one, size, ◌&◌}
 use Rattle.meaning.specs.File.{File}
 use Rattle.meaning.specs.Scoping.{Store}
 use Rattle.meaning.specs.Reading.{accepted, read_file}

@@ -1,11 +1,11 @@
 -- The numbers of records and rows, with a bound, and the changes of the store that keep to it.
 -- Assumes nothing.
-use Rattle.std.specs.Prelude.{Bool, true, false, ℕ, zero, suc, ◌≤◌, ◌<◌, length, get_or, set, eqb}
+use Rattle.std.specs.Prelude.{if◌then◌else◌, Bool, true, false, ℕ, zero, suc, ◌≤◌, ◌<◌, length, get_or, set, eqb}
 use mathlib.Core.List.{List, [], ◌∷◌, ◌++◌}
 use native.Mathlib.Omega.{arith}
 use Rattle.std.proofs.Math.ListN.{length-append}
 use Rattle.meaning.specs.Numbers.Tag
-use Rattle.meaning.specs.Tree.{if◌then◌else◌, one_of, Head, Forest, none, more, Node, ◌&◌}
+use Rattle.meaning.specs.Tree.{one_of, Head, Forest, none, more, Node, ◌&◌}
 use Rattle.meaning.specs.File.{Scope, Symbol, symbol_row}
 use Rattle.meaning.specs.Grammar.{scope_of}
 use Rattle.meaning.specs.Scoping.{

@@ -1,9 +1,9 @@
 -- The numbers of a context's records and rows keep to the bound.
 -- Assumes nothing.
-use Rattle.std.specs.Prelude.{Bool, not, ◌&&◌, ℕ, zero, suc, ◌+◌, ◌≤◌, List, [], ◌∷◌, length, eqb}
+use Rattle.std.specs.Prelude.{if◌then◌else◌, Bool, not, ◌&&◌, ℕ, zero, suc, ◌+◌, ◌≤◌, List, [], ◌∷◌, length, eqb}
 use native.Mathlib.Omega.{arith}
 use Rattle.meaning.specs.Numbers.Tag
-use Rattle.meaning.specs.Tree.{if◌then◌else◌, Head, Forest, none, more, one, single, ◌&◌}
+use Rattle.meaning.specs.Tree.{Head, Forest, none, more, one, single, ◌&◌}
 use Rattle.meaning.specs.File.{Symbol}
 use Rattle.meaning.specs.Shapes.{block, declaration}
 use Rattle.meaning.specs.Scoping.{Store, Change, scope_in, binds, last_binding, get_binding, find_binding}

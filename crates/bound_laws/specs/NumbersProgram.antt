@@ -1,11 +1,11 @@
 -- The numbers of a rewritten ForOf or Program keep to the bound.
 -- Assumes nothing.
-use Rattle.std.specs.Prelude.{Bool, ℕ, ◌≤◌}
+use Rattle.std.specs.Prelude.{if◌then◌else◌, Bool, ℕ, ◌≤◌}
 use mathlib.Core.List.{List, [], ◌∷◌}
 use native.Mathlib.Omega.{arith}
 use Rattle.std.proofs.Math.Dec.{eqb}
 use Rattle.meaning.specs.Numbers.Tag
-use Rattle.meaning.specs.Tree.{if◌then◌else◌, Head, Forest, none, more, one}
+use Rattle.meaning.specs.Tree.{Head, Forest, none, more, one}
 use Rattle.meaning.specs.Scoping.{Store}
 use Rattle.meaning.specs.Statements.{is_using}
 use Rattle.meaning.specs.Contexts.{names_in}

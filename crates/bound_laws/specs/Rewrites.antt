@@ -1,12 +1,12 @@
 -- The rewrites of ForOf and of Program weigh no more than what they rewrite.
 -- Assumes nothing.
-use Rattle.std.specs.Prelude.{◌≡◌, refl, Bool, true, false, ◌&&◌, List, [], ◌∷◌, ◌++◌, ℕ, ◌+◌, ◌*◌, ◌≤◌, eqb}
+use Rattle.std.specs.Prelude.{if◌then◌else◌, ◌≡◌, refl, Bool, true, false, ◌&&◌, List, [], ◌∷◌, ◌++◌, ℕ, ◌+◌, ◌*◌, ◌≤◌, eqb}
 use native.Mathlib.Omega.{arith}
 use Rattle.std.proofs.Common.{eqb-true}
 use Rattle.meaning.specs.Numbers.Tag
 use Rattle.meaning.specs.Numbers.Kind
 use Rattle.meaning.specs.Numbers.Form
-use Rattle.meaning.specs.Tree.{if◌then◌else◌, Head, hd, Forest, none, more, one, ◌&◌}
+use Rattle.meaning.specs.Tree.{Head, hd, Forest, none, more, one, ◌&◌}
 use Rattle.meaning.specs.Shapes.{declaration, read}
 use Rattle.meaning.specs.Scoping.{Store, Change, symbol_in, generate_uid, set_flags_of, insert_scope_below}
 use Rattle.meaning.specs.Statements.{is_using, any_using}

@@ -1,8 +1,7 @@
 -- The rows of a store, and what a change adds to them, at most.
 -- Assumes nothing.
-use Rattle.std.specs.Prelude.{Bool, true, false, not, ◌&&◌, ℕ, ◌+◌, ◌*◌, ◌≤◌, length, eqb}
+use Rattle.std.specs.Prelude.{if◌then◌else◌, Bool, true, false, not, ◌&&◌, ℕ, ◌+◌, ◌*◌, ◌≤◌, length, eqb}
 use Rattle.std.proofs.Common.{arith}
-use Rattle.meaning.specs.Tree.{if◌then◌else◌}
 use Rattle.meaning.specs.Scoping.{Store}
 use Rattle.charge_laws.specs.Growth.Rows.{Grown}
 

@@ -1,9 +1,9 @@
 -- The walk through some records in one go: enter the first, go through its children, leave it, then go through those beside it.
 -- Assumes nothing.
-use Rattle.std.specs.Prelude.{◌≡◌, refl, Bool, true, false, List, [], ◌∷◌, ℕ, zero, suc}
+use Rattle.std.specs.Prelude.{if◌then◌else◌, ◌≡◌, refl, Bool, true, false, List, [], ◌∷◌, ℕ, zero, suc}
 use Rattle.std.proofs.Common.{sym, ap, subst, ◌∙◌}
 use Rattle.meaning.specs.Numbers.Tag
-use Rattle.meaning.specs.Tree.{if◌then◌else◌, one_of, Head, Forest, none, more, one, Node, node, ◌&◌}
+use Rattle.meaning.specs.Tree.{one_of, Head, Forest, none, more, one, Node, node, ◌&◌}
 use Rattle.meaning.specs.File.{File}
 use Rattle.meaning.specs.Grammar.{scope_of, below}
 use Rattle.meaning.specs.Scoping.{Store, Change, return}

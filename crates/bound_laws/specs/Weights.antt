@@ -1,9 +1,9 @@
 -- What a forest weighs: each record counts itself, and what its own rewrite may still add.
 -- Assumes nothing.
-use Rattle.std.specs.Prelude.{◌≡◌, refl, Bool, true, false, ◌||◌, ◌&&◌, [], ◌∷◌, ℕ, zero, suc, ◌+◌, ◌*◌, ◌≤◌, eqb}
+use Rattle.std.specs.Prelude.{if◌then◌else◌, ◌≡◌, refl, Bool, true, false, ◌||◌, ◌&&◌, [], ◌∷◌, ℕ, zero, suc, ◌+◌, ◌*◌, ◌≤◌, eqb}
 use Rattle.std.proofs.Common.{arith, eqb-true}
 use Rattle.meaning.specs.Numbers.Tag
-use Rattle.meaning.specs.Tree.{if◌then◌else◌, one_of, Head, Forest, none, more, ◌&◌}
+use Rattle.meaning.specs.Tree.{one_of, Head, Forest, none, more, ◌&◌}
 use Rattle.meaning.specs.Statements.{
   is_using,
   is_await_using,

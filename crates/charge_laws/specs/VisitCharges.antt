@@ -1,9 +1,9 @@
 -- The charge of each visit, found in the source: one list of lines a visit, in the walk's order.
 -- Assumes nothing.
-use Rattle.std.specs.Prelude.{List, [], ◌∷◌, ◌++◌, Bool, true, false, not, ◌&&◌, ℕ, zero, suc, ◌+◌, length, replicate, eqb}
+use Rattle.std.specs.Prelude.{if◌then◌else◌, List, [], ◌∷◌, ◌++◌, Bool, true, false, not, ◌&&◌, ℕ, zero, suc, ◌+◌, length, replicate, eqb}
 use Rattle.meaning.specs.Numbers.Tag
 use Rattle.meaning.specs.Numbers.Mode
-use Rattle.meaning.specs.Tree.{if◌then◌else◌, Head, Forest, none, more, one}
+use Rattle.meaning.specs.Tree.{Head, Forest, none, more, one}
 use Rattle.meaning.specs.File.{Symbol, File}
 use Rattle.meaning.specs.Statements.{is_using, any_using}
 use Rattle.meaning.specs.ForOf.{ForOfAct, as_is, insert, wrap}

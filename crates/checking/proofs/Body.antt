@@ -1,5 +1,6 @@
 -- What the body is to a ForOf: what the bytes say is what the tree says.
 -- Assumes nothing.
+use Rattle.std.specs.Prelude.{if◌then◌else◌}
 use mathlib.Core.Path.{◌≡◌, refl, sym, ap, subst, ◌∙◌}
 use mathlib.Core.Bool.{Bool, true, false, ◌&&◌, ◌||◌, or-false}
 use mathlib.Core.List.{List, [], ◌∷◌}
@@ -8,7 +9,7 @@ use native.Mathlib.Omega.{arith}
 use lib.Dec.{eqb, leb, ltb, T, eqb→eq}
 use lib.ListN.{get_or}
 use Rattle.meaning.specs.Numbers.Tag
-use Rattle.meaning.specs.Tree.{if◌then◌else◌, one_of, Head, hd, Forest, none, more, count}
+use Rattle.meaning.specs.Tree.{one_of, Head, hd, Forest, none, more, count}
 use Rattle.meaning.specs.File.{numbers_of, has_children, own_numbers, field_bytes}
 use Rattle.meaning.specs.Grammar.{
   tags_of,

@@ -1,5 +1,6 @@
 -- Capped tallies: capping early or late comes to the same.
 -- Assumes nothing.
+use Rattle.std.specs.Prelude.{if◌then◌else◌}
 use mathlib.Core.Path.{◌≡◌, refl, sym, ap, ◌∙◌}
 use mathlib.Core.Bool.{Bool, true, false, not, ◌&&◌}
 use Prim.Native.Nat.{ℕ, zero, suc, ◌+◌}
@@ -7,7 +8,7 @@ use native.Mathlib.Omega.{arith}
 use lib.Dec.{eqb, ltb}
 use borrow.Author.Tests.{ne_eqb}
 use Rattle.meaning.specs.Numbers.Tag
-use Rattle.meaning.specs.Tree.{if◌then◌else◌, Head}
+use Rattle.meaning.specs.Tree.{Head}
 use Rattle.meaning.specs.File.{field_bytes}
 use Rattle.meaning.specs.Statements.{is_using}
 use Rattle.figures.specs.declared.tally.Role.TheVariants.{Item, Exported, ExportedName, Held}

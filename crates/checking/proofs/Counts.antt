@@ -1,5 +1,6 @@
 -- The turns of the pass that counts mentions, and of the search for a wrong count.
 -- Assumes nothing.
+use Rattle.std.specs.Prelude.{if◌then◌else◌}
 use mathlib.Core.Path.{◌≡◌}
 use mathlib.Core.Bool.{true, false}
 use mathlib.Core.List.{List}
@@ -9,7 +10,6 @@ use native.Mathlib.Omega.{arith}
 use lib.Dec.{eqb}
 use lib.ListN.{length, get_or}
 use borrow.Author.Tests.{eq-eqb, ne_eqb}
-use Rattle.meaning.specs.Tree.{if◌then◌else◌}
 use Rattle.meaning.specs.File.{field_bytes, symbol_bytes}
 use Rattle.meaning.specs.Grammar.{two, field_of}
 use Rattle.meaning.specs.Reading.{wrong_count}

@@ -1,5 +1,6 @@
 -- The whole file: what the check computes is what the reader answers.
 -- Assumes nothing.
+use Rattle.std.specs.Prelude.{if◌then◌else◌}
 use mathlib.Core.Path.{◌≡◌, refl, sym, ap, ◌∙◌}
 use mathlib.Core.Bool.{Bool, true, false, ◌&&◌}
 use mathlib.Core.List.{List}
@@ -8,7 +9,7 @@ use native.Mathlib.Omega.{arith}
 use lib.Dec.{leb}
 use lib.ListN.{length, replicate, length-replicate}
 use borrow.Author.Tests.{leb-true}
-use Rattle.meaning.specs.Tree.{if◌then◌else◌, Forest, size}
+use Rattle.meaning.specs.Tree.{Forest, size}
 use Rattle.meaning.specs.File.{Symbol, File, symbol_bytes}
 use Rattle.meaning.specs.Mentions.{mentions}
 use Rattle.meaning.specs.Grammar.{field_at, unnamed}

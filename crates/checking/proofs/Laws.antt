@@ -1,5 +1,6 @@
 -- Laws of the definitions, for the proofs of the code.
 -- Assumes nothing.
+use Rattle.std.specs.Prelude.{if◌then◌else◌}
 use mathlib.Core.Path.{◌≡◌, refl, sym, ap, subst, ◌∙◌}
 use mathlib.Core.Logic.{inl, inr}
 use mathlib.Core.Bool.{Bool, true, false, not}
@@ -11,7 +12,7 @@ use lib.Seq.{take-append_seam}
 use lib.Dec.{eqb, ltb}
 use types.Run.{OneOf}
 use borrow.Author.Tests.{ne_eqb, le-leb, lt-leb, lt-ltb, le-ltb}
-use Rattle.meaning.specs.Tree.{if◌then◌else◌, hd}
+use Rattle.meaning.specs.Tree.{hd}
 use Rattle.meaning.specs.File.{numbers_of, field_bytes}
 use Rattle.meaning.specs.Grammar.{allowed, two, field_of, field_at, right, scope_of, head_of, below, children_of, place_of, may_name, naming, unnamed}
 use Rattle.meaning.specs.Reading.{Outcome, accepted, refused, ◌>>=◌, ◌>>◌, ensure, field, too_deep, judged, symbols_in, read_rows, and_rows}

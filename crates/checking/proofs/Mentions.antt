@@ -1,5 +1,6 @@
 -- The counters behind the pass over the records of a tree that was read: how often these name each symbol.
 -- Assumes nothing.
+use Rattle.std.specs.Prelude.{if◌then◌else◌}
 use mathlib.Core.Path.{◌≡◌, refl, sym, ap, ◌∙◌}
 use mathlib.Core.List.{List, [], ◌∷◌}
 use Prim.Native.Nat.{ℕ, zero, suc, ◌+◌, ◌≤◌, ◌<◌}
@@ -7,7 +8,7 @@ use native.Mathlib.Omega.{arith}
 use lib.Dec.{eqb}
 use lib.ListN.{length, replicate}
 use Rattle.meaning.specs.Numbers.Tag
-use Rattle.meaning.specs.Tree.{if◌then◌else◌, Head, hd, Forest, size}
+use Rattle.meaning.specs.Tree.{Head, hd, Forest, size}
 use Rattle.meaning.specs.File.{numbers_of, has_children, own_numbers, symbol_bytes}
 use Rattle.meaning.specs.Mentions.{first_named, second_named, mentions}
 use Rattle.meaning.specs.Grammar.{two, field_of, head_of}

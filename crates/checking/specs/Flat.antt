@@ -1,11 +1,11 @@
 -- What the check computes: the reader's answers and marks, with no tree.
 -- Assumes nothing.
-use Rattle.std.specs.Prelude.{ℕ, zero, suc, ◌+◌, ◌*◌, ◌-◌, min, Bool, true, false, ◌&&◌, List, [], ◌∷◌, eqb, leb, get_or, length, replicate}
+use Rattle.std.specs.Prelude.{if◌then◌else◌, ℕ, zero, suc, ◌+◌, ◌*◌, ◌-◌, min, Bool, true, false, ◌&&◌, List, [], ◌∷◌, eqb, leb, get_or, length, replicate}
 use Rattle.meaning.specs.Numbers.Tag
 use Rattle.meaning.specs.Numbers.Form
 use Rattle.meaning.specs.Numbers.Mode
 use Rattle.meaning.specs.Numbers.Refusal
-use Rattle.meaning.specs.Tree.{if◌then◌else◌, one_of, hd}
+use Rattle.meaning.specs.Tree.{one_of, hd}
 use Rattle.meaning.specs.File.{symbol_bytes}
 use Rattle.meaning.specs.Grammar.{index, allowed, two, field_of, field_at, is_row, right, scope_of, below, children_of, place_of, head_of, may_name, naming, unnamed}
 use Rattle.meaning.specs.Reading.{Outcome, accepted, refused, ◌>>=◌, ◌>>◌, ensure, field, too_deep, judged, symbols_in, read_scopes, read_symbols, wrong_count, most_bytes}

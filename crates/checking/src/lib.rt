@@ -1,8 +1,7 @@
 // Checking a tree file on its bytes, and the figures of what it is lowered to.
 #![tactic(auto)]
 
-ghost use Rattle.std.specs.Prelude.{◌≡◌, ◌||◌, suc, ◌+◌, ◌≤◌, min, get_or, length, replicate, eqb};
-ghost use Rattle.meaning.specs.Tree.{if◌then◌else◌};
+ghost use Rattle.std.specs.Prelude.{if◌then◌else◌, ◌≡◌, ◌||◌, suc, ◌+◌, ◌≤◌, min, get_or, length, replicate, eqb};
 ghost use Rattle.meaning.specs.Grammar.{two, may_name, naming, unnamed};
 ghost use Rattle.meaning.specs.Numbers.Tag;
 ghost use Rattle.meaning.specs.Reading.{scope_at, symbol_at, most_rows, most_symbols, read_scopes, read_symbols, read_file};

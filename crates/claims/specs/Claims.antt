@@ -15,11 +15,11 @@
 -- charges without the walk.
 -- A list of numbers stands for a lent slice; `lent_in r s y` are the rows of tables.
 -- Assumes nothing.
-use Rattle.std.specs.Prelude.{◌≡◌, refl, true, false, ◌||◌, ◌&&◌, List, [], ◌++◌, map, ◌⊎◌, ℕ, suc, ◌+◌, ◌*◌, ◌/◌, ◌≤◌, ◌<◌, eqb, leb, length, take, get_or, set}
+use Rattle.std.specs.Prelude.{if◌then◌else◌, ◌≡◌, refl, true, false, ◌||◌, ◌&&◌, List, [], ◌++◌, map, ◌⊎◌, ℕ, suc, ◌+◌, ◌*◌, ◌/◌, ◌≤◌, ◌<◌, eqb, leb, length, take, get_or, set}
 use Rattle.std.proofs.Common.{ap, ◌∙◌}
 use Rattle.std.proofs.Math.Logic.{⊎_map}
 use Rattle.meaning.specs.Numbers.Tag
-use Rattle.meaning.specs.Tree.{if◌then◌else◌, hd, Forest, none, more, one, size, flatten}
+use Rattle.meaning.specs.Tree.{hd, Forest, none, more, one, size, flatten}
 use Rattle.meaning.specs.Mentions.{mentions}
 use Rattle.meaning.specs.File.{File, numbers_of, written}
 use Rattle.meaning.specs.Reading.{Outcome, accepted, refused, read_file}

@@ -1,13 +1,13 @@
 -- Request 6 of document 02: a record's depth is judged before the rest of it. The reader of before is kept here, for this claim alone.
 -- Assumes nothing.
-use Rattle.std.specs.Prelude.{◌≡◌, Bool, true, false, not, ◌&&◌, List, ◌⊎◌, leb, ltb, eqb, length, get_or, replicate}
+use Rattle.std.specs.Prelude.{if◌then◌else◌, ◌≡◌, Bool, true, false, not, ◌&&◌, List, ◌⊎◌, leb, ltb, eqb, length, get_or, replicate}
 use Rattle.std.proofs.Math.Path.{refl}
 use Rattle.std.proofs.Common.{sym, ap, ◌∙◌, inr, arith, le-leb, ltb-true, ltb-false}
 use Rattle.std.proofs.Math.Logic.{inl}
 use Prim.Native.Nat.{ℕ, zero, suc, ◌+◌, ◌*◌, ◌≤◌}
 use Rattle.std.proofs.lemmas.Bool.{lt-leb}
 use Rattle.meaning.specs.Numbers.Refusal
-use Rattle.meaning.specs.Tree.{if◌then◌else◌, none}
+use Rattle.meaning.specs.Tree.{none}
 use Rattle.meaning.specs.File.{File, numbers_of, head_bytes, field_bytes}
 use Rattle.meaning.specs.Grammar.{allowed, two, field_of, field_at, right, children_of, place_of, head_of, scope_of, below, may_name, naming}
 use Rattle.meaning.specs.Reading.{

@@ -1,6 +1,6 @@
 -- The import line (02, request 1): when it stands, what it is, that it stands once; and the lines of its form that were read.
 -- Assumes nothing.
-use Rattle.std.specs.Prelude.{◌≡◌, Bool, ◌||◌, ◌&&◌, List, ℕ, zero, suc, ◌*◌, ◌≤◌, leb, length}
+use Rattle.std.specs.Prelude.{if◌then◌else◌, ◌≡◌, Bool, ◌||◌, ◌&&◌, List, ℕ, zero, suc, ◌*◌, ◌≤◌, leb, length}
 use Rattle.std.proofs.Math.Path.{refl, sym, ap, subst}
 use Rattle.std.proofs.Common.{ap₂, ◌∙◌, arith, ne_eqb}
 use Rattle.std.proofs.Math.Bool.{true, false, not}
@@ -10,7 +10,7 @@ use Rattle.meaning.specs.Numbers.Tag
 use Rattle.meaning.specs.Numbers.LineForm
 use Rattle.meaning.specs.Numbers.KnownName
 use Rattle.meaning.specs.Numbers.Mode
-use Rattle.meaning.specs.Tree.{if◌then◌else◌, Head, hd, Forest, none, more, one, count, ◌&◌}
+use Rattle.meaning.specs.Tree.{Head, hd, Forest, none, more, one, count, ◌&◌}
 use Rattle.meaning.specs.File.{File, numbers_of, has_children, own_numbers, written}
 use Rattle.meaning.specs.Scoping.{Store, symbol_in, create_symbol}
 use Rattle.meaning.specs.Grammar.{module_line_right, right, children_of, place_of, head_of, scope_of}

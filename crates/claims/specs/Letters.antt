@@ -1,10 +1,10 @@
 -- Request 4 of document 02: in a switch, too, a using has the letter of its own declaration. The rewrite of before is kept here, for this claim
 -- alone.
 -- Assumes nothing.
-use Rattle.std.specs.Prelude.{◌≡◌, refl, Bool, true, false, ◌||◌, ℕ, zero, suc, eqb}
+use Rattle.std.specs.Prelude.{if◌then◌else◌, ◌≡◌, refl, Bool, true, false, ◌||◌, ℕ, zero, suc, eqb}
 use Rattle.meaning.specs.Numbers.Tag
 use Rattle.meaning.specs.Numbers.Kind
-use Rattle.meaning.specs.Tree.{if◌then◌else◌, Head, hd, Forest, none, more, one, Node, single, ◌&◌}
+use Rattle.meaning.specs.Tree.{Head, hd, Forest, none, more, one, Node, single, ◌&◌}
 use Rattle.meaning.specs.Shapes.{declaration}
 use Rattle.meaning.specs.Scoping.{Store, Change, ◌>>=◌, ◌>>◌, create_child_scope, change_scope_parent}
 use Rattle.meaning.specs.HelperLoader.{helper_load}

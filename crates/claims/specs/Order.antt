@@ -1,11 +1,11 @@
 -- Scopes in tree order (02, request 9), said of what a caller of a lowering holds: the bytes that it wrote.
 -- Assumes nothing.
-use Rattle.std.specs.Prelude.{◌≡◌, refl, Bool, true, ◌&&◌, ℕ, suc, ◌-◌, ◌≤◌, length, get_or, eqb}
+use Rattle.std.specs.Prelude.{if◌then◌else◌, ◌≡◌, refl, Bool, true, ◌&&◌, ℕ, suc, ◌-◌, ◌≤◌, length, get_or, eqb}
 use Rattle.std.proofs.Common.{sym, ap₂, subst, ◌∙◌, arith, leb-true, ne_eqb}
 use Rattle.std.proofs.Math.Path.{ap}
 use mathlib.Core.List.{List, [], ◌∷◌, ◌++◌, map, append_assoc, append-nil}
 use Rattle.meaning.specs.Numbers.Tag
-use Rattle.meaning.specs.Tree.{if◌then◌else◌, Head, Forest, none, more, Row, flatten}
+use Rattle.meaning.specs.Tree.{Head, Forest, none, more, Row, flatten}
 use Rattle.meaning.specs.Mentions.{mentions}
 use Rattle.meaning.specs.File.{Scope, scope_row, Symbol, File, numbers_of, has_children, own_numbers, written}
 use Rattle.meaning.specs.Reading.{accepted, read_file}

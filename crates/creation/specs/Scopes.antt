@@ -1,7 +1,6 @@
 -- A new scope above records in the table.
 -- Assumes nothing.
-use Rattle.std.specs.Prelude.{List, Bool, ◌&&◌, ℕ, ◌-◌, eqb}
-use Rattle.meaning.specs.Tree.{if◌then◌else◌}
+use Rattle.std.specs.Prelude.{if◌then◌else◌, List, Bool, ◌&&◌, ℕ, ◌-◌, eqb}
 use Rattle.meaning.specs.Grammar.{scope_of}
 use Rattle.tables.specs.Loops.{until}
 use Rattle.tables.specs.Table.{largest, capped, row_f, head_f}

@@ -3,6 +3,7 @@
 // A call answers 01's refusal number, or 0. Six numbers go into `answer`: the refusal's place, then records, scopes, symbols, contexts and
 // bytes of the lowered file; what a call does not tell is 0. `walk` keeps where a walk stands, in eleven numbers.
 #![tactic(auto)]
+
 ghost use Rattle.std.specs.Prelude.{◌≡◌, ◌∷◌};
 ghost use Rattle.meaning.specs.Reading.{read_file};
 ghost use Rattle.meaning.specs.Lowering.{figures_of};

@@ -1,5 +1,6 @@
 -- Matches over tags: the compiler tests the numbers of an arm one by one, and numbers in a row as a range.
 -- Assumes nothing.
+use Rattle.std.specs.Prelude.{if◌then◌else◌}
 use mathlib.Core.Path.{◌≡◌, refl}
 use mathlib.Core.Logic.{inl, inr}
 use mathlib.Core.Bool.{Bool, false, ◌||◌}
@@ -7,7 +8,7 @@ use mathlib.Core.List.{List, [], ◌∷◌, map}
 use Prim.Native.Nat.{ℕ, ◌+◌, ◌≤◌, ◌<◌}
 use types.Run.{OneOf}
 use borrow.Author.Tests.{ne_eqb}
-use Rattle.meaning.specs.Tree.{if◌then◌else◌, one_of}
+use Rattle.meaning.specs.Tree.{one_of}
 use Rattle.fields.specs.Ranges.{values, values_agree, below_or_not}
 
 -- two functions agree at a key of an arm if they agree at all of them

@@ -1,9 +1,8 @@
 -- 01's figures of a file, from its settings, its rows and the tally of its tree.
 -- Assumes nothing.
-use Rattle.std.specs.Prelude.{not, ◌&&◌, ℕ, ◌+◌, ◌*◌, eqb, leb}
+use Rattle.std.specs.Prelude.{if◌then◌else◌, not, ◌&&◌, ℕ, ◌+◌, ◌*◌, eqb, leb}
 use Rattle.meaning.specs.Numbers.Mode
 use Rattle.meaning.specs.Numbers.Refusal
-use Rattle.meaning.specs.Tree.{if◌then◌else◌}
 use Rattle.meaning.specs.File.{settings_bytes, scope_bytes, symbol_bytes}
 use Rattle.meaning.specs.Charges.{Figures, import_bytes}
 use Rattle.meaning.specs.Reading.{Outcome, accepted, refused}

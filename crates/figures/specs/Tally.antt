@@ -1,9 +1,9 @@
 -- What 01 charges, counted over the records of the source, one record at a time.
 -- Assumes nothing.
-use Rattle.std.specs.Prelude.{◌≡◌, refl, List, [], ◌∷◌, Bool, false, not, ◌||◌, ◌&&◌, ℕ, suc, ◌+◌, ◌*◌, min, get_or, eqb, leb, ltb}
+use Rattle.std.specs.Prelude.{if◌then◌else◌, ◌≡◌, refl, List, [], ◌∷◌, Bool, false, not, ◌||◌, ◌&&◌, ℕ, suc, ◌+◌, ◌*◌, min, get_or, eqb, leb, ltb}
 use Rattle.meaning.specs.Numbers.Tag
 use Rattle.meaning.specs.Numbers.Kind
-use Rattle.meaning.specs.Tree.{if◌then◌else◌, one_of, Head, Forest, none, more, count}
+use Rattle.meaning.specs.Tree.{one_of, Head, Forest, none, more, count}
 use Rattle.meaning.specs.File.{Symbol, symbol_row, numbers_of, head_bytes, field_bytes, symbol_bytes}
 use Rattle.meaning.specs.Grammar.{two}
 use Rattle.meaning.specs.Statements.{is_using}

@@ -1,9 +1,9 @@
 // What the records of a tree add up to once they are lowered: the figures, found in the source.
-ghost use Rattle.std.specs.Prelude.{◌≡◌, not, ◌&&◌, [], ◌∷◌, ◌+◌, ◌*◌, ◌-◌, eqb, ltb};
+ghost use Rattle.std.specs.Prelude.{if◌then◌else◌, ◌≡◌, not, ◌&&◌, [], ◌∷◌, ◌+◌, ◌*◌, ◌-◌, eqb, ltb};
 ghost use Rattle.meaning.specs.Numbers.Kind;
 ghost use Rattle.meaning.specs.Numbers.Tag;
 ghost use Rattle.meaning.specs.File.{settings_bytes, scope_bytes, symbol_bytes, head_bytes};
-ghost use Rattle.meaning.specs.Tree.{if◌then◌else◌, one_of};
+ghost use Rattle.meaning.specs.Tree.{one_of};
 ghost use Rattle.meaning.specs.Grammar.{two, is_row, head_of, children_of};
 ghost use Rattle.meaning.specs.Reading.{symbols_in};
 ghost use Rattle.meaning.specs.Scoping.{binds, get_binding};

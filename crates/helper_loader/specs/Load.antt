@@ -1,10 +1,9 @@
 -- `helper_load` on tables.
 -- Assumes nothing.
-use Rattle.std.specs.Prelude.{Bool, List, ℕ, eqb, leb}
+use Rattle.std.specs.Prelude.{if◌then◌else◌, Bool, List, ℕ, eqb, leb}
 use Rattle.meaning.specs.Numbers.Mode
 use Rattle.meaning.specs.Numbers.SymbolFlag
 use Rattle.meaning.specs.Numbers.KnownName
-use Rattle.meaning.specs.Tree.{if◌then◌else◌}
 use Rattle.meaning.specs.Scoping.{find_binding}
 use Rattle.scoping.specs.Rows.{root_scope, with_helper, store_f}
 use Rattle.scoping.specs.Changes.{SymbolRows, in_symbols, create_symbol_f}

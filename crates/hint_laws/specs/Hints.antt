@@ -2,9 +2,9 @@
 -- Both are sums over a tree. The summands are weights of the names that a Declarator binds, of its initializer and of a letter, and the
 -- weights may be chosen freely: two sums that agree for all weights go over the same names, initializers and letters, each as often.
 -- Assumes nothing.
-use Rattle.std.specs.Prelude.{List, [], ◌∷◌, ◌++◌, Bool, ◌&&◌, ℕ, zero, suc, ◌+◌, eqb, ltb}
+use Rattle.std.specs.Prelude.{if◌then◌else◌, List, [], ◌∷◌, ◌++◌, Bool, ◌&&◌, ℕ, zero, suc, ◌+◌, eqb, ltb}
 use Rattle.meaning.specs.Numbers.Tag
-use Rattle.meaning.specs.Tree.{if◌then◌else◌, one_of, Head, Forest, none, more, one, count, row}
+use Rattle.meaning.specs.Tree.{one_of, Head, Forest, none, more, one, count, row}
 use Rattle.meaning.specs.File.{record_numbers}
 use Rattle.meaning.specs.Grammar.{expressions}
 use Rattle.meaning.specs.Renumbering.{with_scope}
@@ -52,7 +52,7 @@ shown (more h k r) =
 unfoldable pub as_in_source : ℕ → List ℕ → List ℕ
 as_in_source read [] = []
 as_in_source read (t ∷ []) = t ∷ []
-as_in_source read (t ∷ y ∷ ns) = if eqb t Tag.Read && ltb read y then [] else t ∷ y ∷ ns
+as_in_source read (t ∷ y ∷ ns) = if eqb t Tag.Read && ltb read y then [] else (t ∷ y ∷ ns)
 
 -- a weight that takes such a Read for no initializer
 abbrev pub of_source : ℕ → (List ℕ → List ℕ → ℕ → ℕ) → List ℕ → List ℕ → ℕ → ℕ

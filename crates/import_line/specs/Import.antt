@@ -1,11 +1,10 @@
 -- The import line on tables, for any numbers in them.
 -- Assumes nothing.
-use Rattle.std.specs.Prelude.{Bool, not, ◌&&◌, List, ℕ, ◌-◌, eqb}
+use Rattle.std.specs.Prelude.{if◌then◌else◌, Bool, not, ◌&&◌, List, ℕ, ◌-◌, eqb}
 use Rattle.meaning.specs.Numbers.Tag
 use Rattle.meaning.specs.Numbers.LineForm
 use Rattle.meaning.specs.Numbers.KnownName
 use Rattle.meaning.specs.Numbers.Mode
-use Rattle.meaning.specs.Tree.{if◌then◌else◌}
 use Rattle.tables.specs.Columns.RecordTable
 use Rattle.tables.specs.Table.{capped, column_f, set_column_f, closed_row_f}
 use Rattle.tables.specs.Stream.{Buf, emit_f, take_back_f}

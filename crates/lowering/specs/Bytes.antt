@@ -1,6 +1,6 @@
 -- The bytes of tables that hold the end of a walk are 01's file.
 -- Assumes nothing.
-use Rattle.std.specs.Prelude.{◌≡◌, Bool, true, false, take, drop, replicate, leb}
+use Rattle.std.specs.Prelude.{if◌then◌else◌, ◌≡◌, Bool, true, false, take, drop, replicate, leb}
 use Rattle.std.proofs.Math.Path.{refl, ap, ap₂}
 use Rattle.std.proofs.Common.{sym, ◌∙◌, leb-true, eqb-true}
 use mathlib.Core.List.{List, [], ◌∷◌, ◌++◌, map, append_assoc, map-append}
@@ -10,7 +10,7 @@ use Rattle.std.proofs.Math.ListN.{length, get_or}
 use Rattle.tables.specs.Columns.RecordTable
 use Rattle.tables.specs.Columns.ScopeTable
 use Rattle.tables.specs.Columns.SymbolTable
-use Rattle.meaning.specs.Tree.{if◌then◌else◌, Head, Forest, none, more, count, row, flatten}
+use Rattle.meaning.specs.Tree.{Head, Forest, none, more, count, row, flatten}
 use Rattle.meaning.specs.Mentions.{mentions}
 use Rattle.meaning.specs.File.{
   Scope,

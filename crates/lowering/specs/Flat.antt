@@ -1,9 +1,8 @@
 -- What the code of this crate computes.
 -- Assumes nothing.
-use Rattle.std.specs.Prelude.{List, ℕ, ◌*◌, min, leb, length}
+use Rattle.std.specs.Prelude.{if◌then◌else◌, List, ℕ, ◌*◌, min, leb, length}
 use Rattle.std.proofs.lemmas.List.Edits.{sets}
 use Rattle.meaning.specs.Numbers.Refusal
-use Rattle.meaning.specs.Tree.{if◌then◌else◌}
 use Rattle.checking.specs.declared.Surveyed.{Surveyed}
 use Rattle.checking.specs.declared.Surveyed.TheVariants.{Fine, Refused as RefusedSurvey}
 use Rattle.tables.specs.Loops.{until}

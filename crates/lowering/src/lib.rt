@@ -3,6 +3,7 @@
 // All refusals are made by the bytes alone, before any table is touched. A lowering leaves the tables all 0. It has four steps:
 // `admit_output` (the refusals), `start::fill` (the tables), `run` (the visits) and `finish` (the file).
 #![tactic(auto)]
+
 ghost use Rattle.std.specs.Prelude.{◌≡◌, length};
 ghost use Rattle.checking.specs.Survey.{surveyed_of};
 ghost use Rattle.path.specs.Path.{tables};

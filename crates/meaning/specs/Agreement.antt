@@ -1,9 +1,9 @@
 -- Scope rows and tree (01, "The tree file"): each row belongs to one record, which names it; Program's is the first; and the parent of a row is
 -- the scope around its record. Reading refuses a file in which this does not hold, and lowering keeps to it (02, request 14).
 -- Assumes nothing.
-use Rattle.std.specs.Prelude.{◌≡◌, Bool, true, false, not, ◌||◌, ◌&&◌, List, [], ◌∷◌, ◌++◌, ℕ, length, eqb}
+use Rattle.std.specs.Prelude.{if◌then◌else◌, ◌≡◌, Bool, true, false, not, ◌||◌, ◌&&◌, List, [], ◌∷◌, ◌++◌, ℕ, length, eqb}
 use Rattle.meaning.specs.Numbers.Tag
-use Rattle.meaning.specs.Tree.{if◌then◌else◌, one_of, Head, hd, Forest, none, more, one}
+use Rattle.meaning.specs.Tree.{one_of, Head, hd, Forest, none, more, one}
 use Rattle.meaning.specs.File.{Scope}
 use Rattle.meaning.specs.Grammar.{is_row, scope_of, below}
 use Rattle.meaning.specs.Scoping.{row_at, no_scope}

@@ -1,9 +1,9 @@
 -- The charges, found in the source (01, "Charges"), and the final figures.
 -- Assumes nothing.
-use Rattle.std.specs.Prelude.{◌≡◌, refl, List, [], ◌∷◌, ◌++◌, not, ◌&&◌, ℕ, ◌+◌, ◌*◌, length, eqb, ltb}
+use Rattle.std.specs.Prelude.{if◌then◌else◌, ◌≡◌, refl, List, [], ◌∷◌, ◌++◌, not, ◌&&◌, ℕ, ◌+◌, ◌*◌, length, eqb, ltb}
 use Rattle.meaning.specs.Numbers.Tag
 use Rattle.meaning.specs.Numbers.Mode
-use Rattle.meaning.specs.Tree.{if◌then◌else◌, one_of, Head, Forest, none, more, count, size}
+use Rattle.meaning.specs.Tree.{one_of, Head, Forest, none, more, count, size}
 use Rattle.meaning.specs.File.{Symbol, File, numbers_of, field_bytes, settings_bytes, scope_bytes, symbol_bytes}
 use Rattle.meaning.specs.Statements.{is_using, any_using}
 use Rattle.meaning.specs.Contexts.{any_case_using}
@@ -185,7 +185,7 @@ unfoldable pub body_lines : Forest → List Line
 body_lines none = []
 body_lines (more h₁ k₁ none) = []
 body_lines (more h₁ k₁ (more h₂ k₂ none)) = []
-body_lines (more h₁ k₁ (more h₂ k₂ (more h₃ k₃ r))) = if any_using k₃ then [] else context of_block ∷ []
+body_lines (more h₁ k₁ (more h₂ k₂ (more h₃ k₃ r))) = if any_using k₃ then [] else (context of_block ∷ [])
 
 unfoldable pub for_of_lines : ForOfAct → Forest → List Line
 for_of_lines as_is k = []

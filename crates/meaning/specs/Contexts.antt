@@ -1,10 +1,10 @@
 -- The statements and bodies that get a context: block, function body, static block, try parts, for, switch.
 -- Assumes nothing.
-use Rattle.std.specs.Prelude.{Bool, false, ◌||◌, ◌&&◌, List, [], ◌∷◌, ℕ, eqb}
+use Rattle.std.specs.Prelude.{if◌then◌else◌, Bool, false, ◌||◌, ◌&&◌, List, [], ◌∷◌, ℕ, eqb}
 use Rattle.meaning.specs.Numbers.Tag
 use Rattle.meaning.specs.Numbers.Kind
 use Rattle.meaning.specs.Numbers.ScopeFlag
-use Rattle.meaning.specs.Tree.{if◌then◌else◌, Head, hd, Forest, none, more, one, Node, node, single, ◌&◌}
+use Rattle.meaning.specs.Tree.{Head, hd, Forest, none, more, one, Node, node, single, ◌&◌}
 use Rattle.meaning.specs.Shapes.{declaration}
 use Rattle.meaning.specs.Scoping.{
   Change,

@@ -1,9 +1,9 @@
 -- What each visit is charged (01, "Charges"): the lines of what it does.
 -- Assumes nothing.
-use Rattle.std.specs.Prelude.{List, [], ◌∷◌, ◌++◌, Bool, true, false, ◌||◌, ◌&&◌, ℕ, zero, suc, eqb}
+use Rattle.std.specs.Prelude.{if◌then◌else◌, List, [], ◌∷◌, ◌++◌, Bool, true, false, ◌||◌, ◌&&◌, ℕ, zero, suc, eqb}
 use Rattle.meaning.specs.Numbers.Tag
 use Rattle.meaning.specs.Numbers.Mode
-use Rattle.meaning.specs.Tree.{if◌then◌else◌, Head, Forest, none, more, one}
+use Rattle.meaning.specs.Tree.{Head, Forest, none, more, one}
 use Rattle.meaning.specs.Scoping.{Store}
 use Rattle.meaning.specs.Contexts.{for_list}
 use Rattle.meaning.specs.Walk.{
@@ -108,7 +108,7 @@ due s = let lines = rewrite_lines s in if missing (store_at s) && any_context li
 -- the charges of the next k visits, as long as there are visits
 unfoldable pub dues : ℕ → Spot → List (List Line)
 dues zero s = []
-dues (suc k) s = if is_over s then [] else due s ∷ dues k (visit s)
+dues (suc k) s = if is_over s then [] else (due s ∷ dues k (visit s))
 
 -- ---- the import line (02, request 1)
 

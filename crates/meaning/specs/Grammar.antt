@@ -1,6 +1,6 @@
 -- What may stand where, and which numbers are right (01, "The tree file"; the checks 2 to 5).
 -- Assumes nothing.
-use Rattle.std.specs.Prelude.{List, [], ◌∷◌, ◌++◌, Bool, true, false, not, ◌||◌, ◌&&◌, ℕ, ◌+◌, ◌*◌, ◌-◌, length, get_or, set, eqb, leb, ltb}
+use Rattle.std.specs.Prelude.{if◌then◌else◌, List, [], ◌∷◌, ◌++◌, Bool, true, false, not, ◌||◌, ◌&&◌, ℕ, ◌+◌, ◌*◌, ◌-◌, length, get_or, set, eqb, leb, ltb}
 use Rattle.meaning.specs.Numbers.Tag
 use Rattle.meaning.specs.Numbers.Kind
 use Rattle.meaning.specs.Numbers.Form
@@ -10,7 +10,7 @@ use Rattle.meaning.specs.Numbers.Mode
 use Rattle.meaning.specs.Numbers.Letter
 use Rattle.meaning.specs.Numbers.StepForm
 use Rattle.meaning.specs.Numbers.Refusal
-use Rattle.meaning.specs.Tree.{if◌then◌else◌, one_of, Head, hd}
+use Rattle.meaning.specs.Tree.{one_of, Head, hd}
 use Rattle.meaning.specs.File.{numbers_of, has_children, own_numbers, head_bytes, field_bytes, scope_bytes}
 use Rattle.meaning.specs.declared.Place.{Place}
 use Rattle.meaning.specs.declared.Place.TheVariants.{

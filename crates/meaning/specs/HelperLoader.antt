@@ -1,10 +1,10 @@
 -- `helper_load` (src/common/helper_loader.rs).
 -- Assumes nothing.
-use Rattle.std.specs.Prelude.{Bool, ℕ, length, eqb, leb}
+use Rattle.std.specs.Prelude.{if◌then◌else◌, Bool, ℕ, length, eqb, leb}
 use Rattle.meaning.specs.Numbers.Mode
 use Rattle.meaning.specs.Numbers.SymbolFlag
 use Rattle.meaning.specs.Numbers.KnownName
-use Rattle.meaning.specs.Tree.{if◌then◌else◌, Forest}
+use Rattle.meaning.specs.Tree.{Forest}
 use Rattle.meaning.specs.Shapes.{load}
 use Rattle.meaning.specs.Scoping.{Store, Change, ◌>>=◌, ◌>>◌, return, get, put, with_helper, generate_uid, find_binding}
 

@@ -1,9 +1,8 @@
 -- The hint that the TC39 Explicit Resource Management proposal gives a declaration, and the letter that it asks for.
 -- Assumes nothing.
-use Rattle.std.specs.Prelude.{ℕ, eqb}
+use Rattle.std.specs.Prelude.{if◌then◌else◌, ℕ, eqb}
 use Rattle.meaning.specs.Numbers.Kind
 use Rattle.meaning.specs.Numbers.Letter
-use Rattle.meaning.specs.Tree.{if◌then◌else◌}
 
 pub data Hint : Type 0 where
   sync_dispose async_dispose : Hint

@@ -1,8 +1,8 @@
 -- The runtime helper's import (02, request 1): the line, and the calls for visits, the last of which puts it.
 -- Assumes nothing.
-use Rattle.std.specs.Prelude.{Bool, not, ◌&&◌, ℕ, zero, suc, eqb}
+use Rattle.std.specs.Prelude.{if◌then◌else◌, Bool, not, ◌&&◌, ℕ, zero, suc, eqb}
 use Rattle.meaning.specs.Numbers.Mode
-use Rattle.meaning.specs.Tree.{if◌then◌else◌, Forest, none, more, ◌&◌}
+use Rattle.meaning.specs.Tree.{Forest, none, more, ◌&◌}
 use Rattle.meaning.specs.Shapes.{import_helper}
 use Rattle.meaning.specs.Scoping.{Store}
 use Rattle.meaning.specs.Walk.{Spot, at, leaving, over, visit}

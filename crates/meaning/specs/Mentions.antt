@@ -1,8 +1,8 @@
 -- How often records name a symbol (02, request 7).
 -- Assumes nothing.
-use Rattle.std.specs.Prelude.{[], ◌∷◌, ℕ, ◌+◌, eqb}
+use Rattle.std.specs.Prelude.{if◌then◌else◌, [], ◌∷◌, ℕ, ◌+◌, eqb}
 use Rattle.meaning.specs.Numbers.Tag
-use Rattle.meaning.specs.Tree.{if◌then◌else◌, one_of, Head, Forest, none, more}
+use Rattle.meaning.specs.Tree.{one_of, Head, Forest, none, more}
 
 -- the symbol row that a record names, and the second one of a Step; 0 is none
 unfoldable pub first_named : Head → ℕ

@@ -1,9 +1,8 @@
 -- 01's notation for files: `5:3,1` is tag 5 with the numbers 3 and 1, and fields are parted by a space.
 -- Assumes nothing.
-use Rattle.std.specs.Prelude.{List, [], ◌∷◌, ◌++◌, ◌&&◌, ℕ, ◌+◌, ◌*◌, ◌-◌, eqb, leb}
+use Rattle.std.specs.Prelude.{if◌then◌else◌, List, [], ◌∷◌, ◌++◌, ◌&&◌, ℕ, ◌+◌, ◌*◌, ◌-◌, eqb, leb}
 use Prim.Native.Char.{code}
 use Prim.Native.String.{String, [] as empty, ◌∷◌ as cons}
-use Rattle.meaning.specs.Tree.{if◌then◌else◌}
 use Rattle.meaning.specs.File.{field}
 
 -- a tag and its numbers
@@ -21,7 +20,7 @@ fields_from (cons c' text) bytes ns n =
     fields_from
     text
     (if space then bytes ++ field_from (ns ++ n ∷ []) else bytes)
-    (if digit then ns else if space then [] else ns ++ n ∷ [])
+    (if digit then ns else if space then [] else (ns ++ n ∷ []))
     (if digit then 10 * n + (c - 48) else 0)
 
 unfoldable pub bytes : String → List ℕ

@@ -1,12 +1,12 @@
 -- `enter_program`, with the classes and exports that it moves.
 -- Assumes nothing.
-use Rattle.std.specs.Prelude.{Bool, not, ◌&&◌, List, [], ◌∷◌, ◌++◌, ℕ, eqb}
+use Rattle.std.specs.Prelude.{if◌then◌else◌, Bool, not, ◌&&◌, List, [], ◌∷◌, ◌++◌, ℕ, eqb}
 use Rattle.meaning.specs.Numbers.Tag
 use Rattle.meaning.specs.Numbers.Kind
 use Rattle.meaning.specs.Numbers.Form
 use Rattle.meaning.specs.Numbers.SymbolFlag
 use Rattle.meaning.specs.Numbers.KnownName
-use Rattle.meaning.specs.Tree.{if◌then◌else◌, one_of, Head, hd, Forest, none, more, one, Node, node, ◌&◌}
+use Rattle.meaning.specs.Tree.{one_of, Head, hd, Forest, none, more, one, Node, node, ◌&◌}
 use Rattle.meaning.specs.Shapes.{block, declaration, export_named, specifier, class_expression}
 use Rattle.meaning.specs.Scoping.{
   Store,

@@ -1,10 +1,10 @@
 -- Reading a file: the rows and the tree, or the refusal with its place (01, "Who can be refused, and for what").
 -- Assumes nothing.
-use Rattle.std.specs.Prelude.{List, [], ◌∷◌, Bool, true, false, ◌||◌, ◌&&◌, ℕ, zero, suc, ◌+◌, ◌*◌, length, get_or, replicate, eqb, leb, ltb}
+use Rattle.std.specs.Prelude.{if◌then◌else◌, List, [], ◌∷◌, Bool, true, false, ◌||◌, ◌&&◌, ℕ, zero, suc, ◌+◌, ◌*◌, length, get_or, replicate, eqb, leb, ltb}
 use Rattle.meaning.specs.Numbers.Tag
 use Rattle.meaning.specs.Numbers.Mode
 use Rattle.meaning.specs.Numbers.Refusal
-use Rattle.meaning.specs.Tree.{if◌then◌else◌, Forest, none, more}
+use Rattle.meaning.specs.Tree.{Forest, none, more}
 use Rattle.meaning.specs.Mentions.{mentions}
 use Rattle.meaning.specs.File.{Scope, scope_row, Symbol, symbol_row, File, head_bytes, settings_bytes, scope_bytes, symbol_bytes}
 use Rattle.meaning.specs.Grammar.{

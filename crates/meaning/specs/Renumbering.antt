@@ -1,15 +1,15 @@
 -- A written file numbers its scopes in the order in which its tree names them (02, request 9). Records, parents and the scopes of symbols follow;
 -- symbol rows keep their order.
 -- Assumes nothing.
-use Rattle.std.specs.Prelude.{List, [], ◌∷◌, ◌++◌, map, ℕ, suc, eqb}
-use Rattle.meaning.specs.Tree.{if◌then◌else◌, one_of, Head, hd, Forest, none, more}
+use Rattle.std.specs.Prelude.{if◌then◌else◌, List, [], ◌∷◌, ◌++◌, map, ℕ, suc, eqb}
+use Rattle.meaning.specs.Tree.{one_of, Head, hd, Forest, none, more}
 use Rattle.meaning.specs.File.{Scope, scope_row, Symbol, symbol_row, File}
 use Rattle.meaning.specs.Grammar.{scope_first, scope_second, scope_of}
 use Rattle.meaning.specs.Scoping.{row_at, no_scope}
 
 -- the scope that a record names, if it names one
 unfoldable pub scope_named : Head → List ℕ
-scope_named h = if eqb (scope_of h) 0 then [] else scope_of h ∷ []
+scope_named h = if eqb (scope_of h) 0 then [] else (scope_of h ∷ [])
 
 -- those that a tree names, in file order
 unfoldable pub named_scopes : Forest → List ℕ

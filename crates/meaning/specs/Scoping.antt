@@ -1,7 +1,7 @@
 -- The scope and symbol rows while they are rewritten: what the Rust calls `ctx.scoping()`.
 -- Assumes nothing.
-use Rattle.std.specs.Prelude.{List, [], ◌∷◌, ◌++◌, Bool, not, ◌||◌, ◌&&◌, ℕ, zero, suc, ◌+◌, ◌/◌, ◌%◌, length, get_or, set, eqb}
-use Rattle.meaning.specs.Tree.{if◌then◌else◌, Forest, none, more}
+use Rattle.std.specs.Prelude.{if◌then◌else◌, List, [], ◌∷◌, ◌++◌, Bool, not, ◌||◌, ◌&&◌, ℕ, zero, suc, ◌+◌, ◌/◌, ◌%◌, length, get_or, set, eqb}
+use Rattle.meaning.specs.Tree.{Forest, none, more}
 use Rattle.meaning.specs.File.{Scope, scope_row, Symbol, symbol_row}
 use Rattle.meaning.specs.Grammar.{scope_of}
 

@@ -1,13 +1,13 @@
 -- The records that lowering makes.
 -- Assumes nothing.
-use Rattle.std.specs.Prelude.{ℕ, Bool}
+use Rattle.std.specs.Prelude.{if◌then◌else◌, ℕ, Bool}
 use Rattle.meaning.specs.Numbers.Tag
 use Rattle.meaning.specs.Numbers.Form
 use Rattle.meaning.specs.Numbers.LineForm
 use Rattle.meaning.specs.Numbers.KnownName
 use Rattle.meaning.specs.Numbers.Parts
 use Rattle.meaning.specs.Numbers.StepForm
-use Rattle.meaning.specs.Tree.{if◌then◌else◌, hd, Forest, none, more, one, Node, node}
+use Rattle.meaning.specs.Tree.{hd, Forest, none, more, one, Node, node}
 
 -- `{ list }`
 abbrev pub block : ℕ → Forest → Forest

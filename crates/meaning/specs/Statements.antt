@@ -1,13 +1,13 @@
 -- `transform_statements` and the statements made around a list.
 -- Assumes nothing.
-use Rattle.std.specs.Prelude.{Bool, false, ◌||◌, ◌&&◌, ℕ, zero, suc, ◌+◌, eqb, [], ◌∷◌}
+use Rattle.std.specs.Prelude.{if◌then◌else◌, Bool, false, ◌||◌, ◌&&◌, ℕ, zero, suc, ◌+◌, eqb, [], ◌∷◌}
 use Rattle.meaning.specs.Numbers.Tag
 use Rattle.meaning.specs.Numbers.Kind
 use Rattle.meaning.specs.Numbers.Letter
 use Rattle.meaning.specs.Numbers.ScopeFlag
 use Rattle.meaning.specs.Numbers.SymbolFlag
 use Rattle.meaning.specs.Numbers.KnownName
-use Rattle.meaning.specs.Tree.{if◌then◌else◌, one_of, Head, hd, Forest, none, more, one, Node, ◌&◌}
+use Rattle.meaning.specs.Tree.{one_of, Head, hd, Forest, none, more, one, Node, ◌&◌}
 use Rattle.meaning.specs.Shapes.{
   block,
   declaration,

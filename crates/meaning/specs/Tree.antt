@@ -1,10 +1,6 @@
 -- Trees of records (01, "The tree file").
 -- Assumes nothing.
-use Rattle.std.specs.Prelude.{List, [], ◌∷◌, ◌++◌, Bool, false, cond, ◌||◌, ℕ, suc, ◌+◌, eqb}
-
-infixr 2 if◌then◌else◌
-abbrev pub if◌then◌else◌ {ℓ} : {X : Type ℓ} → Bool → X → X → X
-if◌then◌else◌ b x y = cond b x y
+use Rattle.std.specs.Prelude.{if◌then◌else◌, List, [], ◌∷◌, ◌++◌, Bool, false, cond, ◌||◌, ℕ, suc, ◌+◌, eqb}
 
 -- a number is one of a list
 abbrev pub one_of : List ℕ → ℕ → Bool

@@ -1,8 +1,8 @@
 -- The walk, one visit at a time (01, "Rewrites").
 -- Assumes nothing.
-use Rattle.std.specs.Prelude.{List, [], ◌∷◌, Bool, true, false, ℕ, zero, suc, eqb}
+use Rattle.std.specs.Prelude.{if◌then◌else◌, List, [], ◌∷◌, Bool, true, false, ℕ, zero, suc, eqb}
 use Rattle.meaning.specs.Numbers.Tag
-use Rattle.meaning.specs.Tree.{if◌then◌else◌, one_of, Head, Forest, none, more, one, Node, node, ◌&◌}
+use Rattle.meaning.specs.Tree.{one_of, Head, Forest, none, more, one, Node, node, ◌&◌}
 use Rattle.meaning.specs.File.{Symbol, File}
 use Rattle.meaning.specs.Grammar.{scope_of, below}
 use Rattle.meaning.specs.Scoping.{Store, Change, return}

@@ -1,5 +1,6 @@
 // The types that the definitions and the code share, and the numbers that 01 gives a meaning, by name.
 #![tactic(auto)]
+
 pub mod form;
 pub mod kind;
 pub mod known_name;

@@ -1,7 +1,7 @@
 -- Mentions added to counters and taken off, for any numbers in them. The counter of symbol row y is behind y - 1 others.
 -- Assumes nothing.
-use Rattle.std.specs.Prelude.{List, ◌++◌, ℕ, ◌+◌, ◌-◌, eqb, take, drop, get_or, set}
-use Rattle.meaning.specs.Tree.{if◌then◌else◌, Head}
+use Rattle.std.specs.Prelude.{if◌then◌else◌, List, ◌++◌, ℕ, ◌+◌, ◌-◌, eqb, take, drop, get_or, set}
+use Rattle.meaning.specs.Tree.{Head}
 use Rattle.meaning.specs.Mentions.{first_named, second_named}
 use Rattle.tables.specs.Loops.{turns}
 use Rattle.tables.specs.Table.{capped, row_f, head_f, counts_at}

@@ -1,6 +1,6 @@
 -- What counters come to when records are added to them and taken off: how often these name each symbol.
 -- Assumes nothing.
-use Rattle.std.specs.Prelude.{◌≡◌, Bool, ℕ, zero, suc, ◌+◌, ◌*◌, ◌-◌, ◌≤◌, ◌<◌, eqb, length, get_or, set, replicate}
+use Rattle.std.specs.Prelude.{if◌then◌else◌, ◌≡◌, Bool, ℕ, zero, suc, ◌+◌, ◌*◌, ◌-◌, ◌≤◌, ◌<◌, eqb, length, get_or, set, replicate}
 use Rattle.std.proofs.Math.Path.{refl}
 use Rattle.std.proofs.Common.{ap, ap₂, ◌∙◌, length-set, get_or-set_same, get_or-set_other}
 use Rattle.std.proofs.Math.Bool.{true, false}
@@ -8,7 +8,7 @@ use mathlib.Core.List.{List, [], ◌∷◌, ◌++◌}
 use native.Mathlib.Omega.{arith}
 use Rattle.std.proofs.lemmas.List.{length-replicate}
 use borrow.Author.Tests.{eqb-true, eqb-false, ne_eqb}
-use Rattle.meaning.specs.Tree.{if◌then◌else◌, Head, Forest, none, more, size}
+use Rattle.meaning.specs.Tree.{Head, Forest, none, more, size}
 use Rattle.meaning.specs.Mentions.{first_named, second_named, named, mentions}
 use Rattle.tables.specs.Table.{capped, largest}
 use Rattle.mentions.specs.Counters.{add_f, take_f, add_record_f, take_record_f}

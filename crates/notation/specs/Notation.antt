@@ -1,7 +1,6 @@
 -- The bytes that a text in 01's notation says, read character by character: `5:3,1` is tag 5 with the numbers 3 and 1.
 -- Assumes nothing.
-use Rattle.std.specs.Prelude.{List, [], ◌∷◌, ◌++◌, Bool, true, false, ◌||◌, ◌&&◌, ℕ, ◌+◌, ◌*◌, ◌-◌, ◌%◌, eqb, leb, length, get_or}
-use Rattle.meaning.specs.Tree.{if◌then◌else◌}
+use Rattle.std.specs.Prelude.{if◌then◌else◌, List, [], ◌∷◌, ◌++◌, Bool, true, false, ◌||◌, ◌&&◌, ℕ, ◌+◌, ◌*◌, ◌-◌, ◌%◌, eqb, leb, length, get_or}
 use Rattle.meaning.specs.File.{two_bytes}
 use Rattle.notation.specs.declared.Spelling.{Spelling}
 use Rattle.notation.specs.declared.Spelling.TheVariants.{Right, Wrong}

@@ -1,7 +1,6 @@
 -- The text of a file in 01's notation, so that every file has one: its fields, and the bytes that belong to no whole field.
 -- Assumes nothing.
-use Rattle.std.specs.Prelude.{List, [], ◌∷◌, ◌++◌, ◌&&◌, ℕ, zero, suc, ◌+◌, ◌*◌, ◌/◌, ◌%◌, eqb, leb, length, get_or, take, drop}
-use Rattle.meaning.specs.Tree.{if◌then◌else◌}
+use Rattle.std.specs.Prelude.{if◌then◌else◌, List, [], ◌∷◌, ◌++◌, ◌&&◌, ℕ, zero, suc, ◌+◌, ◌*◌, ◌/◌, ◌%◌, eqb, leb, length, get_or, take, drop}
 use Rattle.meaning.specs.File.{head_bytes}
 use Rattle.meaning.specs.Grammar.{two}
 use Rattle.notation.specs.Notation.{space, comma, dot, digit0, colon}
@@ -9,7 +8,7 @@ use Rattle.notation.specs.Notation.{space, comma, dot, digit0, colon}
 -- a number in decimal, with at most so many digits
 unfoldable pub decimal : ℕ → ℕ → List ℕ
 decimal zero n = []
-decimal (suc k) n = if leb n 9 then (digit0 + n) ∷ [] else decimal k (n / 10) ++ (digit0 + n % 10) ∷ []
+decimal (suc k) n = if leb n 9 then (digit0 + n) ∷ [] else (decimal k (n / 10) ++ (digit0 + n % 10) ∷ [])
 
 -- a byte on its own, with a dot
 unfoldable pub shown_byte : ℕ → List ℕ
@@ -50,7 +49,7 @@ shown_from zero bs = shown_bytes bs
 shown_from (suc k) bs =
     let n = whole_field bs in
     let rest = drop n bs in
-    if eqb n 0 then shown_bytes bs else shown_field (take n bs) ++ gap rest ++ shown_from k rest
+    if eqb n 0 then shown_bytes bs else (shown_field (take n bs) ++ gap rest ++ shown_from k rest)
 
 -- so many bytes are shown, at most 4 characters for each
 abbrev pub most_shown : ℕ

@@ -1,12 +1,11 @@
 -- The parts of a file's text: what each function of the code puts, and the turns of its loops.
 -- Assumes nothing.
-use Rattle.std.specs.Prelude.{◌≡◌, refl, Bool, true, false, ◌&&◌, List, [], ◌∷◌, ◌++◌, ℕ, zero, suc, ◌+◌, ◌-◌, ◌/◌, ◌%◌, ◌<◌, ◌≤◌, eqb, leb, length, get_or, take, drop}
+use Rattle.std.specs.Prelude.{if◌then◌else◌, ◌≡◌, refl, Bool, true, false, ◌&&◌, List, [], ◌∷◌, ◌++◌, ℕ, zero, suc, ◌+◌, ◌-◌, ◌/◌, ◌%◌, ◌<◌, ◌≤◌, eqb, leb, length, get_or, take, drop}
 use Rattle.std.proofs.Common.{sym, ap, ◌∙◌, add-one, arith, length-append, length-drop, drop_of_length-le, drop-cons, take_all, le-leb, leb-true, eqb-true, eq-eqb, ne_eqb}
 use Rattle.std.proofs.Math.Numerals.{add-two}
 use Rattle.std.proofs.lemmas.List.Edits.{sets}
 use Rattle.std.proofs.Math.Seq.{drop-nil}
 use Rattle.std.proofs.lemmas.Bool.{lt-leb, eqb-false}
-use Rattle.meaning.specs.Tree.{if◌then◌else◌}
 use Rattle.meaning.specs.Grammar.{two}
 use Rattle.spec_laws.specs.Bools.{and-false}
 use Rattle.spec_laws.specs.Tags.{and_left}
@@ -32,7 +31,7 @@ decimal_more (suc k) n h l =
     let e : suc k - 1 ≡ k = omega arith in
     rw (lt-leb n 9 (omega arith), e)
 
-some_length : (b : Bool) (k c d : ℕ) (xs : List ℕ) → length xs ≤ k → length (if b then c ∷ [] else xs ++ d ∷ []) ≤ suc k
+some_length : (b : Bool) (k c d : ℕ) (xs : List ℕ) → length xs ≤ k → length (if b then c ∷ [] else (xs ++ d ∷ [])) ≤ suc k
 some_length true k c d xs h = omega arith
 some_length false k c d xs h = omega (arith, h, length-append xs (d ∷ []))
 

@@ -1,9 +1,8 @@
 -- The turns of the loops over a text.
 -- Assumes nothing.
-use Rattle.std.specs.Prelude.{◌≡◌, refl, true, false, List, [], ◌∷◌, ◌++◌, ℕ, ◌+◌, ◌<◌, ◌≤◌, length, get_or, take, drop}
+use Rattle.std.specs.Prelude.{if◌then◌else◌, ◌≡◌, refl, true, false, List, [], ◌∷◌, ◌++◌, ℕ, ◌+◌, ◌<◌, ◌≤◌, length, get_or, take, drop}
 use Rattle.std.proofs.Common.{add-one, drop_of_length-le, drop-cons, le-leb}
 use Rattle.std.proofs.Math.Seq.{take-suc, take_all}
-use Rattle.meaning.specs.Tree.{if◌then◌else◌}
 use Rattle.notation.specs.Notation.{Part, nothing, space, after, read, most, encoded, may_stand, spelled_from}
 use Rattle.notation.specs.Spots.{Reads, spot_at}
 use Rattle.notation.specs.Stored.{opened, file_of}

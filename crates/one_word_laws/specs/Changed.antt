@@ -1,11 +1,11 @@
 -- ONE WORD CHANGED (02, request 13): two files that differ in one Declaration, const in the first, `using` or `await using` in the second; and how
 -- little their figures differ.
 -- Assumes nothing.
-use Rattle.std.specs.Prelude.{◌≡◌, true, ◌&&◌, List, [], ◌∷◌, ℕ, ◌+◌, ◌*◌, ◌≤◌, eqb}
+use Rattle.std.specs.Prelude.{if◌then◌else◌, ◌≡◌, true, ◌&&◌, List, [], ◌∷◌, ℕ, ◌+◌, ◌*◌, ◌≤◌, eqb}
 use Rattle.meaning.specs.Numbers.Tag
 use Rattle.meaning.specs.Numbers.Kind
 use Rattle.meaning.specs.Numbers.Mode
-use Rattle.meaning.specs.Tree.{if◌then◌else◌, one_of, Head, hd, Forest, more}
+use Rattle.meaning.specs.Tree.{one_of, Head, hd, Forest, more}
 use Rattle.meaning.specs.File.{File}
 use Rattle.meaning.specs.Charges.{Figures, call_bytes, import_bytes, initializers}
 

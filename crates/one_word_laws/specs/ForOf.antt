@@ -1,12 +1,12 @@
 -- A FOROF around the changed word: its own lines are the same, but where the word stands in the list of its body Block and that takes its using.
 -- Assumes nothing.
-use Rattle.std.specs.Prelude.{◌≡◌, Bool, false, not, ◌&&◌, List, [], ◌∷◌, ◌++◌, eqb}
+use Rattle.std.specs.Prelude.{if◌then◌else◌, ◌≡◌, Bool, false, not, ◌&&◌, List, [], ◌∷◌, ◌++◌, eqb}
 use Rattle.std.proofs.Math.Path.{refl, sym, ap}
 use Rattle.std.proofs.Common.{◌∙◌, arith}
 use Rattle.std.proofs.Math.Bool.{true}
 use borrow.Author.Tests.{eqb-true}
 use Rattle.meaning.specs.Numbers.Tag
-use Rattle.meaning.specs.Tree.{if◌then◌else◌, one_of, Head, Forest, none, more}
+use Rattle.meaning.specs.Tree.{one_of, Head, Forest, none, more}
 use Rattle.meaning.specs.File.{Symbol}
 use Rattle.meaning.specs.Statements.{is_using, any_using}
 use Rattle.meaning.specs.ForOf.{binds_identifier, bound_symbol, binds_name, as_is, insert, wrap, for_of_act}
@@ -37,7 +37,7 @@ use Rattle.one_word_laws.specs.Grown.{Grown, body_grown, same_first, same_before
 -- its lines: with a using of an identifier, a body Block that takes it, and a using in that Block's own list
 abbrev lines_by : Bool → Bool → Bool → List Line
 lines_by used taken own =
-    if used then (if taken then for_of ∷ wrapped 1 ∷ (if own then [] else context of_block ∷ []) else for_of_block ∷ wrapped 1 ∷ context of_block ∷ [])
+    if used then (if taken then for_of ∷ wrapped 1 ∷ (if own then [] else (context of_block ∷ [])) else (for_of_block ∷ wrapped 1 ∷ context of_block ∷ []))
     else []
 
 abbrev takes : List Symbol → Head → Forest → Bool

@@ -1,8 +1,7 @@
 -- HOW CHARGES GROW with a changed word, without the helper and the import line: a context at most, and the calls of its initializers.
 -- Assumes nothing.
-use Rattle.std.specs.Prelude.{◌≡◌, refl, Bool, true, false, List, [], ◌∷◌, ◌++◌, ℕ, ◌+◌, ◌*◌, ◌≤◌}
+use Rattle.std.specs.Prelude.{if◌then◌else◌, ◌≡◌, refl, Bool, true, false, List, [], ◌∷◌, ◌++◌, ℕ, ◌+◌, ◌*◌, ◌≤◌}
 use Rattle.std.proofs.Common.{arith}
-use Rattle.meaning.specs.Tree.{if◌then◌else◌}
 use Rattle.meaning.specs.Charges.{
   ContextKind,
   of_block,
@@ -69,7 +68,7 @@ context_grown kind false w n e = omega (arith, e refl, context_most kind)
 -- The body Block of a ForOf that takes its using has a context already, charged at the ForOf if its own list has no using: so a first using of its
 -- own brings only its calls.
 pub body_grown : (b : Bool) (w n : ℕ) → (b ≡ false → w ≡ 0)
-    → Grown n (total (if b then [] else context of_block ∷ []) ⊕ total (context_if of_block b w)) (total [] ⊕ total (context_if of_block true (n + w)))
+    → Grown n (total (if b then [] else (context of_block ∷ [])) ⊕ total (context_if of_block b w)) (total [] ⊕ total (context_if of_block true (n + w)))
 unfolding total line_charge
 body_grown true w n e = omega arith
 body_grown false w n e = omega (arith, e refl)

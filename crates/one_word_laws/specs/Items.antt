@@ -1,13 +1,13 @@
 -- PROGRAM'S ITEMS are charged as before: a changed word is deeper than what their lines are told by.
 -- Assumes nothing.
-use Rattle.std.specs.Prelude.{◌≡◌, Bool, true, false, not, ◌&&◌, ℕ, length}
+use Rattle.std.specs.Prelude.{if◌then◌else◌, ◌≡◌, Bool, true, false, not, ◌&&◌, ℕ, length}
 use Rattle.std.proofs.Math.Path.{refl, ap}
 use Rattle.std.proofs.Common.{sym, ap₂, ◌∙◌}
 use mathlib.Core.List.{List, [], ◌∷◌, ◌++◌}
 use Rattle.std.proofs.Math.Dec.{eqb}
 use Rattle.meaning.specs.Numbers.Tag
 use Rattle.meaning.specs.Numbers.Form
-use Rattle.meaning.specs.Tree.{if◌then◌else◌, one_of, Head, Forest, more}
+use Rattle.meaning.specs.Tree.{one_of, Head, Forest, more}
 use Rattle.meaning.specs.Contexts.{names_in}
 use Rattle.meaning.specs.Program.{
   bound_names,
@@ -31,12 +31,12 @@ use Rattle.one_word_laws.specs.Changed.{WordChanged, here, behind, list_tags, Tr
 
 -- ---- the lines of an item
 
-default_lines : (h : Head) (k r : Forest) → act_lines (default_act (more h k r)) ≡ (if keeps_default h then [] else default_export ∷ [])
+default_lines : (h : Head) (k r : Forest) → act_lines (default_act (more h k r)) ≡ (if keeps_default h then [] else (default_export ∷ []))
 unfolding default_act act_lines
 default_lines h k r = go (keeps_default h) (eqb h.tag Tag.Class && eqb h.a Form.Declaration && not (eqb h.c 0))
   where
     go : (b c : Bool)
-        → act_lines (if b then stay else if c then export_default_class h k else export_default_value h k) ≡ (if b then [] else default_export ∷ [])
+        → act_lines (if b then stay else if c then export_default_class h k else export_default_value h k) ≡ (if b then [] else (default_export ∷ []))
     go true c = refl
     go false true = refl
     go false false = refl

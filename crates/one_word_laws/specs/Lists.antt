@@ -1,9 +1,9 @@
 -- THE LINES OF A RECORD: of one with the word in its list, and of those around it that are told by their own lists.
 -- Assumes nothing.
-use Rattle.std.specs.Prelude.{◌≡◌, refl, Bool, true, false, ◌||◌, ◌&&◌, List, ℕ, ◌+◌, eqb}
+use Rattle.std.specs.Prelude.{if◌then◌else◌, ◌≡◌, refl, Bool, true, false, ◌||◌, ◌&&◌, List, ℕ, ◌+◌, eqb}
 use Rattle.std.proofs.Common.{arith}
 use Rattle.meaning.specs.Numbers.Tag
-use Rattle.meaning.specs.Tree.{if◌then◌else◌, Head, Forest, none, more}
+use Rattle.meaning.specs.Tree.{Head, Forest, none, more}
 use Rattle.meaning.specs.File.{Symbol}
 use Rattle.meaning.specs.Statements.{any_using}
 use Rattle.meaning.specs.Contexts.{any_case_using}

@@ -1,13 +1,13 @@
 -- RECORDS IN OTHER BYTES: what is parsed from some bytes is parsed from others that are the same where it stands.
 -- Assumes nothing.
-use Rattle.std.specs.Prelude.{◌≡◌, Bool, ◌||◌, ◌&&◌, List, ℕ, ◌+◌, ◌*◌, ◌-◌, ◌≤◌, ◌<◌, length, set}
+use Rattle.std.specs.Prelude.{if◌then◌else◌, ◌≡◌, Bool, ◌||◌, ◌&&◌, List, ℕ, ◌+◌, ◌*◌, ◌-◌, ◌≤◌, ◌<◌, length, set}
 use Rattle.std.proofs.Math.Path.{refl, sym, ap}
 use Rattle.std.proofs.Common.{subst, ◌∙◌, arith, length-set}
 use Rattle.std.proofs.Math.Bool.{true, false}
 use Rattle.std.proofs.Math.Dec.{eqb, leb, ltb}
 use Rattle.std.proofs.Math.ListN.{get_or}
 use borrow.Author.Tests.{ltb-true, leb-true}
-use Rattle.meaning.specs.Tree.{if◌then◌else◌, Head, Forest}
+use Rattle.meaning.specs.Tree.{Head, Forest}
 use Rattle.meaning.specs.File.{numbers_of, field_bytes}
 use Rattle.meaning.specs.Grammar.{two, number, field_of, place_of, scope_of, below, parent_in, may_name, naming}
 use Rattle.meaning.specs.declared.Place.{Place}

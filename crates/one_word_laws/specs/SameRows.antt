@@ -1,6 +1,6 @@
 -- ROWS IN OTHER BYTES: settings, scope rows and symbol rows are read as before where all bytes up to the one behind them are the same.
 -- Assumes nothing.
-use Rattle.std.specs.Prelude.{◌≡◌, Bool, ◌||◌, length, get_or}
+use Rattle.std.specs.Prelude.{if◌then◌else◌, ◌≡◌, Bool, ◌||◌, length, get_or}
 use Rattle.std.proofs.Math.Path.{refl, ap, ap₂}
 use Rattle.std.proofs.Common.{sym, ◌∙◌, true≢false, arith}
 use Rattle.std.proofs.Math.Bool.{true, false}
@@ -8,7 +8,6 @@ use mathlib.Core.List.{List, ◌∷◌}
 use Prim.Native.Nat.{ℕ, zero, suc, ◌+◌, ◌*◌, ◌≤◌}
 use Rattle.std.proofs.Math.Dec.{eqb}
 use Rattle.meaning.specs.Numbers.Tag
-use Rattle.meaning.specs.Tree.{if◌then◌else◌}
 use Rattle.meaning.specs.File.{Scope, scope_row, Symbol}
 use Rattle.meaning.specs.Grammar.{two, field_of, field_at, scope_right, symbol_right, parent_in}
 use Rattle.meaning.specs.Reading.{judged, scope_at, symbol_at, and_rows, read_rows, most_rows, most_symbols, read_scopes, read_symbols, scopes_in, symbols_in, wrong_count}

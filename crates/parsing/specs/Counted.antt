@@ -1,13 +1,12 @@
 -- THE LAST CHECK EXACTLY: when the fifth numbers of the symbol rows refuse a file, and at which row (02, request 7).
 -- Assumes nothing.
-use Rattle.std.specs.Prelude.{◌≡◌, Bool, true, false, ◌&&◌, List, length, replicate, eqb, leb}
+use Rattle.std.specs.Prelude.{if◌then◌else◌, ◌≡◌, Bool, true, false, ◌&&◌, List, length, replicate, eqb, leb}
 use Rattle.std.proofs.Math.Path.{refl}
 use Rattle.std.proofs.Common.{sym, ap, ◌∙◌, le_antisymm, lt_of_not-le, le_of_suc-le-suc, arith, eqb-true, leb-true, leb-false, le-leb}
 use Prim.Native.Nat.{ℕ, zero, suc, ◌+◌, ◌*◌, ◌-◌, ◌≤◌, ◌<◌}
 use Rattle.std.proofs.lemmas.Bool.{eqb-false, lt-leb}
 use Rattle.meaning.specs.Numbers.Mode
 use Rattle.meaning.specs.Numbers.Refusal
-use Rattle.meaning.specs.Tree.{if◌then◌else◌}
 use Rattle.meaning.specs.File.{File, settings_bytes, scope_bytes, symbol_bytes}
 use Rattle.meaning.specs.Mentions.{mentions}
 use Rattle.meaning.specs.Grammar.{two, field_at, unnamed}

@@ -1,8 +1,8 @@
 -- Where the walk stands, and the open records around it. Rows are numbered from 1.
 -- Assumes nothing.
-use Rattle.std.specs.Prelude.{List, [], ◌∷◌, Bool, not, ◌||◌, ℕ, ◌-◌, eqb}
+use Rattle.std.specs.Prelude.{if◌then◌else◌, List, [], ◌∷◌, Bool, not, ◌||◌, ℕ, ◌-◌, eqb}
 use Rattle.meaning.specs.Numbers.Tag
-use Rattle.meaning.specs.Tree.{if◌then◌else◌, one_of}
+use Rattle.meaning.specs.Tree.{one_of}
 use Rattle.meaning.specs.Grammar.{scope_of}
 use Rattle.tables.specs.Columns.RecordTable
 use Rattle.tables.specs.Loops.{until}

@@ -1,9 +1,9 @@
 -- An accepted file and its walk, read back: the records have tags of records, and the tree that is read is the tree that the bytes say.
 -- Assumes nothing.
-use Rattle.std.specs.Prelude.{◌≡◌, refl, Bool, true, false, List, [], ℕ, suc, ltb}
+use Rattle.std.specs.Prelude.{if◌then◌else◌, ◌≡◌, refl, Bool, true, false, List, [], ℕ, suc, ltb}
 use Rattle.std.proofs.Common.{sym, ap, subst, ◌∙◌, le-leb}
 use Rattle.meaning.specs.Numbers.Tag
-use Rattle.meaning.specs.Tree.{if◌then◌else◌, Forest, none, more, ◌&◌}
+use Rattle.meaning.specs.Tree.{Forest, none, more, ◌&◌}
 use Rattle.meaning.specs.File.{File, own_numbers}
 use Rattle.meaning.specs.Grammar.{place_of, head_of}
 use Rattle.meaning.specs.Reading.{accepted, read_file}

@@ -1,9 +1,9 @@
 -- The tree read off the written bytes of a file is the file's tree, with 0 for the numbers that are not written; it gives the same hints.
 -- Assumes nothing.
-use Rattle.std.specs.Prelude.{◌≡◌, refl, Bool, true, false, List, [], ◌∷◌, ◌++◌, ℕ, zero, suc, ◌+◌, ◌≤◌, length, take, get_or, eqb, leb, ltb}
+use Rattle.std.specs.Prelude.{if◌then◌else◌, ◌≡◌, refl, Bool, true, false, List, [], ◌∷◌, ◌++◌, ℕ, zero, suc, ◌+◌, ◌≤◌, length, take, get_or, eqb, leb, ltb}
 use Rattle.std.proofs.Common.{sym, ap, ◌∙◌, append_assoc, append-nil, arith, length-append, eqb-true, leb-true, lt-ltb}
 use Rattle.meaning.specs.Numbers.Tag
-use Rattle.meaning.specs.Tree.{if◌then◌else◌, one_of, Head, hd, Forest, none, more, count, size, Row, row, flatten}
+use Rattle.meaning.specs.Tree.{one_of, Head, hd, Forest, none, more, count, size, Row, row, flatten}
 use Rattle.meaning.specs.Mentions.{mentions}
 use Rattle.meaning.specs.File.{Scope, Symbol, File, numbers_of, has_children, own_numbers, record_numbers, written}
 use Rattle.meaning.specs.Grammar.{scope_first, scope_second}

@@ -1,9 +1,9 @@
 -- The records that get a context: those without n get no children.
 -- Assumes nothing.
-use Rattle.std.specs.Prelude.{◌≡◌, Bool, true, false, ◌&&◌, ℕ, eqb}
+use Rattle.std.specs.Prelude.{if◌then◌else◌, ◌≡◌, Bool, true, false, ◌&&◌, ℕ, eqb}
 use Rattle.std.proofs.Common.{ap}
 use Rattle.meaning.specs.Numbers.Tag
-use Rattle.meaning.specs.Tree.{if◌then◌else◌, Head, Forest, none, more, one, node, single, ◌&◌}
+use Rattle.meaning.specs.Tree.{Head, Forest, none, more, one, node, single, ◌&◌}
 use Rattle.meaning.specs.File.{has_children}
 use Rattle.meaning.specs.Scoping.{
   Store,

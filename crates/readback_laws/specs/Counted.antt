@@ -1,13 +1,13 @@
 -- How often the records in some bytes name a symbol, counted by a reader of the bytes; and that a written file says so in its symbol rows.
 -- Assumes nothing.
-use Rattle.std.specs.Prelude.{◌≡◌, length, get_or, eqb}
+use Rattle.std.specs.Prelude.{if◌then◌else◌, ◌≡◌, length, get_or, eqb}
 use Rattle.std.proofs.Math.Path.{refl}
 use Rattle.std.proofs.Common.{sym, ap, ap₂, ◌∙◌, ne_eqb}
 use mathlib.Core.List.{List, [], ◌∷◌, ◌++◌, append_assoc, append-nil}
 use Prim.Native.Nat.{ℕ, zero, suc, ◌+◌, ◌≤◌}
 use native.Mathlib.Omega.{arith}
 use Rattle.meaning.specs.Numbers.Tag
-use Rattle.meaning.specs.Tree.{if◌then◌else◌, one_of, hd, Forest, none, more, count, Row, row, flatten}
+use Rattle.meaning.specs.Tree.{one_of, hd, Forest, none, more, count, Row, row, flatten}
 use Rattle.meaning.specs.Mentions.{first_named, second_named, named, mentions}
 use Rattle.meaning.specs.File.{Scope, Symbol, File, numbers_of, has_children, own_numbers, record_numbers, written}
 use Rattle.mentions.specs.Sums.{counts_from}

@@ -1,7 +1,7 @@
 -- The tree that the bytes of a file say, read off its fields alone.
 -- Assumes nothing.
-use Rattle.std.specs.Prelude.{List, [], ◌∷◌, ℕ, zero, suc, length, get_or, ltb}
-use Rattle.meaning.specs.Tree.{if◌then◌else◌, hd, Forest, none, more, Row, row}
+use Rattle.std.specs.Prelude.{if◌then◌else◌, List, [], ◌∷◌, ℕ, zero, suc, length, get_or, ltb}
+use Rattle.meaning.specs.Tree.{hd, Forest, none, more, Row, row}
 use Rattle.meaning.specs.File.{has_children, own_numbers}
 use Rattle.readback_laws.specs.ReadBack.{Read, fields_of, is_record}
 

@@ -1,9 +1,9 @@
 -- A file with no number above 65,535 is written in bytes, and so is what the walk of an accepted file leaves.
 -- Assumes nothing.
-use Rattle.std.specs.Prelude.{◌≡◌, Bool, true, false, List, [], ◌∷◌, ◌++◌, ℕ, zero, suc, ◌*◌, ◌≤◌, length, take}
+use Rattle.std.specs.Prelude.{if◌then◌else◌, ◌≡◌, Bool, true, false, List, [], ◌∷◌, ◌++◌, ℕ, zero, suc, ◌*◌, ◌≤◌, length, take}
 use Rattle.std.proofs.Common.{arith, length-append}
 use Rattle.meaning.specs.Numbers.Tag
-use Rattle.meaning.specs.Tree.{if◌then◌else◌, Forest, none, more, Row, size, flatten}
+use Rattle.meaning.specs.Tree.{Forest, none, more, Row, size, flatten}
 use Rattle.meaning.specs.Mentions.{mentions}
 use Rattle.meaning.specs.File.{
   Scope,

@@ -1,9 +1,9 @@
 -- A Program that is lowered: records without n get no children.
 -- Assumes nothing.
-use Rattle.std.specs.Prelude.{◌≡◌, refl, Bool, true, false, List, [], ◌∷◌, ℕ, eqb}
+use Rattle.std.specs.Prelude.{if◌then◌else◌, ◌≡◌, refl, Bool, true, false, List, [], ◌∷◌, ℕ, eqb}
 use Rattle.meaning.specs.Numbers.Tag
 use Rattle.meaning.specs.Numbers.Form
-use Rattle.meaning.specs.Tree.{if◌then◌else◌, Head, hd, Forest, none, more, one, single}
+use Rattle.meaning.specs.Tree.{Head, hd, Forest, none, more, one, single}
 use Rattle.meaning.specs.File.{has_children}
 use Rattle.meaning.specs.Scoping.{Store}
 use Rattle.meaning.specs.Program.{

@@ -1,9 +1,9 @@
 -- How many bytes are written.
 -- Assumes nothing.
-use Rattle.std.specs.Prelude.{◌≡◌, refl, Bool, true, false, ◌&&◌, List, [], ◌∷◌, ◌++◌, ℕ, zero, suc, ◌+◌, ◌*◌, ◌<◌, length, take, eqb, leb}
+use Rattle.std.specs.Prelude.{if◌then◌else◌, ◌≡◌, refl, Bool, true, false, ◌&&◌, List, [], ◌∷◌, ◌++◌, ℕ, zero, suc, ◌+◌, ◌*◌, ◌<◌, length, take, eqb, leb}
 use Rattle.std.proofs.Common.{ap, ◌∙◌, arith, length-append, length-take-le, eqb-true, leb-true}
 use Rattle.std.proofs.lemmas.Bool.{eqb-false}
-use Rattle.meaning.specs.Tree.{if◌then◌else◌, Forest, none, more, Row, row, count, flatten}
+use Rattle.meaning.specs.Tree.{Forest, none, more, Row, row, count, flatten}
 use Rattle.meaning.specs.Mentions.{mentions}
 use Rattle.meaning.specs.File.{
   scope_bytes,

@@ -1,6 +1,6 @@
 -- A tree with its heads changed, one by one. If the changes keep what hints are read from, it gives the same hints.
 -- Assumes nothing.
-use Rattle.std.specs.Prelude.{◌≡◌, Bool}
+use Rattle.std.specs.Prelude.{if◌then◌else◌, ◌≡◌, Bool}
 use Rattle.std.proofs.Math.Path.{refl, ap, ap₂}
 use Rattle.std.proofs.Common.{◌∙◌}
 use Rattle.std.proofs.Math.Bool.{true, false}
@@ -8,7 +8,7 @@ use mathlib.Core.List.{List, [], ◌∷◌, ◌++◌}
 use Prim.Native.Nat.{ℕ, zero, suc, ◌+◌}
 use Rattle.std.proofs.Math.Dec.{eqb}
 use Rattle.meaning.specs.Numbers.Tag
-use Rattle.meaning.specs.Tree.{if◌then◌else◌, Head, Forest, none, more, count, row}
+use Rattle.meaning.specs.Tree.{Head, Forest, none, more, count, row}
 use Rattle.meaning.specs.File.{record_numbers}
 use Rattle.meaning.specs.Renumbering.{with_scope}
 use Rattle.spec_laws.specs.Bools.{if_same}

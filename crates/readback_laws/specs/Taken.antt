@@ -1,10 +1,10 @@
 -- Lists that a context takes up, and the Try around them: records without n get no children.
 -- Assumes nothing.
-use Rattle.std.specs.Prelude.{◌≡◌, refl, Bool, true, false, ℕ, eqb}
+use Rattle.std.specs.Prelude.{if◌then◌else◌, ◌≡◌, refl, Bool, true, false, ℕ, eqb}
 use Rattle.std.proofs.Common.{subst}
 use Rattle.meaning.specs.Numbers.Tag
 use Rattle.meaning.specs.Numbers.Kind
-use Rattle.meaning.specs.Tree.{if◌then◌else◌, Head, Forest, none, more, single, ◌&◌}
+use Rattle.meaning.specs.Tree.{Head, Forest, none, more, single, ◌&◌}
 use Rattle.meaning.specs.File.{has_children}
 use Rattle.meaning.specs.Scoping.{Store}
 use Rattle.meaning.specs.Shapes.{declaration}

@@ -1,6 +1,6 @@
 -- NUMBERS GIVEN ROW BY ROW are the places in the order of names.
 -- Assumes nothing.
-use Rattle.std.specs.Prelude.{◌≡◌, Bool, leb, length, replicate}
+use Rattle.std.specs.Prelude.{if◌then◌else◌, ◌≡◌, Bool, leb, length, replicate}
 use Rattle.std.proofs.Math.Path.{refl, sym}
 use Rattle.std.proofs.Common.{ap, ◌∙◌, arith, length-set}
 use Rattle.std.proofs.Math.Bool.{true, false}
@@ -10,7 +10,7 @@ use Rattle.std.proofs.Math.Dec.{eqb}
 use Rattle.std.proofs.Math.ListN.{get_or, set, length-replicate, get_or-replicate, get_or-eq_default}
 use Rattle.std.proofs.Math.Seq.{get_or-set_same, get_or-set_other}
 use borrow.Author.Tests.{eqb-true, eqb-false, ne_eqb, leb-true, leb-false}
-use Rattle.meaning.specs.Tree.{if◌then◌else◌, Head}
+use Rattle.meaning.specs.Tree.{Head}
 use Rattle.meaning.specs.Grammar.{scope_of}
 use Rattle.meaning.specs.Renumbering.{scope_named, place_from, new_number}
 use Rattle.renumbering.specs.Numbers.{number_in, number_f, numbers_f}
@@ -138,6 +138,6 @@ pub named_most : (h : Head) → length (scope_named h) ≤ 1
 unfolding scope_named
 named_most h = go (eqb (scope_of h) 0)
   where
-    go : (b : Bool) → length (if b then [] else scope_of h ∷ []) ≤ 1
+    go : (b : Bool) → length (if b then [] else (scope_of h ∷ [])) ≤ 1
     go true = omega arith
     go false = omega arith

@@ -1,8 +1,8 @@
 -- What the code computes: new numbers for the scopes that the rows of a record table name. The number of the scope in row s is behind s - 1
 -- others.
 -- Assumes nothing.
-use Rattle.std.specs.Prelude.{List, [], ◌∷◌, ◌++◌, ℕ, zero, suc, ◌+◌, ◌-◌, eqb, take, drop, get_or, set}
-use Rattle.meaning.specs.Tree.{if◌then◌else◌, Head}
+use Rattle.std.specs.Prelude.{if◌then◌else◌, List, [], ◌∷◌, ◌++◌, ℕ, zero, suc, ◌+◌, ◌-◌, eqb, take, drop, get_or, set}
+use Rattle.meaning.specs.Tree.{Head}
 use Rattle.meaning.specs.Grammar.{scope_of}
 use Rattle.meaning.specs.Renumbering.{scope_named, with_scope}
 use Rattle.tables.specs.Table.{row_f, head_f, new_numbers_at}

@@ -1,6 +1,6 @@
 -- Numbered in tree order, scope rows agree with the tree as before.
 -- Assumes nothing.
-use Rattle.std.specs.Prelude.{◌≡◌, Bool, false, not, ◌||◌, ℕ, zero, suc, ◌+◌, ◌≤◌, ◌<◌, length, get_or, leb}
+use Rattle.std.specs.Prelude.{if◌then◌else◌, ◌≡◌, Bool, false, not, ◌||◌, ℕ, zero, suc, ◌+◌, ◌≤◌, ◌<◌, length, get_or, leb}
 use Rattle.std.proofs.Math.Path.{refl, sym, ap, ap₂}
 use Rattle.std.proofs.Common.{◌∙◌, arith}
 use Rattle.std.proofs.Math.Bool.{true, ◌&&◌}
@@ -9,7 +9,7 @@ use Rattle.std.proofs.Math.ListN.{get_or-map}
 use Rattle.std.proofs.Math.Dec.{eqb}
 use borrow.Author.Tests.{eqb-true, eqb-false, eq-eqb, ne_eqb, leb-true}
 use Rattle.meaning.specs.Numbers.Tag
-use Rattle.meaning.specs.Tree.{if◌then◌else◌, one_of, Head, hd, Forest, none, more, one}
+use Rattle.meaning.specs.Tree.{one_of, Head, hd, Forest, none, more, one}
 use Rattle.meaning.specs.File.{Scope, File}
 use Rattle.meaning.specs.Grammar.{scope_first, is_row, scope_of, below}
 use Rattle.meaning.specs.Scoping.{row_at, no_scope}
@@ -53,7 +53,7 @@ module _ (new : ℕ → ℕ) (zero_stays : new 0 ≡ 0) (s t : ℕ) (zeros : eqb
   head_follows : (x : ℕ) → All Follows (some x) → Follows x
   head_follows x p = go (eqb x 0) refl p
     where
-      go : (z : Bool) → eqb x 0 ≡ z → All Follows (if z then [] else x ∷ []) → Follows x
+      go : (z : Bool) → eqb x 0 ≡ z → All Follows (if z then [] else (x ∷ [])) → Follows x
       go true e p =
           let x_is = eqb-true x 0 e in
           rw (x_is, zero_stays) (zeros, refl)

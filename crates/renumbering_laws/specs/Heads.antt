@@ -1,9 +1,9 @@
 -- A record with another number for its scope.
 -- Assumes nothing.
-use Rattle.std.specs.Prelude.{◌≡◌, refl, Bool, true, false, ◌||◌, List, [], ◌∷◌, ℕ, ◌≤◌, eqb}
+use Rattle.std.specs.Prelude.{if◌then◌else◌, ◌≡◌, refl, Bool, true, false, ◌||◌, List, [], ◌∷◌, ℕ, ◌≤◌, eqb}
 use Rattle.std.proofs.Common.{sym, ap, ◌∙◌, eqb-true}
 use Rattle.meaning.specs.Numbers.Tag
-use Rattle.meaning.specs.Tree.{if◌then◌else◌, one_of, Head, hd, row}
+use Rattle.meaning.specs.Tree.{one_of, Head, hd, row}
 use Rattle.meaning.specs.Mentions.{first_named, second_named, named}
 use Rattle.meaning.specs.File.{numbers_of, has_children, own_numbers, record_numbers}
 use Rattle.meaning.specs.Grammar.{scope_first, scope_second, scope_of}

@@ -1,9 +1,9 @@
 -- Where scope rows and tree agree, each row is named once, so the names put the rows in an order.
 -- Assumes nothing.
-use Rattle.std.specs.Prelude.{◌≡◌, refl, Bool, true, false, ◌&&◌, List, [], ◌∷◌, ◌++◌, ℕ, zero, suc, ◌-◌, ◌≤◌, ◌<◌, length, get_or, eqb, leb}
+use Rattle.std.specs.Prelude.{if◌then◌else◌, ◌≡◌, refl, Bool, true, false, ◌&&◌, List, [], ◌∷◌, ◌++◌, ℕ, zero, suc, ◌-◌, ◌≤◌, ◌<◌, length, get_or, eqb, leb}
 use Rattle.std.proofs.Common.{ap, ap₂, subst, ◌∙◌, arith, length-append, eqb-true, leb-true, le-leb}
 use Rattle.std.proofs.lemmas.Bool.{lt-leb}
-use Rattle.meaning.specs.Tree.{if◌then◌else◌, Forest, none, more}
+use Rattle.meaning.specs.Tree.{Forest, none, more}
 use Rattle.meaning.specs.File.{Scope}
 use Rattle.meaning.specs.Grammar.{is_row, scope_of, below}
 use Rattle.meaning.specs.Scoping.{row_at, no_scope}
@@ -19,12 +19,12 @@ use Rattle.renumbering_laws.specs.Trees.{all_split, all_same}
 
 -- a record's, by whether its scope is the one, whether it has none, and whether it names one
 head_occurs : (s cur x : ℕ) (m : Bool) → 1 ≤ s → (m ≡ false → eqb x 0 ≡ true)
-    → occurs s (if eqb x 0 then [] else x ∷ []) ≡ length (if m && eqb x s then cur ∷ [] else [])
+    → occurs s (if eqb x 0 then [] else (x ∷ [])) ≡ length (if m && eqb x s then cur ∷ [] else [])
 unfolding occurs
 head_occurs s cur x m some no_name = go (eqb x s) (eqb x 0) m refl refl no_name
   where
     go : (c z m : Bool) → eqb x s ≡ c → eqb x 0 ≡ z → (m ≡ false → z ≡ true)
-        → occurs s (if z then [] else x ∷ []) ≡ length (if m && c then cur ∷ [] else [])
+        → occurs s (if z then [] else (x ∷ [])) ≡ length (if m && c then cur ∷ [] else [])
     go true true m e d n = absurd (omega (arith, eqb-true x s e, eqb-true x 0 d))
     go true false true e d n = rw e
     go true false false e d n = absurd (clash refl (n refl))
@@ -66,7 +66,7 @@ never_zero (more h k r) =
       never_zero r,
     )
   where
-    head_zero : (z : Bool) → eqb (scope_of h) 0 ≡ z → occurs 0 (if z then [] else scope_of h ∷ []) ≡ 0
+    head_zero : (z : Bool) → eqb (scope_of h) 0 ≡ z → occurs 0 (if z then [] else (scope_of h ∷ [])) ≡ 0
     head_zero true e = refl
     head_zero false e = rw e
 
@@ -86,7 +86,7 @@ around_few s B (more h k r) cur l p =
     here true = (l, tt)
     here false = tt
 
-    inner : (z : Bool) → All (λ x. x ≤ B) (if z then [] else scope_of h ∷ []) → (if z then cur else scope_of h) ≤ B
+    inner : (z : Bool) → All (λ x. x ≤ B) (if z then [] else (scope_of h ∷ [])) → (if z then cur else scope_of h) ≤ B
     inner true q = l
     inner false q = q.0
 

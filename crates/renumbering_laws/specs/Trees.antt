@@ -1,12 +1,12 @@
 -- A tree whose scopes are numbered anew: all but the numbers stays.
 -- Assumes nothing.
-use Rattle.std.specs.Prelude.{◌≡◌, Bool, true, eqb}
+use Rattle.std.specs.Prelude.{if◌then◌else◌, ◌≡◌, Bool, true, eqb}
 use Rattle.std.proofs.Math.Path.{refl, ap, ap₂}
 use Rattle.std.proofs.Common.{sym, ◌∙◌, arith, eqb-true, ne_eqb}
 use Rattle.std.proofs.Math.Bool.{false}
 use mathlib.Core.List.{List, [], ◌∷◌, ◌++◌, map, map-append}
 use Prim.Native.Nat.{ℕ, suc, ◌≤◌}
-use Rattle.meaning.specs.Tree.{if◌then◌else◌, Head, Forest, none, more, count, size}
+use Rattle.meaning.specs.Tree.{Head, Forest, none, more, count, size}
 use Rattle.meaning.specs.Mentions.{mentions}
 use Rattle.meaning.specs.File.{has_children}
 use Rattle.meaning.specs.Grammar.{scope_of}
@@ -32,12 +32,12 @@ all_same P Q (x ∷ xs) q p = (q x p.0, all_same P Q xs q p.1)
 
 -- the scope, if it is one
 abbrev pub some : ℕ → List ℕ
-some s = if eqb s 0 then [] else s ∷ []
+some s = if eqb s 0 then [] else (s ∷ [])
 
 some_mapped : (new : ℕ → ℕ) (s : ℕ) → new 0 ≡ 0 → All (λ x. 1 ≤ new x) (some s) → some (new s) ≡ map new (some s)
 some_mapped new s zero_stays p = go (eqb s 0) refl p
   where
-    go : (b : Bool) → eqb s 0 ≡ b → All (λ x. 1 ≤ new x) (if b then [] else s ∷ []) → some (new s) ≡ map new (if b then [] else s ∷ [])
+    go : (b : Bool) → eqb s 0 ≡ b → All (λ x. 1 ≤ new x) (if b then [] else (s ∷ [])) → some (new s) ≡ map new (if b then [] else (s ∷ []))
     go true e p = ap (λ (x : ℕ). some (new x)) (eqb-true s 0 e) ∙ ap some zero_stays
     go false e p = let l = p.0 in let n = ne_eqb (new s) 0 (λ q. omega arith) in rw n
 
@@ -126,7 +126,7 @@ module _ (new : ℕ → ℕ) where
         joined xs ys zs = rw (map-append new xs (ys ++ zs), map-append new ys zs)
 
     -- numbers that stay leave the tree as it is
-    same_head : (h : Head) (b : Bool) → eqb (scope_of h) 0 ≡ b → All (λ s. new s ≡ s) (if b then [] else scope_of h ∷ [])
+    same_head : (h : Head) (b : Bool) → eqb (scope_of h) 0 ≡ b → All (λ s. new s ≡ s) (if b then [] else (scope_of h ∷ []))
         → with_scope h (new (scope_of h)) ≡ h
     same_head h true e p =
         let z = eqb-true (scope_of h) 0 e in

@@ -1,8 +1,7 @@
 -- Try parts.
 -- Assumes nothing.
-use Rattle.std.specs.Prelude.{List, Bool, not, ◌&&◌, ℕ, eqb}
+use Rattle.std.specs.Prelude.{if◌then◌else◌, List, Bool, not, ◌&&◌, ℕ, eqb}
 use Rattle.meaning.specs.Numbers.Tag
-use Rattle.meaning.specs.Tree.{if◌then◌else◌}
 use Rattle.tables.specs.Columns.RecordTable
 use Rattle.tables.specs.Loops.{turns}
 use Rattle.tables.specs.Table.{capped, column_f, row_f, closed_row_f, end_f}

@@ -1,10 +1,9 @@
 -- `enter_for_of_statement` on tables.
 -- Assumes nothing.
-use Rattle.std.specs.Prelude.{List, Bool, false, not, ◌&&◌, ℕ, ◌+◌, ◌-◌, eqb, ltb}
+use Rattle.std.specs.Prelude.{if◌then◌else◌, List, Bool, false, not, ◌&&◌, ℕ, ◌+◌, ◌-◌, eqb, ltb}
 use Rattle.meaning.specs.Numbers.Tag
 use Rattle.meaning.specs.Numbers.Kind
 use Rattle.meaning.specs.Numbers.SymbolFlag
-use Rattle.meaning.specs.Tree.{if◌then◌else◌}
 use Rattle.meaning.specs.Statements.{is_using}
 use Rattle.meaning.specs.ForOf.{binds_name}
 use Rattle.tables.specs.Columns.RecordTable

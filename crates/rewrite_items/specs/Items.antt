@@ -1,13 +1,12 @@
 -- The items of a Program that is lowered.
 -- Assumes nothing.
-use Rattle.std.specs.Prelude.{List, ℕ, eqb}
+use Rattle.std.specs.Prelude.{if◌then◌else◌, List, ℕ, eqb}
 use Rattle.meaning.specs.Numbers.Tag
 use Rattle.meaning.specs.Numbers.Kind
 use Rattle.meaning.specs.Numbers.Form
 use Rattle.meaning.specs.Numbers.LineForm
 use Rattle.meaning.specs.Numbers.SymbolFlag
 use Rattle.meaning.specs.Numbers.KnownName
-use Rattle.meaning.specs.Tree.{if◌then◌else◌}
 use Rattle.meaning.specs.Statements.{is_using}
 use Rattle.tables.specs.Columns.RecordTable
 use Rattle.tables.specs.Columns.SymbolTable

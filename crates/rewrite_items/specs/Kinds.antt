@@ -1,9 +1,8 @@
 -- What becomes of an item.
 -- Assumes nothing.
-use Rattle.std.specs.Prelude.{List, ℕ, eqb}
+use Rattle.std.specs.Prelude.{if◌then◌else◌, List, ℕ, eqb}
 use Rattle.meaning.specs.Numbers.Tag
 use Rattle.meaning.specs.Numbers.Form
-use Rattle.meaning.specs.Tree.{if◌then◌else◌}
 use Rattle.tables.specs.Table.{capped, row_f}
 use Rattle.tables.specs.declared.Row.{Row}
 use Rattle.rewrite_items.specs.declared.Item.{Item}

@@ -1,9 +1,8 @@
 -- The names that a Declaration binds, row by row.
 -- Assumes nothing.
-use Rattle.std.specs.Prelude.{List, Bool, not, ◌&&◌, ℕ, ◌-◌, eqb}
+use Rattle.std.specs.Prelude.{if◌then◌else◌, List, Bool, not, ◌&&◌, ℕ, ◌-◌, eqb}
 use Rattle.meaning.specs.Numbers.Tag
 use Rattle.meaning.specs.Numbers.SymbolFlag
-use Rattle.meaning.specs.Tree.{if◌then◌else◌}
 use Rattle.tables.specs.Columns.RecordTable
 use Rattle.tables.specs.Columns.SymbolTable
 use Rattle.tables.specs.Loops.{until}

@@ -1,8 +1,7 @@
 // The items of a Program that is lowered: declarations, classes and exports.
 #![tactic(auto)]
 
-ghost use Rattle.std.specs.Prelude.{◌≡◌};
-ghost use Rattle.meaning.specs.Tree.{if◌then◌else◌};
+ghost use Rattle.std.specs.Prelude.{if◌then◌else◌, ◌≡◌};
 ghost use Rattle.scoping.specs.Changes.{in_symbols};
 ghost use Rattle.tables.specs.Stream.{buf};
 ghost use Rattle.rewrite_items.specs.Kinds.{default_item_f, default_class_item_f, exported_item_f, item_f};

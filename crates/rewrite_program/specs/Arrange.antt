@@ -1,8 +1,8 @@
 -- Items rearranged: first those that stay.
 -- Assumes nothing.
-use Rattle.std.specs.Prelude.{List, [], ◌∷◌, ℕ, ◌-◌}
+use Rattle.std.specs.Prelude.{if◌then◌else◌, List, [], ◌∷◌, ℕ, ◌-◌}
 use Rattle.meaning.specs.Numbers.Tag
-use Rattle.meaning.specs.Tree.{if◌then◌else◌, one_of}
+use Rattle.meaning.specs.Tree.{one_of}
 use Rattle.tables.specs.Columns.RecordTable
 use Rattle.tables.specs.Loops.{turns}
 use Rattle.tables.specs.Table.{capped, column_f, end_f}

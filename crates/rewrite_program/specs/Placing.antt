@@ -1,7 +1,6 @@
 -- Rows put in the places that they carry in the column Up: the number of rows that must stand before them.
 -- Assumes nothing.
-use Rattle.std.specs.Prelude.{List, Bool, ℕ, eqb, leb}
-use Rattle.meaning.specs.Tree.{if◌then◌else◌}
+use Rattle.std.specs.Prelude.{if◌then◌else◌, List, Bool, ℕ, eqb, leb}
 use Rattle.tables.specs.Columns.RecordTable
 use Rattle.tables.specs.Loops.{turns, until}
 use Rattle.tables.specs.Table.{capped, column_f, row_f, set_column_f, set_row_f}

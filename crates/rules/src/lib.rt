@@ -1,12 +1,12 @@
 // The rules of a record's numbers, by its tag and place.
 #![tactic(auto)]
 
-ghost use Rattle.std.specs.Prelude.{◌≡◌, ◌&&◌, ◌||◌, not, ℕ, ◌+◌, ◌*◌, ◌≤◌, leb, eqb, ltb};
+ghost use Rattle.std.specs.Prelude.{if◌then◌else◌, ◌≡◌, ◌&&◌, ◌||◌, not, ℕ, ◌+◌, ◌*◌, ◌≤◌, leb, eqb, ltb};
 ghost use Rattle.meaning.specs.Numbers.Letter;
 ghost use Rattle.meaning.specs.Numbers.Mode;
 ghost use Rattle.meaning.specs.Numbers.Parts;
 ghost use Rattle.meaning.specs.Numbers.StepForm;
-ghost use Rattle.meaning.specs.Tree.{if◌then◌else◌, one_of};
+ghost use Rattle.meaning.specs.Tree.{one_of};
 ghost use Rattle.meaning.specs.File.{has_children, own_numbers};
 ghost use Rattle.meaning.specs.Grammar.{index, is, form_fits, is_row, scope_right, symbol_right, declaration_right, declarator_right, try_right, function_right, class_right, module_line_right, right, children_of, place_of, head_of, scope_of, below};
 

@@ -1,5 +1,6 @@
 -- The turns of the searches, and the rows as read.
 -- Assumes nothing.
+use Rattle.std.specs.Prelude.{if◌then◌else◌}
 use mathlib.Core.Path.{◌≡◌, refl}
 use mathlib.Core.List.{List, [], ◌∷◌}
 use Prim.Native.Nat.compare
@@ -10,7 +11,6 @@ use lib.ListN.{get_or}
 use lib.Dec.{eqb, leb}
 use borrow.Author.Tests.{eq-eqb, ne_eqb, le-leb, lt-leb}
 use Rattle.tables.specs.Columns.SymbolTable
-use Rattle.meaning.specs.Tree.{if◌then◌else◌}
 use Rattle.meaning.specs.Scoping.{no_scope, no_symbol, row_at, binds, last_binding, get_binding, find_binding}
 use Rattle.tables.specs.Loops.{one_less}
 use Rattle.tables.specs.Table.{capped}

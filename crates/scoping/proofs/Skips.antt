@@ -1,5 +1,6 @@
 -- The turns of the searches for the next row with a number, and that a pass may leave out the rows before it.
 -- Assumes nothing.
+use Rattle.std.specs.Prelude.{if◌then◌else◌}
 use mathlib.Core.Path.{◌≡◌, refl, sym, ◌∙◌}
 use mathlib.Core.Bool.{Bool, true, false, and-false}
 use mathlib.Core.List.{List}
@@ -10,7 +11,6 @@ use lib.ListN.{get_or}
 use lib.Dec.{eqb}
 use borrow.Author.Tests.{eq-eqb, ne_eqb, eqb-true, eqb-false}
 use Rattle.tables.specs.Columns.SymbolTable
-use Rattle.meaning.specs.Tree.{if◌then◌else◌}
 use Rattle.meaning.specs.Scoping.{binds, get_binding, is_among_bindings}
 use Rattle.tables.specs.Table.{capped}
 use Rattle.tables.specs.Loops.{turns, one_less, next_turn as one_turn}

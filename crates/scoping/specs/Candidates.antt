@@ -1,7 +1,6 @@
 -- The rows that can bind a name, and the way from a scope outwards.
 -- Assumes nothing.
-use Rattle.std.specs.Prelude.{List, [], ◌∷◌, Bool, true, false, ◌&&◌, ℕ, zero, suc, eqb}
-use Rattle.meaning.specs.Tree.{if◌then◌else◌}
+use Rattle.std.specs.Prelude.{if◌then◌else◌, List, [], ◌∷◌, Bool, true, false, ◌&&◌, ℕ, zero, suc, eqb}
 use Rattle.meaning.specs.File.{Symbol}
 use Rattle.tables.specs.Columns.ScopeTable
 use Rattle.tables.specs.Table.{capped}

@@ -1,7 +1,6 @@
 -- Changes of the scope and symbol rows.
 -- Assumes nothing.
-use Rattle.std.specs.Prelude.{List, Bool, ◌&&◌, ℕ, ◌+◌, ◌*◌, ◌%◌, get_or, set}
-use Rattle.meaning.specs.Tree.{if◌then◌else◌}
+use Rattle.std.specs.Prelude.{if◌then◌else◌, List, Bool, ◌&&◌, ℕ, ◌+◌, ◌*◌, ◌%◌, get_or, set}
 use Rattle.meaning.specs.Scoping.{is_among_bindings}
 use Rattle.tables.specs.Columns.ScopeTable
 use Rattle.tables.specs.Columns.SymbolTable

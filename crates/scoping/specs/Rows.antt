@@ -1,8 +1,7 @@
 -- Scope and symbol rows in tables of numbers, two and five to a row.
 -- Assumes nothing.
-use Rattle.std.specs.Prelude.{List, [], ◌∷◌, Bool, ◌||◌, ℕ, zero, suc, ◌+◌, ◌*◌, ◌-◌, ◌/◌, ◌%◌, get_or, set, eqb, leb}
+use Rattle.std.specs.Prelude.{if◌then◌else◌, List, [], ◌∷◌, Bool, ◌||◌, ℕ, zero, suc, ◌+◌, ◌*◌, ◌-◌, ◌/◌, ◌%◌, get_or, set, eqb, leb}
 use Rattle.meaning.specs.Numbers.SymbolFlag
-use Rattle.meaning.specs.Tree.{if◌then◌else◌}
 use Rattle.meaning.specs.File.{Scope, scope_row, Symbol, symbol_row}
 use Rattle.meaning.specs.Scoping.{Store}
 use Rattle.tables.specs.Columns.ScopeTable

@@ -1,7 +1,6 @@
 -- The next row that has a number in a column, and the last row that binds a name from some row on. Rows are counted from 0.
 -- Assumes nothing.
-use Rattle.std.specs.Prelude.{List, ℕ, zero, suc, ◌+◌, ◌*◌, ◌-◌, get_or, eqb}
-use Rattle.meaning.specs.Tree.{if◌then◌else◌}
+use Rattle.std.specs.Prelude.{if◌then◌else◌, List, ℕ, zero, suc, ◌+◌, ◌*◌, ◌-◌, get_or, eqb}
 use Rattle.meaning.specs.Scoping.{last_binding}
 use Rattle.tables.specs.Columns.SymbolTable
 use Rattle.scoping.specs.Rows.{symbols_f}

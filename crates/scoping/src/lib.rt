@@ -5,8 +5,7 @@
 // which nothing here looks at.
 #![tactic(auto)]
 
-ghost use Rattle.std.specs.Prelude.{◌≡◌, ◌+◌, ◌*◌, ◌-◌, ◌<◌, length};
-ghost use Rattle.meaning.specs.Tree.{if◌then◌else◌};
+ghost use Rattle.std.specs.Prelude.{if◌then◌else◌, ◌≡◌, ◌+◌, ◌*◌, ◌-◌, ◌<◌, length};
 ghost use Rattle.meaning.specs.Scoping.{binds, get_binding, find_binding, is_among_bindings};
 ghost use Rattle.meaning.specs.ForOf.{binds_name};
 ghost use Rattle.tables.specs.Columns.SymbolTable;

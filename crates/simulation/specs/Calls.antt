@@ -1,6 +1,6 @@
 -- Calls for visits on tables are 01's: the import line is put where 01 puts it (02, request 1).
 -- Assumes nothing.
-use Rattle.std.specs.Prelude.{◌≡◌, Bool, length}
+use Rattle.std.specs.Prelude.{if◌then◌else◌, ◌≡◌, Bool, length}
 use Rattle.std.proofs.Math.Path.{refl, sym, ap}
 use Rattle.std.proofs.Common.{◌∙◌}
 use Rattle.std.proofs.Math.Bool.{true, false}
@@ -10,7 +10,7 @@ use native.Mathlib.Omega.{arith}
 use Rattle.meaning.specs.Numbers.Tag
 use Rattle.meaning.specs.Numbers.LineForm
 use Rattle.meaning.specs.Numbers.KnownName
-use Rattle.meaning.specs.Tree.{if◌then◌else◌, Head, hd, Forest, none, more, count, size, ◌&◌}
+use Rattle.meaning.specs.Tree.{Head, hd, Forest, none, more, count, size, ◌&◌}
 use Rattle.meaning.specs.Mentions.{mentions}
 use Rattle.meaning.specs.File.{File}
 use Rattle.meaning.specs.Scoping.{Store}

@@ -1,6 +1,6 @@
 -- What a visit changes of the records in the rows, and that the part of the tables that is counted anew covers it.
 -- Assumes nothing.
-use Rattle.std.specs.Prelude.{◌≡◌, Bool, List, [], ◌∷◌, ◌++◌, eqb}
+use Rattle.std.specs.Prelude.{if◌then◌else◌, ◌≡◌, Bool, List, [], ◌∷◌, ◌++◌, eqb}
 use Rattle.std.proofs.Math.Path.{refl, sym, ap}
 use Rattle.std.proofs.Common.{◌∙◌, append_assoc, append-nil}
 use Rattle.std.proofs.Math.Bool.{true, false}
@@ -8,7 +8,7 @@ use Prim.Native.Nat.{ℕ, suc, ◌+◌, ◌-◌, ◌≤◌}
 use native.Mathlib.Omega.{arith}
 use Rattle.std.proofs.Math.ListN.{length, length-append}
 use Rattle.meaning.specs.Numbers.Tag
-use Rattle.meaning.specs.Tree.{if◌then◌else◌, one_of, Head, Forest, none, more, one, Node, node, count, size, ◌&◌}
+use Rattle.meaning.specs.Tree.{one_of, Head, Forest, none, more, one, Node, node, count, size, ◌&◌}
 use Rattle.meaning.specs.Scoping.{Store}
 use Rattle.meaning.specs.Walk.{act_of, enter_as, enter, leave, Crumb, crumb, Spot, at, leaving, over, is_over, current_scope, hoist_scope, visit}
 use Rattle.spec_laws.specs.Tags.{clash, or_none}

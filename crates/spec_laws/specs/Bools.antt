@@ -1,8 +1,7 @@
 -- Small laws of tests and numbers.
 -- Assumes nothing.
-use Rattle.std.specs.Prelude.{◌≡◌, refl, Bool, true, false, ◌||◌, ◌&&◌, ℕ, suc, ◌+◌, ◌-◌, ◌≤◌, eqb}
+use Rattle.std.specs.Prelude.{if◌then◌else◌, ◌≡◌, refl, Bool, true, false, ◌||◌, ◌&&◌, ℕ, suc, ◌+◌, ◌-◌, ◌≤◌, eqb}
 use Rattle.std.proofs.Common.{arith, ne_eqb}
-use Rattle.meaning.specs.Tree.{if◌then◌else◌}
 use Rattle.spec_laws.specs.Tags.{clash}
 
 -- ---- tests

@@ -1,9 +1,9 @@
 -- Calls for visits make the visits of the walk; from the last one on the import line stands, if it is due (02, request 1).
 -- Assumes nothing.
-use Rattle.std.specs.Prelude.{◌≡◌, refl, Bool, true, false, not, ◌&&◌, [], ℕ, zero, suc, eqb}
+use Rattle.std.specs.Prelude.{if◌then◌else◌, ◌≡◌, refl, Bool, true, false, not, ◌&&◌, [], ℕ, zero, suc, eqb}
 use Rattle.std.proofs.Common.{sym, ap, ◌∙◌}
 use Rattle.meaning.specs.Numbers.Mode
-use Rattle.meaning.specs.Tree.{if◌then◌else◌, Forest, none, more}
+use Rattle.meaning.specs.Tree.{Forest, none, more}
 use Rattle.meaning.specs.File.{File}
 use Rattle.meaning.specs.Scoping.{Store}
 use Rattle.meaning.specs.Walk.{Spot, at, leaving, over, is_over, visit, visits, settle, store_of, start, tree_at, store_at}

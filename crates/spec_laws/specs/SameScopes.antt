@@ -1,9 +1,9 @@
 -- Changes of the store that leave the scope rows as they are: symbols, the helper, contexts, the items of a Program.
 -- Assumes nothing.
-use Rattle.std.specs.Prelude.{◌≡◌, refl, Bool, true, false, List, [], ◌∷◌, ℕ, eqb}
+use Rattle.std.specs.Prelude.{if◌then◌else◌, ◌≡◌, refl, Bool, true, false, List, [], ◌∷◌, ℕ, eqb}
 use Rattle.std.proofs.Common.{◌∙◌}
 use Rattle.meaning.specs.Numbers.Mode
-use Rattle.meaning.specs.Tree.{if◌then◌else◌, Head, Forest, none, more}
+use Rattle.meaning.specs.Tree.{Head, Forest, none, more}
 use Rattle.meaning.specs.Scoping.{Store, Change, return, create_symbol, move_binding, move_bindings, set_symbol_flags, set_flags_of}
 use Rattle.meaning.specs.HelperLoader.{make_helper, load_runtime, load_external, helper_load}
 use Rattle.meaning.specs.Statements.{make_context, transform_statements}

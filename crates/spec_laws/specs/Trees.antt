@@ -1,11 +1,11 @@
 -- Small laws of trees, files and the walk.
 -- Assumes nothing.
-use Rattle.std.specs.Prelude.{◌≡◌, refl, Bool, true, false, List, [], ◌∷◌, ◌++◌, ℕ, zero, suc, ◌+◌, ◌*◌, ◌≤◌, eqb, length, get_or, set}
+use Rattle.std.specs.Prelude.{if◌then◌else◌, ◌≡◌, refl, Bool, true, false, List, [], ◌∷◌, ◌++◌, ℕ, zero, suc, ◌+◌, ◌*◌, ◌≤◌, eqb, length, get_or, set}
 use Rattle.std.proofs.Common.{sym, arith, length-set, eqb-true}
 use Rattle.std.proofs.lemmas.List.Edits.{sets}
 use Rattle.meaning.specs.Numbers.Tag
 use Rattle.meaning.specs.Numbers.Form
-use Rattle.meaning.specs.Tree.{if◌then◌else◌, one_of, Head, hd, Forest, none, more, count, size, Node, node}
+use Rattle.meaning.specs.Tree.{one_of, Head, hd, Forest, none, more, count, size, Node, node}
 use Rattle.meaning.specs.File.{numbers_of, two_bytes}
 use Rattle.meaning.specs.Scoping.{Change, ◌>>=◌, ◌>>◌, return, set_row}
 use Rattle.meaning.specs.Contexts.{move_catch_names}

@@ -1,8 +1,7 @@
 -- What the code of this crate computes.
 -- Assumes nothing.
-use Rattle.std.specs.Prelude.{List, ℕ, ◌+◌, ◌*◌, ◌-◌, ◌/◌, min, leb, length, set, replicate}
+use Rattle.std.specs.Prelude.{if◌then◌else◌, List, ℕ, ◌+◌, ◌*◌, ◌-◌, ◌/◌, min, leb, length, set, replicate}
 use Rattle.meaning.specs.Numbers.Refusal
-use Rattle.meaning.specs.Tree.{if◌then◌else◌}
 use Rattle.meaning.specs.File.{scope_bytes, symbol_bytes}
 use Rattle.meaning.specs.Grammar.{two, field_of}
 use Rattle.checking.specs.declared.Layout.{Layout}

@@ -4,8 +4,7 @@
 // records behind the free rows in theirs. The counts of symbols stand behind the rows for which their table has numbers.
 #![tactic(auto)]
 
-ghost use Rattle.std.specs.Prelude.{◌≡◌, ◌≤◌, min, ltb, length, replicate};
-ghost use Rattle.meaning.specs.Tree.{if◌then◌else◌};
+ghost use Rattle.std.specs.Prelude.{if◌then◌else◌, ◌≡◌, ◌≤◌, min, ltb, length, replicate};
 ghost use Rattle.path.specs.Path.{tables};
 ghost use Rattle.meaning.specs.Lowering as lowering;
 ghost use Rattle.checking.specs.Survey.{surveyed_of};

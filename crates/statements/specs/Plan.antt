@@ -1,7 +1,6 @@
 -- What the usings of a list come to, counted before it is rewritten.
 -- Assumes nothing.
-use Rattle.std.specs.Prelude.{List, ℕ}
-use Rattle.meaning.specs.Tree.{if◌then◌else◌}
+use Rattle.std.specs.Prelude.{if◌then◌else◌, List, ℕ}
 use Rattle.meaning.specs.Statements.{is_using, is_await_using}
 use Rattle.tables.specs.Loops.{turns}
 use Rattle.tables.specs.Table.{capped, row_f, head_f, end_f}

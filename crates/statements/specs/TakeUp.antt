@@ -1,9 +1,9 @@
 -- Usings taken up by a context, as their rows pass.
 -- Assumes nothing.
-use Rattle.std.specs.Prelude.{[], ◌∷◌, Bool, ◌&&◌, ℕ, ◌-◌, eqb, ltb}
+use Rattle.std.specs.Prelude.{if◌then◌else◌, [], ◌∷◌, Bool, ◌&&◌, ℕ, ◌-◌, eqb, ltb}
 use Rattle.meaning.specs.Numbers.Tag
 use Rattle.meaning.specs.Numbers.Kind
-use Rattle.meaning.specs.Tree.{if◌then◌else◌, one_of}
+use Rattle.meaning.specs.Tree.{one_of}
 use Rattle.meaning.specs.Statements.{is_using, is_await_using, letter_if}
 use Rattle.tables.specs.Loops.{turns}
 use Rattle.tables.specs.Table.{row_f, closed_row_f, head_f}

@@ -1,11 +1,10 @@
 -- The rows of a Try.
 -- Assumes nothing.
-use Rattle.std.specs.Prelude.{ℕ, eqb}
+use Rattle.std.specs.Prelude.{if◌then◌else◌, ℕ, eqb}
 use Rattle.meaning.specs.Numbers.Tag
 use Rattle.meaning.specs.Numbers.Kind
 use Rattle.meaning.specs.Numbers.Parts as TryParts
 use Rattle.meaning.specs.Numbers.StepForm
-use Rattle.meaning.specs.Tree.{if◌then◌else◌}
 use Rattle.tables.specs.Table.{capped, closed_row_f}
 use Rattle.tables.specs.Stream.{Buf, emit_f}
 use Rattle.statements.specs.TakeUp.{take_up_f}

@@ -1,8 +1,7 @@
 // Usings taken up by a context, and the rows of the Try around them.
 #![tactic(auto)]
 
-ghost use Rattle.std.specs.Prelude.{◌≡◌, false};
-ghost use Rattle.meaning.specs.Tree.{if◌then◌else◌};
+ghost use Rattle.std.specs.Prelude.{if◌then◌else◌, ◌≡◌, false};
 ghost use Rattle.meaning.specs.Statements.{is_using, is_await_using, letter_if};
 ghost use Rattle.tables.specs.Table.{head_f};
 ghost use Rattle.tables.specs.Stream.{buf};

@@ -1,8 +1,7 @@
 -- The two kinds of loops, and the laws that tie code to them.
 -- Assumes nothing.
-use Rattle.std.specs.Prelude.{◌≡◌, refl, Bool, true, false, ℕ, zero, suc, ◌+◌, ◌-◌, ◌≤◌, ◌<◌}
+use Rattle.std.specs.Prelude.{if◌then◌else◌, ◌≡◌, refl, Bool, true, false, ℕ, zero, suc, ◌+◌, ◌-◌, ◌≤◌, ◌<◌}
 use Rattle.std.proofs.Common.{sym, zero-add, arith}
-use Rattle.meaning.specs.Tree.{if◌then◌else◌}
 
 -- n turns
 unfoldable pub turns : {A : Type 0} → ℕ → (A → A) → A → A

@@ -1,7 +1,6 @@
 -- A call for the next visit, on any tables: the visit, and after the last one the import line (02, request 1), with the counts of symbols (02, request 7).
 -- Assumes nothing.
-use Rattle.std.specs.Prelude.{◌≡◌, true, false}
-use Rattle.meaning.specs.Tree.{if◌then◌else◌}
+use Rattle.std.specs.Prelude.{if◌then◌else◌, ◌≡◌, true, false}
 use Rattle.path.specs.Path.{Tables, tables}
 use Rattle.walk.specs.Over.{is_over_in}
 use Rattle.walk.specs.Counted.{Counted, counted, visit_counted_f, complete_counted_f, complete_counted_in}

@@ -1,8 +1,8 @@
 -- Visits that keep the counts of symbols true (02, request 7), for any numbers in the tables: the mentions of the rows that a visit may change are
 -- taken off the counts before it, and added after it.
 -- Assumes nothing.
-use Rattle.std.specs.Prelude.{◌≡◌, Bool, List, ℕ, ◌-◌}
-use Rattle.meaning.specs.Tree.{if◌then◌else◌, one_of}
+use Rattle.std.specs.Prelude.{if◌then◌else◌, ◌≡◌, Bool, List, ℕ, ◌-◌}
+use Rattle.meaning.specs.Tree.{one_of}
 use Rattle.tables.specs.Columns.RecordTable
 use Rattle.tables.specs.Table.{capped, column_f, end_f}
 use Rattle.mentions.specs.Counters.{add_rows_f, take_rows_f, on_counts}

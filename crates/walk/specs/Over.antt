@@ -1,9 +1,8 @@
 -- Once the walk is over a visit changes nothing.
 -- Assumes nothing.
-use Rattle.std.specs.Prelude.{◌≡◌, refl, Bool, true, false, not, ℕ, zero, suc, leb}
+use Rattle.std.specs.Prelude.{if◌then◌else◌, ◌≡◌, refl, Bool, true, false, not, ℕ, zero, suc, leb}
 use Rattle.std.proofs.Common.{sym, leb-true, le-ltb}
 use Rattle.std.proofs.lemmas.Bool.{not-true}
-use Rattle.meaning.specs.Tree.{if◌then◌else◌}
 use Rattle.spec_laws.specs.Tags.{and_left, and_right}
 use Rattle.tables.specs.Loops.{turns, until}
 use Rattle.path.specs.Path.{Tables}

@@ -1,13 +1,13 @@
 -- Visits made in one call: the next one, and those behind it that only enter a record. They are visits like any other.
 -- Assumes nothing.
-use Rattle.std.specs.Prelude.{◌≡◌, Bool, true, false, not, ◌&&◌, List, [], ◌∷◌, eqb, ltb}
+use Rattle.std.specs.Prelude.{if◌then◌else◌, ◌≡◌, Bool, true, false, not, ◌&&◌, List, [], ◌∷◌, eqb, ltb}
 use Rattle.std.proofs.Math.Path.{refl, ap}
 use Rattle.std.proofs.Common.{sym, ◌∙◌}
 use Prim.Native.Nat.{ℕ, zero, suc, ◌+◌, ◌-◌, ◌≤◌, ◌<◌}
 use native.Mathlib.Omega.{arith}
 use borrow.Author.Tests.{not-true, ltb-true, ltb-false, lt-leb, le-leb, ne_eqb}
 use Rattle.meaning.specs.Numbers.Tag
-use Rattle.meaning.specs.Tree.{if◌then◌else◌, one_of}
+use Rattle.meaning.specs.Tree.{one_of}
 use Rattle.spec_laws.specs.Tags.{clash, and_left, and_right, or_none}
 use Rattle.tables.specs.Columns.RecordTable
 use Rattle.tables.specs.Table.{column_f}

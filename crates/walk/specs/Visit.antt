@@ -1,8 +1,7 @@
 -- One visit on the lent tables, for any numbers in them.
 -- Assumes nothing.
-use Rattle.std.specs.Prelude.{List, Bool, not, ◌&&◌, ℕ, ◌-◌, eqb, leb, ltb}
+use Rattle.std.specs.Prelude.{if◌then◌else◌, List, Bool, not, ◌&&◌, ℕ, ◌-◌, eqb, leb, ltb}
 use Rattle.meaning.specs.Numbers.Tag
-use Rattle.meaning.specs.Tree.{if◌then◌else◌}
 use Rattle.tables.specs.Columns.RecordTable
 use Rattle.tables.specs.Table.{capped, column_f}
 use Rattle.tables.specs.Stream.{take_back_f}

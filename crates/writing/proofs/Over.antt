@@ -1,5 +1,6 @@
 -- A record whose numbers are stored over one another: the bytes are those of the record.
 -- Assumes nothing.
+use Rattle.std.specs.Prelude.{if◌then◌else◌}
 use mathlib.Core.Path.{◌≡◌, refl, ◌∙◌}
 use mathlib.Core.List.{List, [], ◌∷◌}
 use mathlib.Core.Bool.{Bool, true, false}
@@ -9,7 +10,6 @@ use lib.ListN.{set}
 use lib.Seq.{sets, set-set, set_comm}
 use lib.Dec.{ltb}
 use borrow.Author.Tests.{lt-ltb, le-ltb}
-use Rattle.meaning.specs.Tree.{if◌then◌else◌}
 use Rattle.meaning.specs.File.{numbers_of, has_children, own_numbers, two_bytes}
 use Rattle.tables.specs.declared.Row.{Row}
 use Rattle.writing.specs.Writing.{field_with, own_or, record_field, last_of, two_at, numbers_over}

@@ -1,10 +1,9 @@
 -- Bytes sets one after another, and how many bytes fields and rows take.
 -- Assumes nothing.
-use Rattle.std.specs.Prelude.{◌≡◌, refl, List, [], ◌∷◌, ◌++◌, ℕ, zero, suc, ◌+◌, ◌*◌, ◌-◌, ◌/◌, ◌%◌, ◌≤◌, ◌<◌, length, set, take, drop, ltb}
+use Rattle.std.specs.Prelude.{if◌then◌else◌, ◌≡◌, refl, List, [], ◌∷◌, ◌++◌, ℕ, zero, suc, ◌+◌, ◌*◌, ◌-◌, ◌/◌, ◌%◌, ◌≤◌, ◌<◌, length, set, take, drop, ltb}
 use Rattle.std.proofs.Common.{sym, ap, ◌∙◌, append_assoc, add-one, arith, length-append, ne_eqb}
 use Rattle.std.proofs.lemmas.List.Edits.{sets, sets-eq}
 use Rattle.meaning.specs.Numbers.Tag
-use Rattle.meaning.specs.Tree.{if◌then◌else◌}
 use Rattle.meaning.specs.File.{settings_bytes, scope_bytes, symbol_bytes, numbers_of, two_bytes}
 use Rattle.spec_laws.specs.Trees.{numbers_most, numbers_few, two_length, sets_++}
 use Rattle.writing.specs.Writing.{most_bytes, field_with, scope_field, symbol_field, record_field, rows_bytes, list_bytes}

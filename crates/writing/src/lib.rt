@@ -3,9 +3,8 @@
 // Bytes go to an offset; past the end of the output nothing is stored.
 #![tactic(auto)]
 
-ghost use Rattle.std.specs.Prelude.{◌≡◌, [], ◌∷◌, ◌+◌, ◌*◌, ◌-◌, ◌≤◌, ltb, length, set};
+ghost use Rattle.std.specs.Prelude.{if◌then◌else◌, ◌≡◌, [], ◌∷◌, ◌+◌, ◌*◌, ◌-◌, ◌≤◌, ltb, length, set};
 ghost use Rattle.std.proofs.lemmas.List.Edits.{sets};
-ghost use Rattle.meaning.specs.Tree.{if◌then◌else◌};
 ghost use Rattle.meaning.specs.File.{head_bytes, settings_bytes, scope_bytes, two_bytes};
 ghost use Rattle.meaning.specs.Renumbering.{scope_named};
 ghost use Rattle.tables.specs.Table.{row_f, head_f};

@@ -1,8 +1,8 @@
 -- After any number of visits the figures are those before and the charges so far.
 -- Assumes nothing.
-use Rattle.std.specs.Prelude.{◌≡◌, refl, Bool, true, false, not, ◌&&◌, List, [], ◌∷◌, ◌++◌, ℕ, zero, suc, ◌+◌, ◌*◌, length, take, eqb}
+use Rattle.std.specs.Prelude.{if◌then◌else◌, ◌≡◌, refl, Bool, true, false, not, ◌&&◌, List, [], ◌∷◌, ◌++◌, ℕ, zero, suc, ◌+◌, ◌*◌, length, take, eqb}
 use Rattle.std.proofs.Common.{sym, ap, ap₂, subst, ◌∙◌, arith}
-use Rattle.meaning.specs.Tree.{if◌then◌else◌, Head, Forest, none, more, one, Node, single, size, ◌&◌}
+use Rattle.meaning.specs.Tree.{Head, Forest, none, more, one, Node, single, size, ◌&◌}
 use Rattle.meaning.specs.File.{settings_bytes, scope_bytes, symbol_bytes, File}
 use Rattle.meaning.specs.Scoping.{Store}
 use Rattle.meaning.specs.Walk.{
@@ -207,7 +207,7 @@ dues_left zero s q = refl
 dues_left (suc k) s q = go (is_over s) refl (dues_left k (visit s) (pending_visit s q))
   where
     go : (b : Bool) → is_over s ≡ b → dues k (visit s) ≡ take k (add_helper (missing (store_at (visit s))) (left (visit s)))
-        → (if b then [] else due s ∷ dues k (visit s)) ≡ take (suc k) (add_helper (missing (store_at s)) (left s))
+        → (if b then [] else (due s ∷ dues k (visit s))) ≡ take (suc k) (add_helper (missing (store_at s)) (left s))
     go true e i = none_due k s e
     go false e i = one_due k s (visit_left s (ready s q) e) (visit_charged s (ready s q)).1 i
 
@@ -234,7 +234,7 @@ sums zero s q = omega arith
 sums (suc k) s q = go (is_over s) refl (sums k (visit s) (pending_visit s q))
   where
     go : (b : Bool) → is_over s ≡ b → Sum k (visit s) (visit s) (dues k (visit s))
-        → Sum k (visit s) s (if b then [] else due s ∷ dues k (visit s))
+        → Sum k (visit s) s (if b then [] else (due s ∷ dues k (visit s)))
     go true e i = sum_over_lem k s e
     go false e i = sum_step k s (visit_charged s (ready s q)) i
 

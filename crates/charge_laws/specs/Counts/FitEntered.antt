@@ -1,11 +1,11 @@
 -- The children of a record that is entered are fit, as it was.
 -- Assumes nothing.
-use Rattle.std.specs.Prelude.{◌≡◌, Bool, true, false, ◌&&◌, List, [], ◌∷◌, ℕ, eqb}
+use Rattle.std.specs.Prelude.{if◌then◌else◌, ◌≡◌, Bool, true, false, ◌&&◌, List, [], ◌∷◌, ℕ, eqb}
 use Rattle.std.proofs.Math.Path.{refl}
 use Rattle.std.proofs.Common.{sym, subst, eqb-true, eq-eqb}
 use Rattle.meaning.specs.Numbers.Tag
 use Rattle.meaning.specs.Numbers.Form
-use Rattle.meaning.specs.Tree.{if◌then◌else◌, Head, hd, Forest, none, more, one, Node, node, single, ◌&◌}
+use Rattle.meaning.specs.Tree.{Head, hd, Forest, none, more, one, Node, node, single, ◌&◌}
 use Rattle.meaning.specs.Scoping.{
   Store,
   Change,

@@ -1,10 +1,10 @@
 -- Visits keep a tree fit.
 -- Assumes nothing.
-use Rattle.std.specs.Prelude.{◌≡◌, refl, Bool, true, false, ◌&&◌, [], ◌∷◌, ℕ, eqb}
+use Rattle.std.specs.Prelude.{if◌then◌else◌, ◌≡◌, refl, Bool, true, false, ◌&&◌, [], ◌∷◌, ℕ, eqb}
 use Rattle.std.proofs.Common.{sym, ap, subst, ◌∙◌, eqb-true}
 use Rattle.meaning.specs.Numbers.Tag
 use Rattle.meaning.specs.Numbers.Kind
-use Rattle.meaning.specs.Tree.{if◌then◌else◌, one_of, Head, hd, Forest, none, more, one, ◌&◌}
+use Rattle.meaning.specs.Tree.{one_of, Head, hd, Forest, none, more, one, ◌&◌}
 use Rattle.meaning.specs.Scoping.{Store, create_child_scope, create_symbol}
 use Rattle.meaning.specs.Shapes.{declaration}
 use Rattle.meaning.specs.HelperLoader.{load_runtime, load_external, helper_load}

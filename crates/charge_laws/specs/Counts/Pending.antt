@@ -1,7 +1,7 @@
 -- What is still to be visited stays fit.
 -- Assumes nothing.
-use Rattle.std.specs.Prelude.{◌≡◌, refl, Bool, true, false, List, [], ◌∷◌, ℕ, zero, suc}
-use Rattle.meaning.specs.Tree.{if◌then◌else◌, Head, Forest, none, more, one, single, ◌&◌}
+use Rattle.std.specs.Prelude.{if◌then◌else◌, ◌≡◌, refl, Bool, true, false, List, [], ◌∷◌, ℕ, zero, suc}
+use Rattle.meaning.specs.Tree.{Head, Forest, none, more, one, single, ◌&◌}
 use Rattle.meaning.specs.File.{File}
 use Rattle.meaning.specs.Scoping.{Store}
 use Rattle.meaning.specs.Walk.{

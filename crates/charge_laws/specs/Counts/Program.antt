@@ -1,6 +1,6 @@
 -- A Program with a using: what stays of its items, and its Block.
 -- Assumes nothing.
-use Rattle.std.specs.Prelude.{◌≡◌, Bool, ◌||◌, ℕ, suc, ◌+◌, eqb}
+use Rattle.std.specs.Prelude.{if◌then◌else◌, ◌≡◌, Bool, ◌||◌, ℕ, suc, ◌+◌, eqb}
 use Rattle.std.proofs.Math.Path.{refl, ap, ap₂}
 use Rattle.std.proofs.Common.{sym, ◌∙◌, arith, eqb-true}
 use Rattle.std.proofs.Math.Bool.{true, false}
@@ -9,7 +9,7 @@ use Rattle.std.proofs.Math.ListN.{length}
 use Rattle.meaning.specs.Numbers.Tag
 use Rattle.meaning.specs.Numbers.Kind
 use Rattle.meaning.specs.Numbers.Form
-use Rattle.meaning.specs.Tree.{if◌then◌else◌, one_of, Head, hd, Forest, none, more, one, ◌&◌}
+use Rattle.meaning.specs.Tree.{one_of, Head, hd, Forest, none, more, one, ◌&◌}
 use Rattle.meaning.specs.File.{Symbol}
 use Rattle.meaning.specs.Scoping.{Store, create_symbol, set_flags_of, insert_scope_below}
 use Rattle.meaning.specs.Shapes.{declaration}

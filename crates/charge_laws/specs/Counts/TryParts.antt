@@ -1,8 +1,8 @@
 -- A Block directly below a Try, or below a Catch of one, has no using when the walk comes to it: the visit to the Try took them up.
 -- Assumes nothing.
-use Rattle.std.specs.Prelude.{◌≡◌, refl, Bool, true, false, ◌||◌, ◌&&◌, List, [], ◌∷◌, ℕ, zero, suc, eqb}
+use Rattle.std.specs.Prelude.{if◌then◌else◌, ◌≡◌, refl, Bool, true, false, ◌||◌, ◌&&◌, List, [], ◌∷◌, ℕ, zero, suc, eqb}
 use Rattle.meaning.specs.Numbers.Tag
-use Rattle.meaning.specs.Tree.{if◌then◌else◌, Head, hd, Forest, none, more, one, Node, node, single, ◌&◌}
+use Rattle.meaning.specs.Tree.{Head, hd, Forest, none, more, one, Node, node, single, ◌&◌}
 use Rattle.meaning.specs.File.{File}
 use Rattle.meaning.specs.Scoping.{Store, Change, return}
 use Rattle.meaning.specs.Statements.{is_using, any_using, transform_statements, create_try_stmt}

@@ -1,10 +1,10 @@
 -- The children of a ForOf with a using are charged what they are charged where they stand, the using's own lines aside.
 -- Assumes nothing.
-use Rattle.std.specs.Prelude.{◌≡◌, refl, Bool, List, [], ◌∷◌, ℕ, ◌+◌}
+use Rattle.std.specs.Prelude.{if◌then◌else◌, ◌≡◌, refl, Bool, List, [], ◌∷◌, ℕ, ◌+◌}
 use Rattle.std.proofs.Math.Bool.{true, false}
 use native.Mathlib.Omega.{arith}
 use Rattle.meaning.specs.Numbers.Tag
-use Rattle.meaning.specs.Tree.{if◌then◌else◌, Head, hd, Forest, none, more, one}
+use Rattle.meaning.specs.Tree.{Head, hd, Forest, none, more, one}
 use Rattle.meaning.specs.File.{Symbol}
 use Rattle.meaning.specs.Statements.{is_using, any_using}
 use Rattle.meaning.specs.ForOf.{insert, wrap}
@@ -28,14 +28,14 @@ module _ (w : Line → ℕ) (linear : Linear w) (ys : List Symbol) where
   -- the body Block that takes the using, by whether its list has one
   insert_if : (u : Bool) (a b c : ℕ) (k : Forest) → any_using k ≡ u
       → cost_of w ys (visits_body ys insert (hd Tag.Block a b c) k) k
-      ≡ w (wrapped 1) + cost w (if u then [] else context of_block ∷ []) + cost_of w ys (visits_as (act_if u block) (hd Tag.Block a b c) k) k
+      ≡ w (wrapped 1) + cost w (if u then [] else (context of_block ∷ [])) + cost_of w ys (visits_as (act_if u block) (hd Tag.Block a b c) k) k
   unfolding visits_body visits_as enter_lines context_lines costs cost
   insert_if true a b c k u = rw u (omega (arith, linear (wraps k), taken_up_same w ys k))
   insert_if false a b c k u = rw (no_wraps k u) (omega (arith, taken_up_same w ys k))
 
   insert_body : (h : Head) (k : Forest) → h.tag ≡ Tag.Block
       → cost_of w ys (visits_body ys insert h k) k
-      ≡ w (wrapped 1) + cost w (if any_using k then [] else context of_block ∷ []) + cost_of w ys (visits_standing ys h k) k
+      ≡ w (wrapped 1) + cost w (if any_using k then [] else (context of_block ∷ [])) + cost_of w ys (visits_standing ys h k) k
   unfolding visits_standing act_of visits_body
   insert_body h k e = rw (standing_at ys h k 2 e) (insert_if (any_using k) h.a h.b h.c k refl)
 

@@ -1,12 +1,12 @@
 -- The import line of an accepted file's walk: when it is due, and what it adds (02, request 1).
 -- Assumes nothing.
-use Rattle.std.specs.Prelude.{◌≡◌, refl, Bool, true, false, not, ◌&&◌, ℕ, zero, suc, ◌+◌, ◌≤◌, length, eqb, leb}
+use Rattle.std.specs.Prelude.{if◌then◌else◌, ◌≡◌, refl, Bool, true, false, not, ◌&&◌, ℕ, zero, suc, ◌+◌, ◌≤◌, length, eqb, leb}
 use Rattle.std.proofs.Math.Path.{ap}
 use Rattle.std.proofs.Common.{◌∙◌, ne_eqb}
 use mathlib.Core.List.{List, [], ◌∷◌, ◌++◌}
 use native.Mathlib.Omega.{arith}
 use Rattle.meaning.specs.Numbers.Mode
-use Rattle.meaning.specs.Tree.{if◌then◌else◌, Forest, none, more, Node, size, ◌&◌}
+use Rattle.meaning.specs.Tree.{Forest, none, more, Node, size, ◌&◌}
 use Rattle.meaning.specs.File.{File, field_bytes, numbers_of}
 use Rattle.meaning.specs.Scoping.{Store}
 use Rattle.meaning.specs.Reading.{accepted, read_file}

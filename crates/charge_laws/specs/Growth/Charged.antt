@@ -1,9 +1,9 @@
 -- What a visit is charged, against what it adds.
 -- Assumes nothing.
-use Rattle.std.specs.Prelude.{◌≡◌, refl, Bool, true, false, not, ◌||◌, ◌&&◌, List, [], ◌∷◌, ◌++◌, ℕ, ◌+◌, ◌*◌, length, eqb}
+use Rattle.std.specs.Prelude.{if◌then◌else◌, ◌≡◌, refl, Bool, true, false, not, ◌||◌, ◌&&◌, List, [], ◌∷◌, ◌++◌, ℕ, ◌+◌, ◌*◌, length, eqb}
 use Rattle.std.proofs.Common.{ap, ◌∙◌, arith}
 use Rattle.meaning.specs.File.{scope_bytes, symbol_bytes}
-use Rattle.meaning.specs.Tree.{if◌then◌else◌, Head, Forest, one, Node, single, size, ◌&◌}
+use Rattle.meaning.specs.Tree.{Head, Forest, one, Node, single, size, ◌&◌}
 use Rattle.meaning.specs.Scoping.{Store}
 use Rattle.meaning.specs.Charges.{Line, helper, Figures, figures, charge, ◌⊕◌, line_charge, total, record_bytes}
 use Rattle.meaning.specs.Due.{is_context, any_context, missing}

@@ -1,9 +1,9 @@
 -- What is known of a record for which a visit chooses an act: one view for every property of visits.
 -- Assumes nothing.
-use Rattle.std.specs.Prelude.{◌≡◌, refl, Bool, true, false, not, ◌||◌, ◌&&◌, List, [], ◌∷◌, ℕ, eqb}
+use Rattle.std.specs.Prelude.{if◌then◌else◌, ◌≡◌, refl, Bool, true, false, not, ◌||◌, ◌&&◌, List, [], ◌∷◌, ℕ, eqb}
 use Rattle.std.proofs.Common.{sym, subst, eqb-true}
 use Rattle.meaning.specs.Numbers.Tag
-use Rattle.meaning.specs.Tree.{if◌then◌else◌, one_of, Head, hd, Forest, none, more, one}
+use Rattle.meaning.specs.Tree.{one_of, Head, hd, Forest, none, more, one}
 use Rattle.meaning.specs.File.{Symbol}
 use Rattle.meaning.specs.Statements.{is_using, any_using}
 use Rattle.meaning.specs.Contexts.{any_part_using, any_case_using, for_list}

@@ -1,11 +1,11 @@
 -- The runtime helper is made at its first load.
 -- Assumes nothing.
-use Rattle.std.specs.Prelude.{◌≡◌, refl, Bool, true, false, ◌&&◌, ℕ, ◌≤◌, length, eqb}
+use Rattle.std.specs.Prelude.{if◌then◌else◌, ◌≡◌, refl, Bool, true, false, ◌&&◌, ℕ, ◌≤◌, length, eqb}
 use Rattle.std.proofs.Common.{ap, arith, length-append}
 use Rattle.std.proofs.Math.Dec.{eqb-suc-zero}
 use Rattle.meaning.specs.Numbers.KnownName
 use Rattle.meaning.specs.Numbers.SymbolFlag
-use Rattle.meaning.specs.Tree.{if◌then◌else◌, Forest, size}
+use Rattle.meaning.specs.Tree.{Forest, size}
 use Rattle.meaning.specs.File.{Symbol, symbol_row, field_bytes, numbers_of}
 use Rattle.meaning.specs.Scoping.{Store, symbol_in, create_symbol}
 use Rattle.meaning.specs.HelperLoader.{make_helper, load_runtime, load_external, helper_load}

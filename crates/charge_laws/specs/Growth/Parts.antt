@@ -1,9 +1,9 @@
 -- The parts of a Try.
 -- Assumes nothing.
-use Rattle.std.specs.Prelude.{◌≡◌, refl, Bool, true, false, ◌&&◌, [], ℕ, ◌+◌, ◌*◌, eqb}
+use Rattle.std.specs.Prelude.{if◌then◌else◌, ◌≡◌, refl, Bool, true, false, ◌&&◌, [], ℕ, ◌+◌, ◌*◌, eqb}
 use Rattle.std.proofs.Common.{arith, eqb-true}
 use Rattle.meaning.specs.Numbers.Tag
-use Rattle.meaning.specs.Tree.{if◌then◌else◌, Head, hd, Forest, none, more, one, node, single, size, ◌&◌}
+use Rattle.meaning.specs.Tree.{Head, hd, Forest, none, more, one, node, single, size, ◌&◌}
 use Rattle.meaning.specs.Scoping.{Store, Change, return, insert_scope_between, move_bindings}
 use Rattle.meaning.specs.Statements.{any_using, transform_statements}
 use Rattle.meaning.specs.Contexts.{

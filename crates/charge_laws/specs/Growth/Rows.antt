@@ -1,9 +1,9 @@
 -- What a change of the store adds to its rows.
 -- Assumes nothing.
 use Rattle.meaning.specs.Due.{missing}
-use Rattle.std.specs.Prelude.{◌≡◌, refl, Bool, true, false, not, ◌||◌, ◌&&◌, List, [], ◌∷◌, ℕ, ◌+◌, length, eqb}
+use Rattle.std.specs.Prelude.{if◌then◌else◌, ◌≡◌, refl, Bool, true, false, not, ◌||◌, ◌&&◌, List, [], ◌∷◌, ℕ, ◌+◌, length, eqb}
 use Rattle.std.proofs.Common.{sym, ap, ◌∙◌, arith, length-append}
-use Rattle.meaning.specs.Tree.{if◌then◌else◌, Forest, none, more}
+use Rattle.meaning.specs.Tree.{Forest, none, more}
 use Rattle.meaning.specs.Grammar.{scope_of}
 use Rattle.meaning.specs.Scoping.{
   Store,

@@ -1,13 +1,13 @@
 -- THE VIEW OF TAKING UP: what becomes of each record of a list whose usings a context takes up. A law that goes by it is one recursion, in place of
 -- one through `take_up`, another through the Declarators and a third through the initializer.
 -- Assumes nothing.
-use Rattle.std.specs.Prelude.{◌≡◌, Bool, true, false, ◌&&◌, eqb, ltb}
+use Rattle.std.specs.Prelude.{if◌then◌else◌, ◌≡◌, Bool, true, false, ◌&&◌, eqb, ltb}
 use Rattle.std.proofs.Math.Path.{refl}
 use Prim.Native.Nat.{ℕ, zero, suc, ◌+◌, ◌≤◌}
 use Rattle.std.proofs.Common.{zero-add, arith, eqb-true}
 use Rattle.std.proofs.Math.Dec.{leb-zero, leb-suc-zero, leb-suc-suc}
 use Rattle.meaning.specs.Numbers.Tag
-use Rattle.meaning.specs.Tree.{if◌then◌else◌, Head, hd, Forest, none, more, one, count, ◌&◌}
+use Rattle.meaning.specs.Tree.{Head, hd, Forest, none, more, one, count, ◌&◌}
 use Rattle.meaning.specs.Statements.{
   is_using,
   is_await_using,

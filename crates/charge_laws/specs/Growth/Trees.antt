@@ -1,10 +1,10 @@
 -- What taking up usings adds to a tree: a Call for each initializer.
 -- Assumes nothing.
-use Rattle.std.specs.Prelude.{◌≡◌, refl, Bool, true, false, ◌||◌, [], ◌∷◌, ℕ, ◌+◌, ◌*◌, eqb}
+use Rattle.std.specs.Prelude.{if◌then◌else◌, ◌≡◌, refl, Bool, true, false, ◌||◌, [], ◌∷◌, ℕ, ◌+◌, ◌*◌, eqb}
 use Rattle.std.proofs.Common.{ap, arith, eqb-true}
 use Rattle.meaning.specs.Numbers.Tag
 use Rattle.meaning.specs.Numbers.Kind
-use Rattle.meaning.specs.Tree.{if◌then◌else◌, one_of, Head, Forest, none, more, size, ◌&◌}
+use Rattle.meaning.specs.Tree.{one_of, Head, Forest, none, more, size, ◌&◌}
 use Rattle.meaning.specs.File.{field_bytes, numbers_of}
 use Rattle.meaning.specs.Statements.{
   is_using,

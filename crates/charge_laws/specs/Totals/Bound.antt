@@ -1,9 +1,9 @@
 -- No counter of a tally exceeds a multiple of its records, so none is capped.
 -- Assumes nothing.
-use Rattle.std.specs.Prelude.{◌≡◌, refl, Bool, true, false, not, ◌&&◌, List, [], ◌∷◌, ℕ, suc, ◌+◌, ◌*◌, ◌≤◌, eqb, ltb}
+use Rattle.std.specs.Prelude.{if◌then◌else◌, ◌≡◌, refl, Bool, true, false, not, ◌&&◌, List, [], ◌∷◌, ℕ, suc, ◌+◌, ◌*◌, ◌≤◌, eqb, ltb}
 use Rattle.std.proofs.Common.{arith}
 use Rattle.meaning.specs.Numbers.Tag
-use Rattle.meaning.specs.Tree.{if◌then◌else◌, Head, Forest, none, more, count, size}
+use Rattle.meaning.specs.Tree.{Head, Forest, none, more, count, size}
 use Rattle.meaning.specs.File.{Symbol, field_bytes}
 use Rattle.meaning.specs.Statements.{is_using}
 use Rattle.figures.specs.declared.tally.Tally.{Tally}

@@ -1,6 +1,6 @@
 -- The final figures of an accepted file fit 16 bits: what is charged is less than the bytes of the records that it is charged for.
 -- Assumes nothing.
-use Rattle.std.specs.Prelude.{◌≡◌, Bool, true, not, ◌||◌, ◌&&◌, List, [], ◌∷◌, ℕ, zero, suc, ◌+◌, ◌*◌, ◌≤◌, length, eqb, leb, ltb}
+use Rattle.std.specs.Prelude.{if◌then◌else◌, ◌≡◌, Bool, true, not, ◌||◌, ◌&&◌, List, [], ◌∷◌, ℕ, zero, suc, ◌+◌, ◌*◌, ◌≤◌, length, eqb, leb, ltb}
 use Rattle.std.proofs.Math.Path.{refl}
 use Rattle.std.proofs.Common.{◌∙◌, eqb-true, ne_eqb, leb-true}
 use Rattle.std.proofs.Math.Bool.{false}
@@ -8,7 +8,7 @@ use native.Mathlib.Omega.{arith}
 use Rattle.std.proofs.Math.Dec.{eqb-suc-zero}
 use Rattle.meaning.specs.Numbers.Tag
 use Rattle.meaning.specs.Numbers.Kind
-use Rattle.meaning.specs.Tree.{if◌then◌else◌, one_of, Head, Forest, none, more, count}
+use Rattle.meaning.specs.Tree.{one_of, Head, Forest, none, more, count}
 use Rattle.meaning.specs.File.{settings_bytes, scope_bytes, symbol_bytes, Symbol, File, numbers_of, has_children, own_numbers, field_bytes}
 use Rattle.meaning.specs.Grammar.{tags_of, is, allowed, field_of, declaration_right, right, children_of, place_of}
 use Rattle.meaning.specs.Reading.{accepted, read_file}

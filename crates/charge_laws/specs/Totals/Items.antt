@@ -1,13 +1,13 @@
 -- What Program's items are charged.
 -- Assumes nothing.
-use Rattle.std.specs.Prelude.{◌≡◌, Bool, true, false, not, ◌&&◌, List, [], ◌∷◌, ℕ, suc, ◌+◌, length}
+use Rattle.std.specs.Prelude.{if◌then◌else◌, ◌≡◌, Bool, true, false, not, ◌&&◌, List, [], ◌∷◌, ℕ, suc, ◌+◌, length}
 use Rattle.std.proofs.Math.Path.{refl}
 use native.Mathlib.Omega.{arith}
 use Rattle.std.proofs.Math.ListN.{length-append}
 use Rattle.std.proofs.Math.Dec.{eqb}
 use Rattle.meaning.specs.Numbers.Tag
 use Rattle.meaning.specs.Numbers.Form
-use Rattle.meaning.specs.Tree.{if◌then◌else◌, Head, hd, Forest, none, more, count}
+use Rattle.meaning.specs.Tree.{Head, hd, Forest, none, more, count}
 use Rattle.meaning.specs.File.{Symbol}
 use Rattle.meaning.specs.Statements.{is_using, any_using}
 use Rattle.meaning.specs.Contexts.{names_in}

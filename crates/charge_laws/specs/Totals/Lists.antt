@@ -1,6 +1,6 @@
 -- The usings of a list and the initializers that its context wraps, in its tally.
 -- Assumes nothing.
-use Rattle.std.specs.Prelude.{◌≡◌, Bool, not, ◌||◌, ◌&&◌, List, [], ◌∷◌, ℕ, zero, suc, ◌+◌}
+use Rattle.std.specs.Prelude.{if◌then◌else◌, ◌≡◌, Bool, not, ◌||◌, ◌&&◌, List, [], ◌∷◌, ℕ, zero, suc, ◌+◌}
 use Rattle.std.proofs.Math.Path.{refl}
 use Rattle.std.proofs.Common.{ap, ◌∙◌, zero-add, suc-add, eqb-true}
 use Rattle.std.proofs.Math.Bool.{true, false}
@@ -8,7 +8,7 @@ use native.Mathlib.Omega.{arith}
 use Rattle.std.proofs.Math.Dec.{eqb, eqb-suc-zero}
 use Rattle.meaning.specs.Numbers.Tag
 use Rattle.meaning.specs.Numbers.Kind
-use Rattle.meaning.specs.Tree.{if◌then◌else◌, one_of, Head, Forest, none, more}
+use Rattle.meaning.specs.Tree.{one_of, Head, Forest, none, more}
 use Rattle.meaning.specs.File.{Symbol}
 use Rattle.meaning.specs.Statements.{is_using, any_using}
 use Rattle.meaning.specs.Contexts.{any_case_using}

@@ -1,10 +1,10 @@
 -- The trees spoken of, the tags of records, and the roles of their children.
 -- Assumes nothing.
-use Rattle.std.specs.Prelude.{◌≡◌, refl, Bool, true, false, ◌&&◌, [], ◌∷◌, ℕ, eqb}
+use Rattle.std.specs.Prelude.{if◌then◌else◌, ◌≡◌, refl, Bool, true, false, ◌&&◌, [], ◌∷◌, ℕ, eqb}
 use Rattle.std.proofs.Common.{sym, ◌∙◌}
 use Rattle.spec_laws.specs.Tags.{Seen, other, here, there, clash}
 use Rattle.meaning.specs.Numbers.Tag
-use Rattle.meaning.specs.Tree.{if◌then◌else◌, one_of, Forest, none, more}
+use Rattle.meaning.specs.Tree.{one_of, Forest, none, more}
 use Rattle.meaning.specs.Statements.{is_using}
 use Rattle.meaning.specs.ForOf.{binds_identifier, bound_symbol}
 use Rattle.charge_laws.specs.Growth.Items.{Exports}

@@ -1,12 +1,12 @@
 -- What the records are charged, Program's items left out: contexts and ForOfs.
 -- Assumes nothing.
-use Rattle.std.specs.Prelude.{◌≡◌, Bool, ◌||◌, ◌&&◌, List, [], ◌∷◌, ◌++◌, ℕ, suc, ◌+◌, ◌≤◌, eqb}
+use Rattle.std.specs.Prelude.{if◌then◌else◌, ◌≡◌, Bool, ◌||◌, ◌&&◌, List, [], ◌∷◌, ◌++◌, ℕ, suc, ◌+◌, ◌≤◌, eqb}
 use Rattle.std.proofs.Math.Path.{refl}
 use Rattle.std.proofs.Math.Bool.{true, false, not}
 use Rattle.std.proofs.Common.{append-nil, eqb-true, ne_eqb}
 use native.Mathlib.Omega.{arith}
 use Rattle.meaning.specs.Numbers.Tag
-use Rattle.meaning.specs.Tree.{if◌then◌else◌, one_of, Head, hd, Forest, none, more, count, size}
+use Rattle.meaning.specs.Tree.{one_of, Head, hd, Forest, none, more, count, size}
 use Rattle.meaning.specs.File.{Symbol, field_bytes}
 use Rattle.meaning.specs.Statements.{is_using, any_using}
 use Rattle.meaning.specs.Contexts.{any_case_using}
@@ -70,7 +70,7 @@ use Rattle.charge_laws.specs.Totals.Sums.{total_three, context_figures, for_of_f
 -- `body`: it is one; `inserts`: the using goes into it; `any`: its list has a using
 body_own : Bool → Bool → Bool → List Line
 body_own false inserts any = []
-body_own true true any = for_of ∷ wrapped 1 ∷ (if any then [] else context of_block ∷ [])
+body_own true true any = for_of ∷ wrapped 1 ∷ (if any then [] else (context of_block ∷ []))
 body_own true false any = for_of_block ∷ wrapped 1 ∷ context of_block ∷ []
 
 body_own_figures : (body inserts any : Bool)
@@ -97,13 +97,13 @@ module _ (as_read : List Symbol) where
   no_bodies (more h k r) ups i n = rw (n i (omega arith)) (no_bodies r ups (suc i) (λ j l. n j (omega arith)))
 
   -- the body is the third child
-  body_lines_lem : (b : Bool) (any : Bool) (k : Forest) → body_lines k ≡ (if any then [] else context of_block ∷ [])
+  body_lines_lem : (b : Bool) (any : Bool) (k : Forest) → body_lines k ≡ (if any then [] else (context of_block ∷ []))
       → body_own true b any ≡ for_of_lines (if b then insert else wrap) k
   unfolding body_own for_of_lines
   body_lines_lem true any k e = rw e
   body_lines_lem false any k e = refl
 
-  third_lines : (b : Bool) (y : ℕ) (h : Head) (any : Bool) (k : Forest) → body_lines k ≡ (if any then [] else context of_block ∷ [])
+  third_lines : (b : Bool) (y : ℕ) (h : Head) (any : Bool) (k : Forest) → body_lines k ≡ (if any then [] else (context of_block ∷ []))
       → body_own (is_body (if b then Body y else Plain)) (inserts_in as_read (if b then Body y else Plain) h) any
       ≡ for_of_lines (if b then (if eqb h.tag Tag.Block && not (binds_name as_read h.a y) then insert else wrap) else as_is) k
   unfolding role_index inserts_in body_own for_of_lines

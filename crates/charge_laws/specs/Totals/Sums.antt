@@ -1,9 +1,9 @@
 -- Figures and their sums: a tally's, and those of lines.
 -- Assumes nothing.
-use Rattle.std.specs.Prelude.{◌≡◌, false, ◌&&◌, List, [], ◌++◌, ℕ, ◌+◌, ◌*◌, eqb}
+use Rattle.std.specs.Prelude.{if◌then◌else◌, ◌≡◌, false, ◌&&◌, List, [], ◌++◌, ℕ, ◌+◌, ◌*◌, eqb}
 use Rattle.std.proofs.Common.{arith}
 use Rattle.meaning.specs.Numbers.Tag
-use Rattle.meaning.specs.Tree.{if◌then◌else◌, Forest, none, more}
+use Rattle.meaning.specs.Tree.{Forest, none, more}
 use Rattle.meaning.specs.Statements.{any_using}
 use Rattle.meaning.specs.Charges.{Line, Figures, figures, ◌⊕◌, total, item_lines}
 use Rattle.figures.specs.declared.tally.Tally.{Tally}

@@ -1,9 +1,9 @@
 -- 01's final figures, found by lines over the source's records, are the tally's.
 -- Assumes nothing.
-use Rattle.std.specs.Prelude.{◌≡◌, refl, Bool, true, false, not, ◌&&◌, List, [], ◌∷◌, ℕ, ◌+◌, ◌*◌, length, eqb}
+use Rattle.std.specs.Prelude.{if◌then◌else◌, ◌≡◌, refl, Bool, true, false, not, ◌&&◌, List, [], ◌∷◌, ℕ, ◌+◌, ◌*◌, length, eqb}
 use Rattle.std.proofs.Common.{ap, ◌∙◌, arith}
 use Rattle.meaning.specs.Numbers.Mode
-use Rattle.meaning.specs.Tree.{if◌then◌else◌, Forest, size}
+use Rattle.meaning.specs.Tree.{Forest, size}
 use Rattle.meaning.specs.File.{settings_bytes, scope_bytes, symbol_bytes, Symbol, File}
 use Rattle.meaning.specs.Charges.{
   Line,

@@ -1,4 +1,5 @@
 -- The symbol rows of a file, one by one. Assumes nothing.
+use Rattle.std.specs.Prelude.{if◌then◌else◌}
 use mathlib.Core.Path.{◌≡◌, refl}
 use mathlib.Core.List.{List}
 use Prim.Native.Nat.compare
@@ -8,7 +9,6 @@ use native.Mathlib.Omega.{arith}
 use lib.ListN.{get_or}
 use lib.Dec.{leb}
 use borrow.Author.Tests.{le-leb, lt-leb}
-use Rattle.meaning.specs.Tree.{if◌then◌else◌}
 use Rattle.meaning.specs.File.{symbol_bytes, Symbol}
 use Rattle.meaning.specs.Grammar.{is_row}
 use Rattle.meaning.specs.Reading.{symbols_in}

@@ -2,14 +2,14 @@
 -- Assumes nothing.
 use Rattle.std.proofs.Math.Path.{◌≡◌, refl, sym, ap, ap₂}
 use Rattle.std.proofs.Common.{◌∙◌, ⊎_elim}
-use Rattle.std.specs.Prelude.{Bool, ◌&&◌, ◌⊎◌}
+use Rattle.std.specs.Prelude.{if◌then◌else◌, Bool, ◌&&◌, ◌⊎◌}
 use Rattle.std.proofs.Math.Bool.{true, false, not}
 use mathlib.Core.List.{List, [], ◌∷◌, ◌++◌}
 use Prim.Native.Nat.{ℕ, zero, suc, ◌+◌}
 use native.Mathlib.Omega.{arith}
 use Rattle.std.proofs.Math.Dec.{eqb, ltb}
 use Rattle.meaning.specs.Numbers.Tag
-use Rattle.meaning.specs.Tree.{if◌then◌else◌, one_of, Head, Forest, none, more, one, count, row, ◌&◌}
+use Rattle.meaning.specs.Tree.{one_of, Head, Forest, none, more, one, count, row, ◌&◌}
 use Rattle.meaning.specs.File.{record_numbers}
 use Rattle.meaning.specs.Grammar.{expressions}
 use Rattle.meaning.specs.Renumbering.{with_scope}

@@ -1,8 +1,8 @@
 -- What a tree gives and still asks for.
 -- Assumes nothing.
-use Rattle.std.specs.Prelude.{List, not, ◌&&◌, ℕ, ◌+◌, eqb}
+use Rattle.std.specs.Prelude.{if◌then◌else◌, List, not, ◌&&◌, ℕ, ◌+◌, eqb}
 use Rattle.meaning.specs.Numbers.Tag
-use Rattle.meaning.specs.Tree.{if◌then◌else◌, Head, Forest, none, more}
+use Rattle.meaning.specs.Tree.{Head, Forest, none, more}
 use Rattle.meaning.specs.Statements.{is_using, is_await_using, letter_if}
 use Rattle.hint_laws.specs.Hints.{sum_over, over_declarators, letter_for, takes_up, of_source, asks_for, called, calls_in}
 

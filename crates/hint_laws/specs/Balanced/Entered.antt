@@ -1,13 +1,13 @@
 -- A record that is entered or left counts what it counted, and stands beside others as what it was.
 -- Assumes nothing.
-use Rattle.std.specs.Prelude.{◌≡◌, Bool, List, ◌∷◌, ℕ, ◌≤◌, length}
+use Rattle.std.specs.Prelude.{if◌then◌else◌, ◌≡◌, Bool, List, ◌∷◌, ℕ, ◌≤◌, length}
 use Rattle.std.proofs.Math.Path.{refl}
 use Rattle.std.proofs.Common.{ap, eqb-true, eq-eqb}
 use Rattle.std.proofs.Math.Bool.{true, false}
 use Rattle.std.proofs.Math.Dec.{eqb}
 use Rattle.meaning.specs.Numbers.Tag
 use Rattle.meaning.specs.Grammar.{expressions}
-use Rattle.meaning.specs.Tree.{if◌then◌else◌, one_of, Head, hd, Forest, more, Node, node}
+use Rattle.meaning.specs.Tree.{one_of, Head, hd, Forest, more, Node, node}
 use Rattle.meaning.specs.Scoping.{Store, return}
 use Rattle.meaning.specs.Statements.{any_using, create_try_stmt}
 use Rattle.meaning.specs.Contexts.{

@@ -1,6 +1,6 @@
 -- A ForOf with a using: what it asked for, its body asks for.
 -- Assumes nothing.
-use Rattle.std.specs.Prelude.{◌≡◌, Bool, ◌&&◌, List, [], ◌∷◌, eqb, ltb, length}
+use Rattle.std.specs.Prelude.{if◌then◌else◌, ◌≡◌, Bool, ◌&&◌, List, [], ◌∷◌, eqb, ltb, length}
 use Rattle.std.proofs.Math.Path.{refl, ap}
 use Rattle.std.proofs.Common.{◌∙◌}
 use Rattle.std.proofs.Math.Bool.{true, false}
@@ -9,7 +9,7 @@ use native.Mathlib.Omega.{arith}
 use borrow.Author.Tests.{eqb-true, ltb-false}
 use Rattle.meaning.specs.Numbers.Tag
 use Rattle.meaning.specs.Numbers.Kind
-use Rattle.meaning.specs.Tree.{if◌then◌else◌, one_of, Head, hd, Forest, none, more, one, count, ◌&◌}
+use Rattle.meaning.specs.Tree.{one_of, Head, hd, Forest, none, more, one, count, ◌&◌}
 use Rattle.meaning.specs.Scoping.{Store, symbol_in, create_symbol, insert_scope_below}
 use Rattle.meaning.specs.Shapes.{declaration}
 use Rattle.meaning.specs.Hint.{hint_of, letter_of}

@@ -1,11 +1,11 @@
 -- For and Switch: what their context makes of them counts what they counted.
 -- Assumes nothing.
-use Rattle.std.specs.Prelude.{◌≡◌, true, false, List, [], ◌∷◌, ℕ, ◌≤◌, ◌<◌, length}
+use Rattle.std.specs.Prelude.{if◌then◌else◌, ◌≡◌, true, false, List, [], ◌∷◌, ℕ, ◌≤◌, ◌<◌, length}
 use Rattle.std.proofs.Math.Path.{refl}
 use native.Mathlib.Omega.{arith}
 use Rattle.std.proofs.Math.Dec.{eqb}
 use Rattle.meaning.specs.Numbers.Tag
-use Rattle.meaning.specs.Tree.{if◌then◌else◌, Head, hd, Forest, none, more, one}
+use Rattle.meaning.specs.Tree.{Head, hd, Forest, none, more, one}
 use Rattle.meaning.specs.Scoping.{Store, create_child_scope, change_scope_parent, insert_scope_below}
 use Rattle.meaning.specs.HelperLoader.{helper_load}
 use Rattle.meaning.specs.Statements.{any_using, any_await_using, take_up, make_context}

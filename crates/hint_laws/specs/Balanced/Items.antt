@@ -1,6 +1,6 @@
 -- What the items of a Program count, and what is made of them.
 -- Assumes nothing.
-use Rattle.std.specs.Prelude.{◌≡◌, Bool, ℕ, ◌+◌}
+use Rattle.std.specs.Prelude.{if◌then◌else◌, ◌≡◌, Bool, ℕ, ◌+◌}
 use Rattle.std.proofs.Math.Path.{refl, ap}
 use Rattle.std.proofs.Common.{sym}
 use Rattle.std.proofs.Math.Bool.{true, false}
@@ -10,7 +10,7 @@ use Rattle.std.proofs.Math.Dec.{eqb}
 use Rattle.meaning.specs.Numbers.Tag
 use Rattle.meaning.specs.Numbers.Kind
 use Rattle.meaning.specs.Numbers.Form
-use Rattle.meaning.specs.Tree.{if◌then◌else◌, one_of, Head, hd, Forest, none, more, one}
+use Rattle.meaning.specs.Tree.{one_of, Head, hd, Forest, none, more, one}
 use Rattle.meaning.specs.Scoping.{Store, symbol_in, create_symbol}
 use Rattle.meaning.specs.Shapes.{declaration, export_named, specifier}
 use Rattle.meaning.specs.Hint.{hint_of, letter_of}

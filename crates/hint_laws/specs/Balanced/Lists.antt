@@ -1,6 +1,6 @@
 -- What taking up the usings of a list does to its balance: what they asked for, the list then gives.
 -- Assumes nothing.
-use Rattle.std.specs.Prelude.{◌≡◌, Bool, List, [], ◌∷◌}
+use Rattle.std.specs.Prelude.{if◌then◌else◌, ◌≡◌, Bool, List, [], ◌∷◌}
 use Rattle.std.proofs.Math.Path.{refl, ap, ap₂}
 use Rattle.std.proofs.Common.{◌∙◌}
 use Rattle.std.proofs.Math.Bool.{true, false}
@@ -10,7 +10,7 @@ use Rattle.std.proofs.Math.Dec.{eqb}
 use borrow.Author.Tests.{lt-ltb}
 use Rattle.meaning.specs.Numbers.Tag
 use Rattle.meaning.specs.Numbers.Kind
-use Rattle.meaning.specs.Tree.{if◌then◌else◌, Head, hd, Forest, none, more, one, ◌&◌}
+use Rattle.meaning.specs.Tree.{Head, hd, Forest, none, more, one, ◌&◌}
 use Rattle.meaning.specs.Statements.{is_using, is_await_using, letter_if, wrap_initializer, wrap_initializers, as_taken_up, take_up}
 use Rattle.spec_laws.specs.Tags.{Seen, other, here, there, seen}
 use Rattle.charge_laws.specs.Growth.Trees.{using_tag}

@@ -1,9 +1,9 @@
 -- A Program is lowered at the first visit only, so its items are those read: no charge for another is left behind that visit.
 -- Assumes nothing.
-use Rattle.std.specs.Prelude.{◌≡◌, refl, Bool, true, false, List, [], ◌∷◌, ◌++◌, ℕ, zero, suc, length, eqb}
+use Rattle.std.specs.Prelude.{if◌then◌else◌, ◌≡◌, refl, Bool, true, false, List, [], ◌∷◌, ◌++◌, ℕ, zero, suc, length, eqb}
 use Rattle.std.proofs.Common.{ap, ◌∙◌, arith, eqb-true, eq-eqb}
 use Rattle.meaning.specs.Numbers.Tag
-use Rattle.meaning.specs.Tree.{if◌then◌else◌, one_of, Head, Forest, none, more, count, ◌&◌}
+use Rattle.meaning.specs.Tree.{one_of, Head, Forest, none, more, count, ◌&◌}
 use Rattle.meaning.specs.File.{File, Symbol}
 use Rattle.meaning.specs.Grammar.{tags_of, allowed}
 use Rattle.meaning.specs.declared.Place.TheVariants.{Program}

@@ -1,12 +1,12 @@
 -- The parts of a Try: what they become counts what they counted.
 -- Assumes nothing.
-use Rattle.std.specs.Prelude.{◌≡◌, Bool, ◌&&◌, List, [], ◌∷◌, ℕ, ◌≤◌, length, eqb}
+use Rattle.std.specs.Prelude.{if◌then◌else◌, ◌≡◌, Bool, ◌&&◌, List, [], ◌∷◌, ℕ, ◌≤◌, length, eqb}
 use Rattle.std.proofs.Math.Path.{refl, sym}
 use Rattle.std.proofs.Common.{◌∙◌}
 use Rattle.std.proofs.Math.Bool.{true, false}
 use native.Mathlib.Omega.{arith}
 use Rattle.meaning.specs.Numbers.Tag
-use Rattle.meaning.specs.Tree.{if◌then◌else◌, Head, hd, Forest, none, more, one, Node, node, single, ◌&◌}
+use Rattle.meaning.specs.Tree.{Head, hd, Forest, none, more, one, Node, node, single, ◌&◌}
 use Rattle.meaning.specs.Scoping.{Store, Change, return, insert_scope_between}
 use Rattle.meaning.specs.HelperLoader.{helper_load}
 use Rattle.meaning.specs.Statements.{is_using, any_using, any_await_using, make_context, transform_statements, create_try_stmt}

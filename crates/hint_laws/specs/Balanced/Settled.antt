@@ -1,10 +1,10 @@
 -- In a tree whose lists have no usings, what the records give is what the tree calls.
 -- Assumes nothing.
-use Rattle.std.specs.Prelude.{◌≡◌, Bool, true, false, not, ◌||◌, ◌&&◌, List, ℕ, ◌+◌, eqb}
+use Rattle.std.specs.Prelude.{if◌then◌else◌, ◌≡◌, Bool, true, false, not, ◌||◌, ◌&&◌, List, ℕ, ◌+◌, eqb}
 use Rattle.std.proofs.Math.Path.{refl}
 use Rattle.std.proofs.Common.{arith}
 use Rattle.meaning.specs.Numbers.Tag
-use Rattle.meaning.specs.Tree.{if◌then◌else◌, Head, Forest, none, more}
+use Rattle.meaning.specs.Tree.{Head, Forest, none, more}
 use Rattle.meaning.specs.Statements.{is_using, any_using}
 use Rattle.spec_laws.specs.Tags.{clash}
 use Rattle.hint_laws.specs.Hints.{sum_over, over_declarators, takes_up, called, calls_in}

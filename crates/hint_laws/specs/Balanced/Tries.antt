@@ -1,11 +1,11 @@
 -- The Try that a context makes counts what its list counts, and a list that is taken up counts what it counted.
 -- Assumes nothing.
-use Rattle.std.specs.Prelude.{◌≡◌, Bool, List, ℕ, ◌+◌, ◌<◌, eqb}
+use Rattle.std.specs.Prelude.{if◌then◌else◌, ◌≡◌, Bool, List, ℕ, ◌+◌, ◌<◌, eqb}
 use Rattle.std.proofs.Common.{◌∙◌}
 use Rattle.std.proofs.Math.Bool.{true, false}
 use native.Mathlib.Omega.{arith}
 use Rattle.meaning.specs.Numbers.Kind
-use Rattle.meaning.specs.Tree.{if◌then◌else◌, Forest, single, ◌&◌}
+use Rattle.meaning.specs.Tree.{Forest, single, ◌&◌}
 use Rattle.meaning.specs.Scoping.{Store}
 use Rattle.meaning.specs.Shapes.{declaration, load}
 use Rattle.meaning.specs.HelperLoader.{load_runtime, load_external, helper_load}

@@ -1,11 +1,11 @@
 -- What a StaticBlock becomes when it is left is quiet.
 -- Assumes nothing.
-use Rattle.std.specs.Prelude.{◌≡◌, refl, Bool, true, false, ◌∷◌, ℕ, eqb}
+use Rattle.std.specs.Prelude.{if◌then◌else◌, ◌≡◌, refl, Bool, true, false, ◌∷◌, ℕ, eqb}
 use Rattle.std.proofs.Common.{ap, eqb-true}
 use Rattle.meaning.specs.Numbers.Tag
 use Rattle.meaning.specs.Numbers.Kind
 use Rattle.meaning.specs.Grammar.{expressions}
-use Rattle.meaning.specs.Tree.{if◌then◌else◌, one_of, Head, Forest, more, one, node, ◌&◌}
+use Rattle.meaning.specs.Tree.{one_of, Head, Forest, more, one, node, ◌&◌}
 use Rattle.meaning.specs.Scoping.{Store, return, insert_scope_between, move_binding, set_scope_flags}
 use Rattle.meaning.specs.Shapes.{declaration}
 use Rattle.meaning.specs.HelperLoader.{load_runtime, load_external, helper_load}

@@ -1,11 +1,11 @@
 -- Records that entering again would not change for their usings; of a tree with only such records nothing is asked.
 -- Assumes nothing.
-use Rattle.std.specs.Prelude.{◌≡◌, Bool, true, false, ◌&&◌, ℕ, eqb}
+use Rattle.std.specs.Prelude.{if◌then◌else◌, ◌≡◌, Bool, true, false, ◌&&◌, ℕ, eqb}
 use Rattle.std.proofs.Math.Path.{refl}
 use mathlib.Core.List.{List, []}
 use Rattle.std.proofs.Common.{arith}
 use Rattle.meaning.specs.Numbers.Tag
-use Rattle.meaning.specs.Tree.{if◌then◌else◌, Head, Forest, none, more, ◌&◌}
+use Rattle.meaning.specs.Tree.{Head, Forest, none, more, ◌&◌}
 use Rattle.meaning.specs.Statements.{is_using, any_using}
 use Rattle.meaning.specs.ForOf.{binds_identifier}
 use Rattle.spec_laws.specs.Tags.{clash}

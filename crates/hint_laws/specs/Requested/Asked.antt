@@ -1,6 +1,6 @@
 -- An accepted file asks by the kinds of its usings, reads its own rows, and calls nothing through a context that lowering made.
 -- Assumes nothing.
-use Rattle.std.specs.Prelude.{◌≡◌, Bool, ◌||◌, ◌&&◌, length, leb, ltb}
+use Rattle.std.specs.Prelude.{if◌then◌else◌, ◌≡◌, Bool, ◌||◌, ◌&&◌, length, leb, ltb}
 use Rattle.std.proofs.Math.Path.{refl, ap}
 use Rattle.std.proofs.Math.Bool.{true, false}
 use mathlib.Core.List.{List, [], ◌∷◌, ◌++◌}
@@ -9,7 +9,7 @@ use native.Mathlib.Omega.{arith}
 use Rattle.std.proofs.Math.Dec.{eqb}
 use borrow.Author.Tests.{leb-true, le-ltb}
 use Rattle.meaning.specs.Numbers.Tag
-use Rattle.meaning.specs.Tree.{if◌then◌else◌, Head, hd, Forest, none, more, one, count}
+use Rattle.meaning.specs.Tree.{Head, hd, Forest, none, more, one, count}
 use Rattle.meaning.specs.File.{File, numbers_of, has_children, own_numbers, record_numbers}
 use Rattle.meaning.specs.Renumbering.{with_scope}
 use Rattle.meaning.specs.Reading.{accepted, read_file}

@@ -1,12 +1,12 @@
 -- The Loads of a tree: each context that is made brings one, and taking up usings makes and drops none.
 -- Assumes nothing.
-use Rattle.std.specs.Prelude.{◌≡◌, refl, Bool, true, false, ◌&&◌, List, [], ℕ, ◌+◌, eqb}
+use Rattle.std.specs.Prelude.{if◌then◌else◌, ◌≡◌, refl, Bool, true, false, ◌&&◌, List, [], ℕ, ◌+◌, eqb}
 use Rattle.std.proofs.Math.Path.{ap}
 use native.Mathlib.Omega.{arith}
 use Rattle.std.proofs.Common.{eqb-true}
 use Rattle.meaning.specs.Numbers.Tag
 use Rattle.meaning.specs.Numbers.Kind
-use Rattle.meaning.specs.Tree.{if◌then◌else◌, Head, Forest, none, more, one, Node, node, single, ◌&◌}
+use Rattle.meaning.specs.Tree.{Head, Forest, none, more, one, Node, node, single, ◌&◌}
 use Rattle.meaning.specs.Shapes.{declaration, read}
 use Rattle.meaning.specs.Scoping.{Store, Change, return, symbol_in, create_child_scope, create_symbol, change_scope_parent, insert_scope_below, insert_scope_between, set_scope_flags, move_binding, move_bindings, block_scoped_in}
 use Rattle.meaning.specs.HelperLoader.{load_runtime, load_external, helper_load}

@@ -1,9 +1,9 @@
 -- Each visit adds as many Loads as it makes contexts.
 -- Assumes nothing.
-use Rattle.std.specs.Prelude.{◌≡◌, refl, Bool, true, false, List, ℕ, ◌+◌}
+use Rattle.std.specs.Prelude.{if◌then◌else◌, ◌≡◌, refl, Bool, true, false, List, ℕ, ◌+◌}
 use Rattle.std.proofs.Common.{arith, eqb-true, eq-eqb}
 use Rattle.meaning.specs.Numbers.Tag
-use Rattle.meaning.specs.Tree.{if◌then◌else◌, Head, Forest, one, Node, node, single}
+use Rattle.meaning.specs.Tree.{Head, Forest, one, Node, node, single}
 use Rattle.meaning.specs.Scoping.{Store, return}
 use Rattle.meaning.specs.Statements.{any_using}
 use Rattle.meaning.specs.Contexts.{exit_static_block}

@@ -1,10 +1,10 @@
 -- A Program's items keep their Loads, and no line of theirs charges a context.
 -- Assumes nothing.
-use Rattle.std.specs.Prelude.{◌≡◌, refl, Bool, true, false, ◌&&◌, List, [], ◌∷◌, ◌++◌, ℕ, ◌+◌, length, eqb}
+use Rattle.std.specs.Prelude.{if◌then◌else◌, ◌≡◌, refl, Bool, true, false, ◌&&◌, List, [], ◌∷◌, ◌++◌, ℕ, ◌+◌, length, eqb}
 use Rattle.std.proofs.Common.{ap, arith}
 use Rattle.meaning.specs.Numbers.Tag
 use Rattle.meaning.specs.Numbers.Form
-use Rattle.meaning.specs.Tree.{if◌then◌else◌, Head, hd, Forest, none, more, one, single, ◌&◌}
+use Rattle.meaning.specs.Tree.{Head, hd, Forest, none, more, one, single, ◌&◌}
 use Rattle.meaning.specs.Shapes.{block}
 use Rattle.meaning.specs.Scoping.{Store, insert_scope_below, set_flags_of}
 use Rattle.meaning.specs.Program.{

@@ -1,8 +1,8 @@
 -- The records in the rows of a spot: those of the visited rows and of the rest, and what a visit does to them.
 -- Assumes nothing.
-use Rattle.std.specs.Prelude.{◌≡◌, refl, Bool, true, false, List, [], ◌∷◌, ◌++◌, ℕ, ◌+◌, length}
+use Rattle.std.specs.Prelude.{if◌then◌else◌, ◌≡◌, refl, Bool, true, false, List, [], ◌∷◌, ◌++◌, ℕ, ◌+◌, length}
 use Rattle.std.proofs.Common.{ap, ap₂, ◌∙◌, append_assoc, append-nil, arith}
-use Rattle.meaning.specs.Tree.{if◌then◌else◌, Head, Forest, none, more, one, ◌&◌}
+use Rattle.meaning.specs.Tree.{Head, Forest, none, more, one, ◌&◌}
 use Rattle.meaning.specs.Mentions.{mentions}
 use Rattle.meaning.specs.Scoping.{Store}
 use Rattle.meaning.specs.Walk.{is_static_block, Crumb, crumb, Spot, at, leaving, over, settle, plug, tree_at}

@@ -1,12 +1,12 @@
 -- How many rows are visited, how many are to visit, and so where the walk stands.
 -- Assumes nothing.
-use Rattle.std.specs.Prelude.{◌≡◌, Bool, true, false}
+use Rattle.std.specs.Prelude.{if◌then◌else◌, ◌≡◌, Bool, true, false}
 use Rattle.std.proofs.Math.Path.{refl, sym}
 use Rattle.std.proofs.Common.{◌∙◌, zero-add, arith, length-append}
 use mathlib.Core.List.{List, [], ◌∷◌}
 use Prim.Native.Nat.{ℕ, suc, ◌+◌}
 use Rattle.std.proofs.Math.ListN.{length}
-use Rattle.meaning.specs.Tree.{if◌then◌else◌, Head, Forest, none, more, one, count, size, ◌&◌}
+use Rattle.meaning.specs.Tree.{Head, Forest, none, more, one, count, size, ◌&◌}
 use Rattle.meaning.specs.Scoping.{Store}
 use Rattle.meaning.specs.Walk.{is_static_block, Crumb, crumb, Spot, at, leaving, settle, store_at}
 use Rattle.path.specs.declared.Walk.{Walk}

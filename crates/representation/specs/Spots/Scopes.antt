@@ -1,11 +1,11 @@
 -- The innermost open row, and the scopes of the open records.
 -- Assumes nothing.
-use Rattle.std.specs.Prelude.{◌≡◌, refl, Bool, true, false, not, ℕ, zero, suc, ◌+◌, ◌-◌, ◌≤◌, length}
+use Rattle.std.specs.Prelude.{if◌then◌else◌, ◌≡◌, refl, Bool, true, false, not, ℕ, zero, suc, ◌+◌, ◌-◌, ◌≤◌, length}
 use Rattle.std.proofs.Common.{sym, ap, ap₂, ◌∙◌, not-suc-le-zero, arith, ne_eqb}
 use mathlib.Core.List.{List, [], ◌∷◌, ◌++◌, append_assoc}
 use Rattle.std.proofs.Math.Dec.{eqb}
 use Rattle.std.proofs.Math.ListN.{length-append}
-use Rattle.meaning.specs.Tree.{if◌then◌else◌, one_of, Head, Forest, count}
+use Rattle.meaning.specs.Tree.{one_of, Head, Forest, count}
 use Rattle.meaning.specs.Grammar.{scope_of, below}
 use Rattle.meaning.specs.Walk.{Crumb, crumb, current_scope, hoist_scope}
 use Rattle.tables.specs.Loops.{until, stopped}

@@ -1,12 +1,12 @@
 -- Leaving open records whose children are all done.
 -- Assumes nothing.
-use Rattle.std.specs.Prelude.{◌≡◌, Bool, not, ◌||◌, eqb, length}
+use Rattle.std.specs.Prelude.{if◌then◌else◌, ◌≡◌, Bool, not, ◌||◌, eqb, length}
 use Rattle.std.proofs.Math.Path.{refl, ap}
 use Rattle.std.proofs.Common.{sym, ap₂, ◌∙◌, add-zero, not-suc-le-zero, arith, ne_eqb}
 use mathlib.Core.List.{List, [], ◌∷◌, ◌++◌, append_assoc, append-nil}
 use Rattle.std.proofs.Math.Bool.{true, false}
 use Prim.Native.Nat.{ℕ, zero, suc, ◌+◌, ◌≤◌}
-use Rattle.meaning.specs.Tree.{if◌then◌else◌, Head, Forest, none, more, one, count, ◌&◌}
+use Rattle.meaning.specs.Tree.{Head, Forest, none, more, one, count, ◌&◌}
 use Rattle.meaning.specs.Scoping.{Store}
 use Rattle.meaning.specs.Walk.{is_static_block, Crumb, crumb, Spot, at, leaving, over, settle}
 use Rattle.tables.specs.Loops.{until, stopped}

@@ -1,8 +1,8 @@
 -- Changes of the store keep the names and the `made` of the rows that were read.
 -- Assumes nothing.
-use Rattle.std.specs.Prelude.{◌≡◌, refl, Bool, true, false, List, [], ◌∷◌, ◌++◌, ℕ, zero, suc, ◌≤◌, length, get_or, set, eqb}
+use Rattle.std.specs.Prelude.{if◌then◌else◌, ◌≡◌, refl, Bool, true, false, List, [], ◌∷◌, ◌++◌, ℕ, zero, suc, ◌≤◌, length, get_or, set, eqb}
 use Rattle.std.proofs.Common.{arith}
-use Rattle.meaning.specs.Tree.{if◌then◌else◌, Forest, none, more}
+use Rattle.meaning.specs.Tree.{Forest, none, more}
 use Rattle.meaning.specs.File.{Symbol}
 use Rattle.meaning.specs.Grammar.{scope_of}
 use Rattle.meaning.specs.Scoping.{

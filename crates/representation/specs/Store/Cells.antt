@@ -1,10 +1,9 @@
 -- Tables of rows, all as long: what holds whatever the rows are.
 -- Assumes nothing.
-use Rattle.std.specs.Prelude.{◌≡◌, refl, Bool, true, false, List, [], ◌∷◌, ◌++◌, ℕ, zero, suc, ◌+◌, ◌*◌, ◌-◌, length, get_or, set, eqb, leb}
+use Rattle.std.specs.Prelude.{if◌then◌else◌, ◌≡◌, refl, Bool, true, false, List, [], ◌∷◌, ◌++◌, ℕ, zero, suc, ◌+◌, ◌*◌, ◌-◌, length, get_or, set, eqb, leb}
 use Rattle.std.proofs.Common.{sym, ap, arith, get_or-append-add, ne_eqb, le-leb}
 use Rattle.std.proofs.Math.Dec.{leb-suc-suc}
 use Rattle.std.proofs.lemmas.Bool.{lt-leb}
-use Rattle.meaning.specs.Tree.{if◌then◌else◌}
 use Rattle.meaning.specs.Scoping.{row_at, set_row}
 use Rattle.spec_laws.specs.Bools.{one_less as by_one}
 
@@ -48,7 +47,7 @@ module _ (w : ℕ) (r t : List ℕ) (long : length r ≡ w) where
 first : (w f : ℕ) → 0 * w + f ≡ f
 first w f = omega arith
 
-either_++ : (b : Bool) (r s t : List ℕ) → (if b then r ++ s else r ++ t) ≡ r ++ (if b then s else t)
+either_++ : (b : Bool) (r s t : List ℕ) → (if b then r ++ s else (r ++ t)) ≡ r ++ (if b then s else t)
 either_++ true r s t = refl
 either_++ false r s t = refl
 

@@ -1,12 +1,12 @@
 -- The context's symbol and the helper, in the tables and in 01.
 -- Assumes nothing.
-use Rattle.std.specs.Prelude.{◌≡◌, Bool, List, [], ◌∷◌, ℕ, suc, ◌+◌, ◌≤◌}
+use Rattle.std.specs.Prelude.{if◌then◌else◌, ◌≡◌, Bool, List, [], ◌∷◌, ℕ, suc, ◌+◌, ◌≤◌}
 use Rattle.std.proofs.Math.Path.{refl}
 use Rattle.std.proofs.Common.{sym, ap, ◌∙◌, arith, length-append}
 use Rattle.std.proofs.Math.Bool.{true, false}
 use Rattle.std.proofs.Math.Dec.{eqb}
 use Rattle.std.proofs.Math.ListN.{length}
-use Rattle.meaning.specs.Tree.{if◌then◌else◌, Forest}
+use Rattle.meaning.specs.Tree.{Forest}
 use Rattle.meaning.specs.File.{symbol_row}
 use Rattle.meaning.specs.Scoping.{Store, create_symbol, find_binding}
 use Rattle.meaning.specs.Shapes.{load}

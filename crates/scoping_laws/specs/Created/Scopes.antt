@@ -1,13 +1,13 @@
 -- The outermost scopes of a list get a parent: found on the rows of the list.
 -- Assumes nothing.
-use Rattle.std.specs.Prelude.{◌≡◌, Bool, true, false, ◌&&◌}
+use Rattle.std.specs.Prelude.{if◌then◌else◌, ◌≡◌, Bool, true, false, ◌&&◌}
 use Rattle.std.proofs.Math.Path.{refl, sym, ap, ap₂}
 use Rattle.std.proofs.Common.{◌∙◌, zero-add, add-zero, arith}
 use mathlib.Core.List.{List, [], ◌∷◌, ◌++◌, append_assoc}
 use Prim.Native.Nat.{ℕ, suc, ◌+◌, ◌-◌, ◌≤◌}
 use Rattle.std.proofs.Math.Dec.{eqb}
 use Rattle.std.proofs.Math.ListN.{length, length-append}
-use Rattle.meaning.specs.Tree.{if◌then◌else◌, Head, Forest, none, more, count, size}
+use Rattle.meaning.specs.Tree.{Head, Forest, none, more, count, size}
 use Rattle.meaning.specs.File.{Symbol}
 use Rattle.meaning.specs.Grammar.{scope_of}
 use Rattle.meaning.specs.Scoping.{Store, Change, create_child_scope, change_scope_parent, move_scopes, insert_scope_below}

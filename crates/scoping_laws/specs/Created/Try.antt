@@ -1,10 +1,10 @@
 -- The rows of a Try, in the tables and in 01.
 -- Assumes nothing.
-use Rattle.std.specs.Prelude.{◌≡◌, refl, Bool, true, false, not, List, ℕ, suc, ◌+◌, ◌≤◌, eqb}
+use Rattle.std.specs.Prelude.{if◌then◌else◌, ◌≡◌, refl, Bool, true, false, not, List, ℕ, suc, ◌+◌, ◌≤◌, eqb}
 use Rattle.std.proofs.Common.{◌∙◌, arith}
 use Rattle.std.proofs.Math.Numerals.{add-one}
 use Rattle.std.proofs.Math.ListN.{length, length-append}
-use Rattle.meaning.specs.Tree.{if◌then◌else◌, Forest, ◌&◌}
+use Rattle.meaning.specs.Tree.{Forest, ◌&◌}
 use Rattle.meaning.specs.Scoping.{Store, create_child_scope, create_symbol}
 use Rattle.meaning.specs.Shapes.{block, try_statement}
 use Rattle.meaning.specs.Statements.{create_catch_clause, create_finally_block, create_try_stmt}

@@ -1,6 +1,6 @@
 -- Classes and values: their rows, and the symbols of the store.
 -- Assumes nothing.
-use Rattle.std.specs.Prelude.{◌≡◌, Bool, ℕ, suc, ◌+◌, ◌≤◌, eqb}
+use Rattle.std.specs.Prelude.{if◌then◌else◌, ◌≡◌, Bool, ℕ, suc, ◌+◌, ◌≤◌, eqb}
 use Rattle.std.proofs.Math.Path.{refl, sym}
 use Rattle.std.proofs.Common.{ap, ◌∙◌}
 use Rattle.std.proofs.Math.Bool.{true, false}
@@ -10,7 +10,7 @@ use Rattle.std.proofs.Math.ListN.{length}
 use Rattle.meaning.specs.Numbers.Tag
 use Rattle.meaning.specs.Numbers.Kind
 use Rattle.meaning.specs.Numbers.Form
-use Rattle.meaning.specs.Tree.{if◌then◌else◌, Head, hd, Forest, none, one, count, size}
+use Rattle.meaning.specs.Tree.{Head, hd, Forest, none, one, count, size}
 use Rattle.meaning.specs.Scoping.{Store, symbol_in, create_symbol, set_symbol_flags}
 use Rattle.meaning.specs.Shapes.{declaration, export_named, specifier}
 use Rattle.meaning.specs.Program.{

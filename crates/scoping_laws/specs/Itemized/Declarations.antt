@@ -1,11 +1,11 @@
 -- Declarations that become var, exported or not: their rows, and the symbols of the store.
 -- Assumes nothing.
-use Rattle.std.specs.Prelude.{◌≡◌, refl, Bool, true, false, List, [], ◌∷◌, ◌++◌, ℕ, suc, ◌+◌, ◌≤◌}
+use Rattle.std.specs.Prelude.{if◌then◌else◌, ◌≡◌, refl, Bool, true, false, List, [], ◌∷◌, ◌++◌, ℕ, suc, ◌+◌, ◌≤◌}
 use Rattle.std.proofs.Common.{sym, ap, ◌∙◌, append_assoc, append-nil, add-zero, arith}
 use Rattle.std.proofs.Math.ListN.{length, length-append}
 use Rattle.meaning.specs.Numbers.Tag
 use Rattle.meaning.specs.Numbers.Kind
-use Rattle.meaning.specs.Tree.{if◌then◌else◌, Head, hd, Forest, count, size}
+use Rattle.meaning.specs.Tree.{Head, hd, Forest, count, size}
 use Rattle.meaning.specs.Scoping.{Store, set_symbol_flags, set_flags_of}
 use Rattle.meaning.specs.Shapes.{export_named}
 use Rattle.meaning.specs.Statements.{is_using}

@@ -1,9 +1,9 @@
 -- The kind of an item, told by its row and its child's, is what 01 makes of it.
 -- Assumes nothing.
-use Rattle.std.specs.Prelude.{◌≡◌, refl, Bool, true, false, not, ◌&&◌, List, ◌∷◌, ◌++◌, ℕ, ◌+◌, ◌<◌, eqb, length}
+use Rattle.std.specs.Prelude.{if◌then◌else◌, ◌≡◌, refl, Bool, true, false, not, ◌&&◌, List, ◌∷◌, ◌++◌, ℕ, ◌+◌, ◌<◌, eqb, length}
 use Rattle.std.proofs.Common.{arith}
 use Rattle.meaning.specs.Numbers.Tag
-use Rattle.meaning.specs.Tree.{if◌then◌else◌, Head, Forest, none, more, count, size}
+use Rattle.meaning.specs.Tree.{Head, Forest, none, more, count, size}
 use Rattle.meaning.specs.Program.{
   ItemAct,
   stay,

@@ -1,11 +1,11 @@
 -- What the tables say of a ForOf to enter: its using, its body, and what is done.
 -- Assumes nothing.
-use Rattle.std.specs.Prelude.{◌≡◌, refl, Bool, true, false, not, ◌&&◌, List, ◌∷◌, ◌++◌, ℕ, suc, ◌+◌, ◌≤◌, ◌<◌, eqb, length}
+use Rattle.std.specs.Prelude.{if◌then◌else◌, ◌≡◌, refl, Bool, true, false, not, ◌&&◌, List, ◌∷◌, ◌++◌, ℕ, suc, ◌+◌, ◌≤◌, ◌<◌, eqb, length}
 use Rattle.std.proofs.Math.Path.{ap}
 use Rattle.std.proofs.Common.{◌∙◌, append_assoc, arith}
 use Rattle.std.proofs.Math.ListN.{length-append}
 use Rattle.meaning.specs.Numbers.Tag
-use Rattle.meaning.specs.Tree.{if◌then◌else◌, Head, Forest, none, more, one, count, size}
+use Rattle.meaning.specs.Tree.{Head, Forest, none, more, one, count, size}
 use Rattle.meaning.specs.Scoping.{Store, insert_scope_below}
 use Rattle.meaning.specs.Statements.{is_using}
 use Rattle.meaning.specs.ForOf.{binds_identifier, bound_symbol, binds_name, ForOfAct, as_is, insert, wrap, for_of_act}

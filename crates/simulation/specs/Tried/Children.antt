@@ -1,9 +1,9 @@
 -- The children of a Try: parts, and a Catch with parts of its own.
 -- Assumes nothing.
-use Rattle.std.specs.Prelude.{◌≡◌, refl, ◌++◌, Bool, true, false, ℕ, ◌+◌, eqb}
+use Rattle.std.specs.Prelude.{if◌then◌else◌, ◌≡◌, refl, ◌++◌, Bool, true, false, ℕ, ◌+◌, eqb}
 use Rattle.std.proofs.Common.{ap, ◌∙◌}
 use Rattle.meaning.specs.Numbers.Tag
-use Rattle.meaning.specs.Tree.{if◌then◌else◌, Head, Forest, none, more, one, Node, single, count}
+use Rattle.meaning.specs.Tree.{Head, Forest, none, more, one, Node, single, count}
 use Rattle.meaning.specs.Scoping.{Store, Change}
 use Rattle.meaning.specs.Contexts.{transform_try_parts}
 use Rattle.spec_laws.specs.Trees.{transform_handler}

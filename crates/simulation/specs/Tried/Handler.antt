@@ -1,11 +1,11 @@
 -- A Catch: its parts are rewritten, and its names move with a lowered body.
 -- Assumes nothing.
-use Rattle.std.specs.Prelude.{◌≡◌, refl, Bool, true, false, not, ℕ, suc, ◌+◌, ◌≤◌, ◌<◌, eqb, length}
+use Rattle.std.specs.Prelude.{if◌then◌else◌, ◌≡◌, refl, Bool, true, false, not, ℕ, suc, ◌+◌, ◌≤◌, ◌<◌, eqb, length}
 use Rattle.std.proofs.Common.{sym, ◌∙◌, arith}
 use Rattle.std.proofs.Math.Path.{ap, ap₂}
 use mathlib.Core.List.{List, [], ◌∷◌, ◌++◌, append_assoc}
 use Rattle.meaning.specs.Numbers.Tag
-use Rattle.meaning.specs.Tree.{if◌then◌else◌, Head, Forest, one, single, count, size}
+use Rattle.meaning.specs.Tree.{Head, Forest, one, single, count, size}
 use Rattle.meaning.specs.Scoping.{Store, Change, return, move_bindings}
 use Rattle.meaning.specs.Contexts.{names_in, last_block_scope, any_part_using, move_catch_names, transform_try_parts}
 use Rattle.spec_laws.specs.Trees.{transform_handler}

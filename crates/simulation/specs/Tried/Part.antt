@@ -1,6 +1,6 @@
 -- One part of a Try.
 -- Assumes nothing.
-use Rattle.std.specs.Prelude.{◌≡◌, refl, Bool, ◌&&◌, ℕ, suc, ◌+◌, ◌≤◌, length}
+use Rattle.std.specs.Prelude.{if◌then◌else◌, ◌≡◌, refl, Bool, ◌&&◌, ℕ, suc, ◌+◌, ◌≤◌, length}
 use Rattle.std.proofs.Common.{sym, ◌∙◌, zero-add}
 use Rattle.std.proofs.Math.Path.{ap, ap₂}
 use mathlib.Core.List.{List, ◌∷◌, ◌++◌}
@@ -8,7 +8,7 @@ use Rattle.std.proofs.Math.Bool.{true, false}
 use native.Mathlib.Omega.{arith}
 use Rattle.std.proofs.Math.Dec.{eqb}
 use Rattle.meaning.specs.Numbers.Tag
-use Rattle.meaning.specs.Tree.{if◌then◌else◌, Head, Forest, Node, node, one, single, count, size}
+use Rattle.meaning.specs.Tree.{Head, Forest, Node, node, one, single, count, size}
 use Rattle.meaning.specs.Scoping.{Store, Change, return, insert_scope_between}
 use Rattle.meaning.specs.Statements.{any_using, transform_statements}
 use Rattle.meaning.specs.Contexts.{transform_try_block}

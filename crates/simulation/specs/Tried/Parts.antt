@@ -1,9 +1,9 @@
 -- Parts beside each other, none of them a Catch.
 -- Assumes nothing.
-use Rattle.std.specs.Prelude.{◌≡◌, refl, List, ◌∷◌, Bool, true, false, ◌&&◌, ℕ, suc, ◌+◌, eqb, length}
+use Rattle.std.specs.Prelude.{if◌then◌else◌, ◌≡◌, refl, List, ◌∷◌, Bool, true, false, ◌&&◌, ℕ, suc, ◌+◌, eqb, length}
 use Rattle.std.proofs.Common.{ap, ◌∙◌, append-nil, zero-add, arith, eqb-true}
 use Rattle.meaning.specs.Numbers.Tag
-use Rattle.meaning.specs.Tree.{if◌then◌else◌, Head, Forest, none, more, one, Node, single, count, ◌&◌}
+use Rattle.meaning.specs.Tree.{Head, Forest, none, more, one, Node, single, count, ◌&◌}
 use Rattle.meaning.specs.Scoping.{Store}
 use Rattle.meaning.specs.Statements.{any_using}
 use Rattle.meaning.specs.Contexts.{transform_try_block, names_in, transform_try_parts}

@@ -1,6 +1,6 @@
 -- Usings taken up by a context: the rows of a list become those of the list taken up.
 -- Assumes nothing.
-use Rattle.std.specs.Prelude.{◌≡◌, Bool, ◌&&◌, eqb, ltb}
+use Rattle.std.specs.Prelude.{if◌then◌else◌, ◌≡◌, Bool, ◌&&◌, eqb, ltb}
 use Rattle.std.proofs.Math.Path.{refl, ap}
 use Rattle.std.proofs.Common.{◌∙◌, zero-add, add_assoc, one-add, arith, ltb-true, ltb-false}
 use mathlib.Core.List.{List, [], ◌∷◌, ◌++◌, append_assoc, append-nil}
@@ -10,7 +10,7 @@ use Rattle.std.proofs.Math.Nat.{sub-zero, suc-sub-suc}
 use Rattle.std.proofs.Math.Dec.{leb-zero, leb-suc-zero, leb-suc-suc}
 use Rattle.std.proofs.Math.ListN.{length, length-append}
 use Rattle.meaning.specs.Numbers.Tag
-use Rattle.meaning.specs.Tree.{if◌then◌else◌, Head, Forest, none, more, one, count, size, ◌&◌}
+use Rattle.meaning.specs.Tree.{Head, Forest, none, more, one, count, size, ◌&◌}
 use Rattle.meaning.specs.Statements.{is_using, is_await_using, letter_if, wrap_initializer, wrap_initializers, as_taken_up, take_up}
 use Rattle.meaning.specs.Charges.{initializers, wraps}
 use Rattle.tables.specs.Loops.{turns}

@@ -1,10 +1,9 @@
 -- Rows that carry the places of a list, each of them once, in any order; and what an exchange that puts a row in its place does to them.
 -- Assumes nothing.
-use Rattle.std.specs.Prelude.{◌≡◌, refl, List, [], ◌∷◌, ◌++◌, eqb}
+use Rattle.std.specs.Prelude.{if◌then◌else◌, ◌≡◌, refl, List, [], ◌∷◌, ◌++◌, eqb}
 use Rattle.std.proofs.Common.{ap, subst, add-zero, arith, eq-eqb, ne_eqb}
 use Prim.Native.Nat.{ℕ, suc, ◌+◌, ◌-◌, ◌≤◌, ◌<◌}
 use Rattle.std.proofs.Math.ListN.{length, length-append}
-use Rattle.meaning.specs.Tree.{if◌then◌else◌}
 use Rattle.tables.specs.declared.Row.{Row}
 use Rattle.table_laws.specs.Placed.Numbers.{All, empty, cons}
 

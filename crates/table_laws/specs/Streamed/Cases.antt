@@ -1,11 +1,11 @@
 -- What the Cases of a Switch have to take up, counted on their rows.
 -- Assumes nothing.
-use Rattle.std.specs.Prelude.{◌≡◌, refl, List, [], ◌∷◌, ◌++◌, Bool, true, false, not, ◌&&◌, ℕ, suc, ◌+◌, ◌≤◌, eqb, length}
+use Rattle.std.specs.Prelude.{if◌then◌else◌, ◌≡◌, refl, List, [], ◌∷◌, ◌++◌, Bool, true, false, not, ◌&&◌, ℕ, suc, ◌+◌, ◌≤◌, eqb, length}
 use Rattle.std.proofs.Math.Path.{ap}
 use Rattle.std.proofs.Common.{◌∙◌, arith}
 use Rattle.std.proofs.Math.Nat.{zero-add, add-zero}
 use Rattle.meaning.specs.Numbers.Tag
-use Rattle.meaning.specs.Tree.{if◌then◌else◌, Head, Forest, none, more, count, size}
+use Rattle.meaning.specs.Tree.{Head, Forest, none, more, count, size}
 use Rattle.meaning.specs.Statements.{any_using, any_await_using}
 use Rattle.meaning.specs.Contexts.{any_case_using, any_case_await_using}
 use Rattle.meaning.specs.Charges.{wraps, case_wraps}

@@ -1,13 +1,13 @@
 -- The For with its Labels: what it has to take up, and its rows in a Try.
 -- Assumes nothing.
-use Rattle.std.specs.Prelude.{◌≡◌, List, [], ◌∷◌, ◌++◌, Bool, not, ℕ, suc, ◌+◌, ◌-◌, ◌≤◌, ◌<◌, length}
+use Rattle.std.specs.Prelude.{if◌then◌else◌, ◌≡◌, List, [], ◌∷◌, ◌++◌, Bool, not, ℕ, suc, ◌+◌, ◌-◌, ◌≤◌, ◌<◌, length}
 use Rattle.std.proofs.Math.Path.{refl, ap}
 use Rattle.std.proofs.Common.{sym, subst, ◌∙◌, append_assoc, arith}
 use Rattle.std.proofs.Math.Bool.{true, false}
 use Rattle.std.proofs.Math.Dec.{eqb}
 use Rattle.meaning.specs.Numbers.Tag
 use Rattle.meaning.specs.Numbers.Parts
-use Rattle.meaning.specs.Tree.{if◌then◌else◌, Head, hd, Forest, none, more, one, count, size, ◌&◌}
+use Rattle.meaning.specs.Tree.{Head, hd, Forest, none, more, one, count, size, ◌&◌}
 use Rattle.meaning.specs.Shapes.{block}
 use Rattle.meaning.specs.Statements.{any_using, take_up}
 use Rattle.meaning.specs.Contexts.{for_list, take_up_for}

@@ -1,11 +1,11 @@
 -- Try parts: how many rows they get, and the scope of the last Block.
 -- Assumes nothing.
-use Rattle.std.specs.Prelude.{◌≡◌, List, [], ◌∷◌, ◌++◌, Bool, true, false, not, ◌||◌, ◌&&◌, ℕ, suc, ◌+◌, ◌≤◌, eqb, length}
+use Rattle.std.specs.Prelude.{if◌then◌else◌, ◌≡◌, List, [], ◌∷◌, ◌++◌, Bool, true, false, not, ◌||◌, ◌&&◌, ℕ, suc, ◌+◌, ◌≤◌, eqb, length}
 use Rattle.std.proofs.Math.Path.{refl, ap, ap₂}
 use Rattle.std.proofs.Common.{◌∙◌, arith, ne_eqb}
 use Rattle.std.proofs.Math.Nat.{zero-add, add-zero}
 use Rattle.meaning.specs.Numbers.Tag
-use Rattle.meaning.specs.Tree.{if◌then◌else◌, Head, hd, Forest, none, more, count, size}
+use Rattle.meaning.specs.Tree.{Head, hd, Forest, none, more, count, size}
 use Rattle.meaning.specs.Statements.{any_using}
 use Rattle.meaning.specs.Contexts.{any_part_using, last_block_scope}
 use Rattle.meaning.specs.Charges.{wraps}

@@ -1,6 +1,6 @@
 -- The rows of a Switch, its Cases taken up, in a Try.
 -- Assumes nothing.
-use Rattle.std.specs.Prelude.{◌≡◌, refl, List, [], ◌∷◌, ◌++◌, Bool, ℕ, suc, ◌+◌, ◌≤◌, length}
+use Rattle.std.specs.Prelude.{if◌then◌else◌, ◌≡◌, refl, List, [], ◌∷◌, ◌++◌, Bool, ℕ, suc, ◌+◌, ◌≤◌, length}
 use Rattle.std.proofs.Math.Path.{ap}
 use Rattle.std.proofs.Common.{◌∙◌, append_assoc, append-nil, arith}
 use Rattle.std.proofs.Math.Bool.{true, false}
@@ -8,7 +8,7 @@ use Rattle.std.proofs.Math.Nat.{zero-add}
 use Rattle.std.proofs.Math.Dec.{eqb}
 use Rattle.meaning.specs.Numbers.Tag
 use Rattle.meaning.specs.Numbers.Parts
-use Rattle.meaning.specs.Tree.{if◌then◌else◌, Head, hd, Forest, none, more, one, count, size, ◌&◌}
+use Rattle.meaning.specs.Tree.{Head, hd, Forest, none, more, one, count, size, ◌&◌}
 use Rattle.meaning.specs.Shapes.{block}
 use Rattle.meaning.specs.Statements.{take_up}
 use Rattle.meaning.specs.Contexts.{take_up_cases}

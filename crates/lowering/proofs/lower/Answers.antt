@@ -1,0 +1,34 @@
+-- `lowering::lower` meets its contract. Assumes nothing.
+use native.Mathlib.Omega.{arith}
+use Rattle.lowering.specs.Flat.{lower_by}
+use Rattle.lowering.specs.Law.{lower_is}
+use Rattle.lowering.proofs.lower.Goals as goal
+
+pub returns-in-Fine : goal.returns-in-Fine
+unfolding lower_by
+returns-in-Fine c =
+    rw (
+      ← lower_is _ _ _ _ _ (λ i. omega (arith, c.shared_slice_known-1.given i)) _ c.admit_output.ensures,
+      c.in-Fine.is,
+      ← c.capped-rows.ensures,
+      ← c.fill-first.ensures,
+      ← c.run-last.ensures,
+      c.finish.ensures.records,
+      c.finish.ensures.scopes.0,
+      c.finish.ensures.scopes.1.0,
+      c.finish.ensures.scopes.1.1,
+      c.run-last.auto.records,
+      c.run-last.auto.scopes,
+      c.run-last.auto.symbols,
+      c.fill-first.auto.records,
+      c.fill-first.auto.scopes,
+      c.fill-first.auto.symbols,
+    )
+
+pub returns-in-Refused : goal.returns-in-Refused
+unfolding lower_by
+returns-in-Refused c =
+    rw (
+      ← lower_is _ _ _ _ _ (λ i. omega (arith, c.shared_slice_known-1.given i)) _ c.admit_output.ensures,
+      c.in-Refused.is,
+    )
