@@ -66,8 +66,8 @@ CrumbWithin B (crumb h before after) = HeadWithin B h × TreeWithin B before × 
 
 abbrev pub SpotWithin : ℕ → Spot → Type 0
 SpotWithin B (over tree st) = TreeWithin B tree × StoreWithin B st
-SpotWithin B (at done h k r path st) =
-    TreeWithin B done × HeadWithin B h × TreeWithin B k × TreeWithin B r × All (CrumbWithin B) path × StoreWithin B st
+SpotWithin B (at earlier h k r path st) =
+    TreeWithin B earlier × HeadWithin B h × TreeWithin B k × TreeWithin B r × All (CrumbWithin B) path × StoreWithin B st
 SpotWithin B (leaving kids h before after path st) =
     TreeWithin B kids × HeadWithin B h × TreeWithin B before × TreeWithin B after × All (CrumbWithin B) path × StoreWithin B st
 
@@ -84,16 +84,16 @@ module _ {B : ℕ} (big : 32 ≤ B) where
   hoist_most (crumb h before after ∷ path) p =
       either (UpTo B) (one_of (Tag.Program ∷ Tag.Function ∷ Tag.StaticBlock ∷ []) h.tag) (scope_of_lem big h p.0.0) (hoist_most path p.1)
 
-  pub settled_within : (path : List Crumb) (done f : Forest) (st : Store) → All (CrumbWithin B) path → TreeWithin B done → TreeWithin B f
-      → StoreWithin B st → SpotWithin B (settle done f path st)
+  pub settled_within : (path : List Crumb) (earlier f : Forest) (st : Store) → All (CrumbWithin B) path → TreeWithin B earlier → TreeWithin B f
+      → StoreWithin B st → SpotWithin B (settle earlier f path st)
   unfolding settle
-  settled_within [] done none st p d w s = (d, s)
-  settled_within [] done (more h k r) st p d w s = (d, w.0, w.1, w.2, tt, s)
-  settled_within (crumb h before after ∷ path) done none st p d w s =
+  settled_within [] earlier none st p d w s = (d, s)
+  settled_within [] earlier (more h k r) st p d w s = (d, w.0, w.1, w.2, tt, s)
+  settled_within (crumb h before after ∷ path) earlier none st p d w s =
       let c = p.0 in
       either (SpotWithin B) (is_static_block h) (d, c.0, c.1, c.2, p.1, s)
-      (settled_within path (before & one h done) after st p.1 (within_& big before (one h done) c.1 (c.0, d, tt)) c.2 s)
-  settled_within (crumb h before after ∷ path) done (more h₁ k₁ r₁) st p d w s = (d, w.0, w.1, w.2, p, s)
+      (settled_within path (before & one h earlier) after st p.1 (within_& big before (one h earlier) c.1 (c.0, d, tt)) c.2 s)
+  settled_within (crumb h before after ∷ path) earlier (more h₁ k₁ r₁) st p d w s = (d, w.0, w.1, w.2, p, s)
 
   plugged : (f : Forest) (path : List Crumb) → TreeWithin B f → All (CrumbWithin B) path → TreeWithin B (plug f path)
   unfolding plug
@@ -105,15 +105,15 @@ module _ {B : ℕ} (big : 32 ≤ B) where
   pub tree_within : (s : Spot) → SpotWithin B s → TreeWithin B (tree_at s)
   unfolding tree_at
   tree_within (over tree st) i = i.0
-  tree_within (at done h k r path st) i =
-      plugged (done & more h k r) path (within_& big done (more h k r) i.0 (i.1, i.2, i.3)) i.4
+  tree_within (at earlier h k r path st) i =
+      plugged (earlier & more h k r) path (within_& big earlier (more h k r) i.0 (i.1, i.2, i.3)) i.4
   tree_within (leaving kids h before after path st) i =
       plugged (before & more h kids after) path (within_& big before (more h kids after) i.2 (i.1, i.0, i.3)) i.4
 
   pub store_within : (s : Spot) → SpotWithin B s → StoreWithin B (store_at s)
   unfolding store_at
   store_within (over tree st) i = i.1
-  store_within (at done h k r path st) i = i.5
+  store_within (at earlier h k r path st) i = i.5
   store_within (leaving kids h before after path st) i = i.5
 
   -- ---- visits
@@ -138,13 +138,13 @@ module _ {B : ℕ} (big : 32 ≤ B) where
   visit_within : (s : Spot) → SpotWithin B s → RowsWithin B (store_at (visit s)) → SpotWithin B (visit s)
   unfolding visit enter
   visit_within (over tree st) i r = i
-  visit_within (at done h k after path st) i r =
+  visit_within (at earlier h k after path st) i r =
       let cur = current_scope path in
       let hoist = hoist_scope path in
       let e = enter cur hoist h k st in
       let a = act_kept (act_of st.as_read h k) cur hoist h k st (current_most path i.4) (hoist_most path i.4) i.1 i.2 in
-      let p = a.kept tt i.5 (rw (settled (crumb e.0.head done after ∷ path) none e.0.children e.1).1 at r) in
-      settled_within (crumb e.0.head done after ∷ path) none e.0.children e.1 ((p.0.0, i.0, i.3), i.4) tt p.0.1 p.1
+      let p = a.kept tt i.5 (rw (settled (crumb e.0.head earlier after ∷ path) none e.0.children e.1).1 at r) in
+      settled_within (crumb e.0.head earlier after ∷ path) none e.0.children e.1 ((p.0.0, i.0, i.3), i.4) tt p.0.1 p.1
   visit_within (leaving kids h before after path st) i r =
       let e = leave h kids st in
       let now = before & one e.0.head e.0.children in

@@ -121,7 +121,7 @@ rewritten K path before h k rest st e w =
 -- only a StaticBlock is left in a visit
 abbrev Fine : Spot → Type 0
 Fine (over tree st) = Unit {0}
-Fine (at done h k r path st) = Unit {0}
+Fine (at earlier h k r path st) = Unit {0}
 Fine (leaving kids h before rest path st) = eqb h.tag Tag.StaticBlock ≡ true
 
 record Settled (f : Forest) (st : Store) (s : Spot) : Type 0 where
@@ -129,21 +129,21 @@ record Settled (f : Forest) (st : Store) (s : Spot) : Type 0 where
   store : store_at s ≡ st
   fine : Fine s
 
-settled_if : (b : Bool) (done : Forest) (h : Head) (before rest : Forest) (path : List Crumb) (st : Store) → is_static_block h ≡ b
-    → Settled (plug ((before & one h done) & rest) path) st (settle (before & one h done) rest path st)
-    → Settled (plug (before & more h done rest) path) st
-    (if b then leaving done h before rest path st else settle (before & one h done) rest path st)
+settled_if : (b : Bool) (earlier : Forest) (h : Head) (before rest : Forest) (path : List Crumb) (st : Store) → is_static_block h ≡ b
+    → Settled (plug ((before & one h earlier) & rest) path) st (settle (before & one h earlier) rest path st)
+    → Settled (plug (before & more h earlier rest) path) st
+    (if b then leaving earlier h before rest path st else settle (before & one h earlier) rest path st)
 unfolding tree_at store_at
-settled_if true done h before rest path st e i = record { tree = refl; store = refl; fine = e }
-settled_if false done h before rest path st e i = rw (&-one before h done rest) at i
+settled_if true earlier h before rest path st e i = record { tree = refl; store = refl; fine = e }
+settled_if false earlier h before rest path st e i = rw (&-one before h earlier rest) at i
 
-settled : (path : List Crumb) (done f : Forest) (st : Store) → Settled (plug (done & f) path) st (settle done f path st)
+settled : (path : List Crumb) (earlier f : Forest) (st : Store) → Settled (plug (earlier & f) path) st (settle earlier f path st)
 unfolding settle plug tree_at store_at
-settled [] done none st = record { tree = sym (&-none done); store = refl; fine = tt }
-settled [] done (more h k r) st = record { tree = refl; store = refl; fine = tt }
-settled (crumb h before rest ∷ path) done none st =
-    rw (&-none done) (settled_if (is_static_block h) done h before rest path st refl (settled path (before & one h done) rest st))
-settled (crumb h before rest ∷ path) done (more h₁ k₁ r₁) st = record { tree = refl; store = refl; fine = tt }
+settled [] earlier none st = record { tree = sym (&-none earlier); store = refl; fine = tt }
+settled [] earlier (more h k r) st = record { tree = refl; store = refl; fine = tt }
+settled (crumb h before rest ∷ path) earlier none st =
+    rw (&-none earlier) (settled_if (is_static_block h) earlier h before rest path st refl (settled path (before & one h earlier) rest st))
+settled (crumb h before rest ∷ path) earlier (more h₁ k₁ r₁) st = record { tree = refl; store = refl; fine = tt }
 
 -- ---- visits
 
@@ -161,10 +161,10 @@ next_spot K n f st s i l = (i.fine, rw (i.tree, i.store) l)
 visit_within : (K : RowKind) (s : Spot) → Fine s → Next K (total K s) (visit s)
 unfolding visit tree_at store_at ◌&◌ plug
 visit_within K (over tree st) i = (tt, omega arith)
-visit_within K (at done h k r path st) i =
+visit_within K (at earlier h k r path st) i =
     let e = enter (current_scope path) (hoist_scope path) h k st in
-    next_spot K _ _ _ _ (settled (crumb e.0.head done r ∷ path) none e.0.children e.1)
-    (rewritten K path done h k r st e (enter_within K (after done (role_at path)) (current_scope path) (hoist_scope path) h k st))
+    next_spot K _ _ _ _ (settled (crumb e.0.head earlier r ∷ path) none e.0.children e.1)
+    (rewritten K path earlier h k r st e (enter_within K (after earlier (role_at path)) (current_scope path) (hoist_scope path) h k st))
 visit_within K (leaving kids h before rest path st) i =
     let e = leave h kids st in
     next_spot K _ _ _ _ (settled path (before & one e.0.head e.0.children) rest e.1)

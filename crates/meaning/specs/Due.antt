@@ -75,7 +75,7 @@ enter_lines for_of_wrap h k = for_of_block ∷ []
 -- what the next visit is charged for its rewrite
 unfoldable pub rewrite_lines : Spot → List Line
 rewrite_lines (over tree st) = []
-rewrite_lines (at done h k r path st) = enter_lines (act_of st.as_read h k) h k
+rewrite_lines (at earlier h k r path st) = enter_lines (act_of st.as_read h k) h k
 rewrite_lines (leaving kids h before after path st) = context_lines of_static_block kids
 
 -- ---- the runtime helper
@@ -115,5 +115,5 @@ dues (suc k) s = if is_over s then [] else (due s ∷ dues k (visit s))
 -- what the line is charged where the walk stands: two records from the call of the last visit on
 unfoldable pub import_dues : Spot → List Line
 import_dues (over tree st) = if import_due st then import_line ∷ [] else []
-import_dues (at done h k r path st) = []
+import_dues (at earlier h k r path st) = []
 import_dues (leaving kids h before after path st) = []

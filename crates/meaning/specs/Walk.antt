@@ -83,7 +83,7 @@ pub data Spot : Type 0 where
 
 unfoldable pub is_over : Spot → Bool
 is_over (over tree st) = true
-is_over (at done h k r path st) = false
+is_over (at earlier h k r path st) = false
 is_over (leaving kids h before after path st) = false
 
 -- the scope of the nearest open record with one
@@ -98,12 +98,12 @@ hoist_scope (crumb h before after ∷ path) = if one_of (Tag.Program ∷ Tag.Fun
 
 -- records whose children are all done are left behind; leaving a StaticBlock is a visit
 unfoldable pub settle : Forest → Forest → List Crumb → Store → Spot
-settle done none [] st = over done st
-settle done (more h k r) [] st = at done h k r [] st
-settle done none (crumb h before after ∷ path) st =
-    if is_static_block h then leaving done h before after path st
-    else settle (before & one h done) after path st
-settle done (more h k r) (c ∷ path) st = at done h k r (c ∷ path) st
+settle earlier none [] st = over earlier st
+settle earlier (more h k r) [] st = at earlier h k r [] st
+settle earlier none (crumb h before after ∷ path) st =
+    if is_static_block h then leaving earlier h before after path st
+    else settle (before & one h earlier) after path st
+settle earlier (more h k r) (c ∷ path) st = at earlier h k r (c ∷ path) st
 
 -- the walk goes on with the children of what was entered, and behind what was left
 abbrev pub opened : Forest → Forest → List Crumb → Node × Store → Spot
@@ -117,7 +117,7 @@ closed before after path e = settle (before & one e.0.head e.0.children) after p
 -- the next visit; after the last there is no change
 unfoldable pub visit : Spot → Spot
 visit (over tree st) = over tree st
-visit (at done h k r path st) = opened done r path (enter (current_scope path) (hoist_scope path) h k st)
+visit (at earlier h k r path st) = opened earlier r path (enter (current_scope path) (hoist_scope path) h k st)
 visit (leaving kids h before after path st) = closed before after path (leave h kids st)
 
 unfoldable pub visits : ℕ → Spot → Spot
@@ -147,12 +147,12 @@ plug f (crumb h before after ∷ path) = plug (before & more h f after) path
 
 unfoldable pub tree_at : Spot → Forest
 tree_at (over tree st) = tree
-tree_at (at done h k r path st) = plug (done & more h k r) path
+tree_at (at earlier h k r path st) = plug (earlier & more h k r) path
 tree_at (leaving kids h before after path st) = plug (before & more h kids after) path
 
 unfoldable pub store_at : Spot → Store
 store_at (over tree st) = st
-store_at (at done h k r path st) = st
+store_at (at earlier h k r path st) = st
 store_at (leaving kids h before after path st) = st
 
 -- as a file

@@ -57,18 +57,18 @@ use Rattle.simulation.specs.Entering.{catches, rewrite_law, enter_kept}
 -- ---- where the walk stands
 
 -- before a record the innermost open record has children to enter
-pub not_leaving : (done : Forest) (h : Head) (k r : Forest) (path : List Crumb) (st : Store) (g : ℕ) (z : Rest)
-    → (let q = held (at done h k r path st) g z in is_leaving_f q.records q.walk ≡ false)
+pub not_leaving : (earlier : Forest) (h : Head) (k r : Forest) (path : List Crumb) (st : Store) (g : ℕ) (z : Rest)
+    → (let q = held (at earlier h k r path st) g z in is_leaving_f q.records q.walk ≡ false)
 unfolding is_leaving_f held walk_at visited_at opens_at open_rows_of
-not_leaving done h k r [] st g z = refl
-not_leaving done h k r (crumb h₁ before after ∷ path) st g z =
-    let n = count done + suc (count r) in
+not_leaving earlier h k r [] st g z = refl
+not_leaving earlier h k r (crumb h₁ before after ∷ path) st g z =
+    let n = count earlier + suc (count r) in
     let l = suc (count r) in
-    let s = at done h k r (crumb h₁ before after ∷ path) st in
+    let s = at earlier h k r (crumb h₁ before after ∷ path) st in
     rw (
       some_open h₁ before after path n l,
-      append_assoc (open_rows_of (crumb h₁ before after ∷ path) n l) (rows_of done) (free g ++ rest_at s),
-      inner_left h₁ before after path n l (rows_of done ++ (free g ++ rest_at s)) z.records,
+      append_assoc (open_rows_of (crumb h₁ before after ∷ path) n l) (rows_of earlier) (free g ++ rest_at s),
+      inner_left h₁ before after path n l (rows_of earlier ++ (free g ++ rest_at s)) z.records,
     )
     (ne_eqb l 0 (λ e. omega arith))
 
@@ -85,13 +85,13 @@ is_leaving kids h before after path st g z =
     )
 
 -- before a record there is something to visit
-goes_on : (done : Forest) (h : Head) (k r : Forest) (path : List Crumb) (st : Store) (g : ℕ) (z : Rest)
-    → (let w = (held (at done h k r path st) g z).walk in ltb w.gap.0 w.end.0 ≡ true)
+goes_on : (earlier : Forest) (h : Head) (k r : Forest) (path : List Crumb) (st : Store) (g : ℕ) (z : Rest)
+    → (let w = (held (at earlier h k r path st) g z).walk in ltb w.gap.0 w.end.0 ≡ true)
 unfolding held walk_at size
-goes_on done h k r path st g z =
-    let s = at done h k r path st in
+goes_on earlier h k r path st g z =
+    let s = at earlier h k r path st in
     let v = length (visited_at s) + g in
-    lt-ltb v (v + length (rest_at s)) (omega (arith, rest_at_lem st done h k r path))
+    lt-ltb v (v + length (rest_at s)) (omega (arith, rest_at_lem st earlier h k r path))
 
 -- once the walk is over nothing happens
 ended : (tree : Forest) (st : Store) (g : ℕ) (z : Rest) → visit_f (held (over tree st) g z) ≡ held (over tree st) g z
@@ -109,11 +109,11 @@ over_is tree st g z =
 -- OVER IS TOLD of the tables exactly when 01's walk is over.
 pub over_told_lem : (s : Spot) (g : ℕ) (z : Rest) → is_over_in (held s g z) ≡ is_over s
 unfolding is_over_f is_over
-over_told_lem (at done h k r path st) g z =
-    let w = (held (at done h k r path st) g z).walk in
+over_told_lem (at earlier h k r path st) g z =
+    let w = (held (at earlier h k r path st) g z).walk in
     rw (
-      not_leaving done h k r path st g z,
-      lt-leb w.end.0 w.gap.0 (ltb-true w.gap.0 w.end.0 (goes_on done h k r path st g z)),
+      not_leaving earlier h k r path st g z,
+      lt-leb w.end.0 w.gap.0 (ltb-true w.gap.0 w.end.0 (goes_on earlier h k r path st g z)),
     )
 over_told_lem (leaving kids h before after path st) g z = rw (is_leaving kids h before after path st g z)
 over_told_lem (over tree st) g z = over_is tree st g z
@@ -121,19 +121,19 @@ over_told_lem (over tree st) g z = over_is tree st g z
 -- ---- before a record
 
 -- it is entered as it stands
-enter_tables : (done : Forest) (h : Head) (k r : Forest) (path : List Crumb) (st : Store) (g : ℕ) (z : Rest)
-    → (let s = at done h k r path st in
+enter_tables : (earlier : Forest) (h : Head) (k r : Forest) (path : List Crumb) (st : Store) (g : ℕ) (z : Rest)
+    → (let s = at earlier h k r path st in
     let q = held s g z in
     let e = enter_f (on_records q.records q.walk) in
     length (visited_at s) + g + length (rest_at s) ≤ 65535
-    → tables e.records q.scopes q.symbols e.walk ≡ held (settle none k (crumb h done r ∷ path) st) g z)
+    → tables e.records q.scopes q.symbols e.walk ≡ held (settle none k (crumb h earlier r ∷ path) st) g z)
 unfolding held store_at
-enter_tables done h k r path st g z fits =
-    rw (enter_law done h k r path g z.records st fits, store_settled st (crumb h done r ∷ path) none k)
+enter_tables earlier h k r path st g z fits =
+    rw (enter_law earlier h k r path g z.records st fits, store_settled st (crumb h earlier r ∷ path) none k)
 
-module _ (done : Forest) (h : Head) (k r : Forest) (path : List Crumb) (st : Store) (p : Fit h k) where
+module _ (earlier : Forest) (h : Head) (k r : Forest) (path : List Crumb) (st : Store) (p : Fit h k) where
   abbrev s : Spot
-  s = at done h k r path st
+  s = at earlier h k r path st
 
   abbrev e : Node × Store
   e = enter (current_scope path) (hoist_scope path) h k st
@@ -146,15 +146,15 @@ module _ (done : Forest) (h : Head) (k r : Forest) (path : List Crumb) (st : Sto
 
   at_store : store_at (visit s) ≡ e.1
   unfolding visit
-  at_store = store_settled e.1 (crumb e.0.head done r ∷ path) none e.0.children
+  at_store = store_settled e.1 (crumb e.0.head earlier r ∷ path) none e.0.children
 
   at_tree : size (tree_at (visit s)) + size (one h k) ≡ size (tree_at s) + size (single e.0)
   unfolding visit tree_at plug ◌&◌
   at_tree =
       omega (
         arith,
-        settled_size e.1 (crumb e.0.head done r ∷ path) none e.0.children,
-        plug_other path done r h k e.0.head e.0.children,
+        settled_size e.1 (crumb e.0.head earlier r ∷ path) none e.0.children,
+        plug_other path earlier r h k e.0.head e.0.children,
       )
 
   at_law : (g : ℕ) (z : Rest) → Catches k
@@ -165,16 +165,16 @@ module _ (done : Forest) (h : Head) (k r : Forest) (path : List Crumb) (st : Sto
   at_law g z c fits a room =
       let n = new_records (one h k) (single e.0) in
       let z₀ = with_free (new_scopes st e.1) (new_symbols st e.1) z in
-      let l₁ = visited_at_lem st done h k r path 0 0 in
-      let l₂ = visited_at_lem e.1 done e.0.head e.0.children r path 0 0 in
-      let l₃ = rest_at_lem st done h k r path in
-      let l₄ = rest_at_lem e.1 done e.0.head e.0.children r path in
+      let l₁ = visited_at_lem st earlier h k r path 0 0 in
+      let l₂ = visited_at_lem e.1 earlier e.0.head e.0.children r path 0 0 in
+      let l₃ = rest_at_lem st earlier h k r path in
+      let l₄ = rest_at_lem e.1 earlier e.0.head e.0.children r path in
       rw (
-        not_leaving done h k r path st (n + g) z₀,
-        goes_on done h k r path st (n + g) z₀,
-        rewrite_law done h k r path st g z p c fits a room,
+        not_leaving earlier h k r path st (n + g) z₀,
+        goes_on earlier h k r path st (n + g) z₀,
+        rewrite_law earlier h k r path st g z p c fits a room,
       )
-      (enter_tables done e.0.head e.0.children r path e.1 g z (omega (arith, at_larger)))
+      (enter_tables earlier e.0.head e.0.children r path e.1 g z (omega (arith, at_larger)))
 
 -- ---- at the end of a StaticBlock
 
@@ -230,10 +230,10 @@ pub visit_grows : (s : Spot) → Pending s
     × (length (store_at s).symbols ≤ length (store_at (visit s)).symbols)
 unfolding visit store_at
 visit_grows (over tree st) p = omega arith
-visit_grows (at done h k r path st) p =
-    let l = at_larger done h k r path st p.0.0 in
-    let t = at_store done h k r path st p.0.0 in
-    (omega (arith, l, at_tree done h k r path st p.0.0), rw t (omega (arith, l)), rw t (omega (arith, l)))
+visit_grows (at earlier h k r path st) p =
+    let l = at_larger earlier h k r path st p.0.0 in
+    let t = at_store earlier h k r path st p.0.0 in
+    (omega (arith, l, at_tree earlier h k r path st p.0.0), rw t (omega (arith, l)), rw t (omega (arith, l)))
 visit_grows (leaving kids h before after path st) p =
     let l = leave_takes kids h before after path st p.0 in
     let t = leave_store kids h before after path st in
@@ -243,8 +243,8 @@ visit_grows (leaving kids h before after path st) p =
 pub visit_kept : (s : Spot) → Pending s → Agreed (store_at s) → Agreed (store_at (visit s))
 unfolding visit store_at
 visit_kept (over tree st) p a = a
-visit_kept (at done h k r path st) p a =
-    rw (at_store done h k r path st p.0.0) (enter_kept path h k st p.0.0 (catches (eqb h.tag Tag.Switch) k p.0.1) a)
+visit_kept (at earlier h k r path st) p a =
+    rw (at_store earlier h k r path st p.0.0) (enter_kept path h k st p.0.0 (catches (eqb h.tag Tag.Switch) k p.0.1) a)
 visit_kept (leaving kids h before after path st) p a =
     rw (leave_store kids h before after path st) (leave_kept kids h before after path st a)
 
@@ -276,17 +276,17 @@ unfolding visit store_at free_scopes free_symbols
 visit_law (over tree st) g z p a room fits =
     visits_by (over tree st) g z 0 0 0 (omega arith) (omega arith) (omega arith) fits
     (λ _. ap (λ (i : ℕ). visit_f (held (over tree st) i z)) (zero-add g) ∙ ended tree st g z)
-visit_law (at done h k r path st) g z p a room fits =
-    let s = at done h k r path st in
+visit_law (at earlier h k r path st) g z p a room fits =
+    let s = at earlier h k r path st in
     let e = enter (current_scope path) (hoist_scope path) h k st in
-    let t = at_store done h k r path st p.0.0 in
-    let l = at_larger done h k r path st p.0.0 in
+    let t = at_store earlier h k r path st p.0.0 in
+    let l = at_larger earlier h k r path st p.0.0 in
     visits_by s g z (new_records (one h k) (single e.0)) (new_scopes st e.1) (new_symbols st e.1)
-    (omega (arith, l, at_tree done h k r path st p.0.0))
+    (omega (arith, l, at_tree earlier h k r path st p.0.0))
     (rw t (omega (arith, l)))
     (rw t (omega (arith, l)))
     fits
-    (λ i. at_law done h k r path st p.0.0 g z (catches (eqb h.tag Tag.Switch) k p.0.1) i a (subst Room t room))
+    (λ i. at_law earlier h k r path st p.0.0 g z (catches (eqb h.tag Tag.Switch) k p.0.1) i a (subst Room t room))
 visit_law (leaving kids h before after path st) g z p a room fits =
     let s = leaving kids h before after path st in
     let b = any_using kids in

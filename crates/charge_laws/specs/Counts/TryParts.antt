@@ -43,7 +43,7 @@ TakenAfter (crumb h before after ∷ path) = Taken path after × TakenAfter path
 
 abbrev PartsTaken : Spot → Type 0
 PartsTaken (over tree st) = Unit {0}
-PartsTaken (at done h k r path st) = Taken path (more h k r) × TakenAfter path
+PartsTaken (at earlier h k r path st) = Taken path (more h k r) × TakenAfter path
 PartsTaken (leaving kids h before after path st) = Taken path after × TakenAfter path
 
 -- ---- the parts of a Try that is entered
@@ -136,25 +136,25 @@ act_inside {h = h} {k = k} path r cur hoist st t (as_wrap e b) =
 
 -- ---- the walk
 
-left_if : (b : Bool) (done : Forest) (h : Head) (before after : Forest) (path : List Crumb) (st : Store) (s : Spot)
-    → Taken path after × TakenAfter path → PartsTaken s → PartsTaken (if b then leaving done h before after path st else s)
-left_if true done h before after path st s i j = i
-left_if false done h before after path st s i j = j
+left_if : (b : Bool) (earlier : Forest) (h : Head) (before after : Forest) (path : List Crumb) (st : Store) (s : Spot)
+    → Taken path after × TakenAfter path → PartsTaken s → PartsTaken (if b then leaving earlier h before after path st else s)
+left_if true earlier h before after path st s i j = i
+left_if false earlier h before after path st s i j = j
 
-settle_taken : (path : List Crumb) (done f : Forest) (st : Store) → Taken path f → TakenAfter path → PartsTaken (settle done f path st)
+settle_taken : (path : List Crumb) (earlier f : Forest) (st : Store) → Taken path f → TakenAfter path → PartsTaken (settle earlier f path st)
 unfolding settle
-settle_taken [] done none st t a = tt
-settle_taken [] done (more h k r) st t a = (t, a)
-settle_taken (crumb h before after ∷ path) done none st t a =
-    left_if (is_static_block h) done h before after path st _ a (settle_taken path (before & one h done) after st a.0 a.1)
-settle_taken (c ∷ path) done (more h k r) st t a = (t, a)
+settle_taken [] earlier none st t a = tt
+settle_taken [] earlier (more h k r) st t a = (t, a)
+settle_taken (crumb h before after ∷ path) earlier none st t a =
+    left_if (is_static_block h) earlier h before after path st _ a (settle_taken path (before & one h earlier) after st a.0 a.1)
+settle_taken (c ∷ path) earlier (more h k r) st t a = (t, a)
 
 visit_taken : (s : Spot) → PartsTaken s → PartsTaken (visit s)
 unfolding visit enter any_part_using in_try
 visit_taken (over tree st) i = tt
-visit_taken (at done h k r path st) i =
+visit_taken (at earlier h k r path st) i =
     let e = enter (current_scope path) (hoist_scope path) h k st in
-    settle_taken (crumb e.0.head done r ∷ path) none e.0.children e.1
+    settle_taken (crumb e.0.head earlier r ∷ path) none e.0.children e.1
     (act_inside path r (current_scope path) (hoist_scope path) st i.0 (chosen st.as_read h k))
     ((λ p. (parts_none h k r (i.0 p)).2), i.1)
 visit_taken (leaving kids h before after path st) i =
@@ -167,10 +167,10 @@ visits_taken zero s i = i
 visits_taken (suc n) s i = visits_taken n (visit s) (visit_taken s i)
 
 -- Wherever the walk of a file stands before a Block directly below a Try, or below a Catch of one, that Block has no using.
-pub part_taken_up : (n : ℕ) (f : File) (done : Forest) (h : Head) (k r : Forest) (path : List Crumb) (st : Store)
-    → visits n (start f) ≡ at done h k r path st → in_try path ≡ true → h.tag ≡ Tag.Block → any_using k ≡ false
+pub part_taken_up : (n : ℕ) (f : File) (earlier : Forest) (h : Head) (k r : Forest) (path : List Crumb) (st : Store)
+    → visits n (start f) ≡ at earlier h k r path st → in_try path ≡ true → h.tag ≡ Tag.Block → any_using k ≡ false
 unfolding start in_try any_part_using
-part_taken_up n f done h k r path st e p b =
+part_taken_up n f earlier h k r path st e p b =
     let i : PartsTaken (visits n (start f)) =
     visits_taken n (start f) (settle_taken [] none f.tree (store_of f) (λ p. absurd (clash refl p)) tt) in
     let j : Taken path (more h k r) = (rw e at i).0 in

@@ -32,16 +32,16 @@ unfolding after_rows_of
 after_length h before after path = rw (length-append, length_rows)
 
 module _ (st : Store) where
-  pub visited_at_lem : (done : Forest) (h : Head) (k r : Forest) (path : List Crumb) (n l : ℕ)
-      → length (visited_at (at done h k r path st)) ≡ length (open_rows_of path n l) + size done
+  pub visited_at_lem : (earlier : Forest) (h : Head) (k r : Forest) (path : List Crumb) (n l : ℕ)
+      → length (visited_at (at earlier h k r path st)) ≡ length (open_rows_of path n l) + size earlier
   unfolding visited_at opens_at
-  visited_at_lem done h k r path n l =
-      rw (length-append, length_rows, same_number path (count done + suc (count r)) (suc (count r)) n l)
+  visited_at_lem earlier h k r path n l =
+      rw (length-append, length_rows, same_number path (count earlier + suc (count r)) (suc (count r)) n l)
 
-  pub rest_at_lem : (done : Forest) (h : Head) (k r : Forest) (path : List Crumb)
-      → length (rest_at (at done h k r path st)) ≡ size (more h k r) + length (after_rows_of path)
+  pub rest_at_lem : (earlier : Forest) (h : Head) (k r : Forest) (path : List Crumb)
+      → length (rest_at (at earlier h k r path st)) ≡ size (more h k r) + length (after_rows_of path)
   unfolding rest_at
-  rest_at_lem done h k r path = rw (length-append, length_rows)
+  rest_at_lem earlier h k r path = rw (length-append, length_rows)
 
   pub visited_leaving : (kids : Forest) (h : Head) (before after : Forest) (path : List Crumb) (n l : ℕ)
       → length (visited_at (leaving kids h before after path st)) ≡ length (open_rows_of (crumb h before after ∷ path) n l) + size kids
@@ -52,43 +52,43 @@ module _ (st : Store) where
   -- ---- after settling
 
   -- THE ROWS VISITED, whatever the children of the innermost record
-  pub visited_settled : (path : List Crumb) (done f : Forest) (n l : ℕ)
-      → length (visited_at (settle done f path st)) ≡ length (open_rows_of path n l) + size done
+  pub visited_settled : (path : List Crumb) (earlier f : Forest) (n l : ℕ)
+      → length (visited_at (settle earlier f path st)) ≡ length (open_rows_of path n l) + size earlier
   unfolding settle open_rows_of visited_at size
-  visited_settled [] done none n l = omega (arith, length_rows done)
-  visited_settled [] done (more h k r) n l = visited_at_lem done h k r [] n l
-  visited_settled (crumb h before after ∷ path) done none n l =
-      let i = visited_settled path (before & one h done) after (count before + suc (count after)) (count after) in
+  visited_settled [] earlier none n l = omega (arith, length_rows earlier)
+  visited_settled [] earlier (more h k r) n l = visited_at_lem earlier h k r [] n l
+  visited_settled (crumb h before after ∷ path) earlier none n l =
+      let i = visited_settled path (before & one h earlier) after (count before + suc (count after)) (count after) in
       both
       (λ s. length (visited_at s))
       (is_static_block h)
-      (visited_leaving done h before after path n l)
-      (omega (arith, i, size_& before (one h done), inner_length h before after path n l))
-  visited_settled (c ∷ path) done (more h k r) n l = visited_at_lem done h k r (c ∷ path) n l
+      (visited_leaving earlier h before after path n l)
+      (omega (arith, i, size_& before (one h earlier), inner_length h before after path n l))
+  visited_settled (c ∷ path) earlier (more h k r) n l = visited_at_lem earlier h k r (c ∷ path) n l
 
   -- THE ROWS TO VISIT
-  pub rest_settled : (path : List Crumb) (done f : Forest)
-      → length (rest_at (settle done f path st)) ≡ size f + length (after_rows_of path)
+  pub rest_settled : (path : List Crumb) (earlier f : Forest)
+      → length (rest_at (settle earlier f path st)) ≡ size f + length (after_rows_of path)
   unfolding settle after_rows_of rest_at size
-  rest_settled [] done none = refl
-  rest_settled [] done (more h k r) = rest_at_lem done h k r []
-  rest_settled (crumb h before after ∷ path) done none =
-      let i = rest_settled path (before & one h done) after in
+  rest_settled [] earlier none = refl
+  rest_settled [] earlier (more h k r) = rest_at_lem earlier h k r []
+  rest_settled (crumb h before after ∷ path) earlier none =
+      let i = rest_settled path (before & one h earlier) after in
       both
       (λ s. length (rest_at s))
       (is_static_block h)
       (sym (zero-add _))
       (i ∙ sym (zero-add _ ∙ after_length h before after path))
-  rest_settled (c ∷ path) done (more h k r) = rest_at_lem done h k r (c ∷ path)
+  rest_settled (c ∷ path) earlier (more h k r) = rest_at_lem earlier h k r (c ∷ path)
 
   -- THE STORE
-  pub store_settled : (path : List Crumb) (done f : Forest) → store_at (settle done f path st) ≡ st
+  pub store_settled : (path : List Crumb) (earlier f : Forest) → store_at (settle earlier f path st) ≡ st
   unfolding settle store_at
-  store_settled [] done none = refl
-  store_settled [] done (more h k r) = refl
-  store_settled (crumb h before after ∷ path) done none =
-      both store_at (is_static_block h) refl (store_settled path (before & one h done) after)
-  store_settled (c ∷ path) done (more h k r) = refl
+  store_settled [] earlier none = refl
+  store_settled [] earlier (more h k r) = refl
+  store_settled (crumb h before after ∷ path) earlier none =
+      both store_at (is_static_block h) refl (store_settled path (before & one h earlier) after)
+  store_settled (c ∷ path) earlier (more h k r) = refl
 
 -- ---- the walk
 

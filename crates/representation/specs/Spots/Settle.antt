@@ -26,21 +26,21 @@ records_at s g z = open_rows (table (visited_at s ++ (free g ++ rest_at s)) z) (
 
 -- below the innermost record of a path, where `done` is done and f is to come
 abbrev pub records_in : Forest → Forest → List Crumb → ℕ → List ℕ → OpenRows
-records_in done f path g z =
-    let opens = open_rows_of path (count done + count f) (count f) in
-    open_rows (table (opens ++ (rows_of done ++ (free g ++ (rows_of f ++ after_rows_of path)))) z) (length opens)
+records_in earlier f path g z =
+    let opens = open_rows_of path (count earlier + count f) (count f) in
+    open_rows (table (opens ++ (rows_of earlier ++ (free g ++ (rows_of f ++ after_rows_of path)))) z) (length opens)
 
-module _ (g : ℕ) (z : List ℕ) (done : Forest) (st : Store) where
-  in_at : (h : Head) (k r : Forest) (path : List Crumb) → records_in done (more h k r) path g z ≡ records_at (at done h k r path st) g z
+module _ (g : ℕ) (z : List ℕ) (earlier : Forest) (st : Store) where
+  in_at : (h : Head) (k r : Forest) (path : List Crumb) → records_in earlier (more h k r) path g z ≡ records_at (at earlier h k r path st) g z
   unfolding opens_at visited_at rest_at count
   in_at h k r path = rw append_assoc
 
   in_leaving : (h : Head) (before after : Forest) (path : List Crumb)
-      → records_in done none (crumb h before after ∷ path) g z ≡ records_at (leaving done h before after path st) g z
+      → records_in earlier none (crumb h before after ∷ path) g z ≡ records_at (leaving earlier h before after path st) g z
   unfolding opens_at visited_at rest_at after_rows_of rows_of count
   in_leaving h before after path = rw (add-zero, append_assoc)
 
-  in_over : records_in done none [] g z ≡ records_at (over done st) g z
+  in_over : records_in earlier none [] g z ≡ records_at (over earlier st) g z
   unfolding opens_at visited_at rest_at open_rows_of after_rows_of rows_of
   in_over = refl
 
@@ -66,7 +66,7 @@ close_law g z kids h before after path st =
     let inner = open_line h n (length (outer before after path)) 0 in
     let w = free g ++ (rows_of after ++ after_rows_of path) in
     let v = rows_of kids ++ w in
-    let done = before & one h kids in
+    let earlier = before & one h kids in
     ap (λ (u : List Row). close_f (open_rows (table u z) (length opens))) (append_assoc opens (rows_of kids) w)
     ∙ ap₂ open_rows
     (at_inner h before after path n 0 v z (λ t i. set_column_f t i 5 0)
@@ -74,7 +74,7 @@ close_law g z kids h before after path st =
     ∙ ap (λ (u : List Row). table u z) (joined h kids before (outer before after path) w))
     (inner_up h before after path n 0 v z)
     ∙ ap
-    (λ (i : ℕ). let out = open_rows_of path i (count after) in open_rows (table (out ++ (rows_of done ++ w)) z) (length out))
+    (λ (i : ℕ). let out = open_rows_of path i (count after) in open_rows (table (out ++ (rows_of earlier ++ w)) z) (length out))
     (counted h kids before after)
 
 -- ---- all of them
@@ -95,42 +95,42 @@ inner_stays h before after path n l v z =
     rw (some_open h before after path n l, inner_left h before after path n l v z, inner_tag h before after path n l v z)
 
 module _ (g : ℕ) (z : List ℕ) where
-  stay_none : (m : ℕ) (done f : Forest) → settle_f m (records_in done f [] g z) ≡ records_in done f [] g z
+  stay_none : (m : ℕ) (earlier f : Forest) → settle_f m (records_in earlier f [] g z) ≡ records_in earlier f [] g z
   unfolding open_rows_of stays_f
-  stay_none m done f = stay m (records_in done f [] g z) refl
+  stay_none m earlier f = stay m (records_in earlier f [] g z) refl
 
-  stay_more : (m : ℕ) (done : Forest) (h : Head) (k r : Forest) (c : Crumb) (path : List Crumb)
-      → settle_f m (records_in done (more h k r) (c ∷ path) g z) ≡ records_in done (more h k r) (c ∷ path) g z
+  stay_more : (m : ℕ) (earlier : Forest) (h : Head) (k r : Forest) (c : Crumb) (path : List Crumb)
+      → settle_f m (records_in earlier (more h k r) (c ∷ path) g z) ≡ records_in earlier (more h k r) (c ∷ path) g z
   unfolding count
-  stay_more m done h k r (crumb h₀ before after) path =
+  stay_more m earlier h k r (crumb h₀ before after) path =
       stay m _ (inner_stays h₀ before after path _ (suc (count r)) _ z ∙ rw (ne_eqb (suc (count r)) 0 (λ e. omega arith)))
 
   -- a StaticBlock, or any other record
-  settle_crumb : (b : Bool) (h : Head) (before after : Forest) (path : List Crumb) (done : Forest) (st : Store) (m : ℕ)
+  settle_crumb : (b : Bool) (h : Head) (before after : Forest) (path : List Crumb) (earlier : Forest) (st : Store) (m : ℕ)
       → is_static_block h ≡ b
-      → (let s = settle (before & one h done) after path st in
-      settle_f m (records_in (before & one h done) after path g z) ≡ records_at s g z
-      → settle_f (suc m) (records_in done none (crumb h before after ∷ path) g z)
-      ≡ records_at (if b then leaving done h before after path st else s) g z)
+      → (let s = settle (before & one h earlier) after path st in
+      settle_f m (records_in (before & one h earlier) after path g z) ≡ records_at s g z
+      → settle_f (suc m) (records_in earlier none (crumb h before after ∷ path) g z)
+      ≡ records_at (if b then leaving earlier h before after path st else s) g z)
   unfolding count
-  settle_crumb true h before after path done st m e i =
-      stay (suc m) _ (inner_stays h before after path _ 0 _ z ∙ rw e) ∙ in_leaving g z done st h before after path
-  settle_crumb false h before after path done st m e i =
+  settle_crumb true h before after path earlier st m e i =
+      stay (suc m) _ (inner_stays h before after path _ 0 _ z ∙ rw e) ∙ in_leaving g z earlier st h before after path
+  settle_crumb false h before after path earlier st m e i =
       go m _ (inner_stays h before after path _ 0 _ z ∙ rw e)
-      ∙ ap (λ (o : OpenRows). settle_f m (close_f o)) (in_leaving g z done st h before after path)
-      ∙ ap (settle_f m) (close_law g z done h before after path st)
+      ∙ ap (λ (o : OpenRows). settle_f m (close_f o)) (in_leaving g z earlier st h before after path)
+      ∙ ap (settle_f m) (close_law g z earlier h before after path st)
       ∙ i
 
   -- RECORDS WHOSE CHILDREN ARE ALL DONE ARE LEFT, with a turn for each open record
-  pub settle_law : (path : List Crumb) (done f : Forest) (st : Store) (m : ℕ) → length path ≤ m
-      → settle_f m (records_in done f path g z) ≡ records_at (settle done f path st) g z
+  pub settle_law : (path : List Crumb) (earlier f : Forest) (st : Store) (m : ℕ) → length path ≤ m
+      → settle_f m (records_in earlier f path g z) ≡ records_at (settle earlier f path st) g z
   unfolding settle
-  settle_law [] done none st m q = stay_none m done none ∙ in_over g z done st
-  settle_law [] done (more h k r) st m q = stay_none m done (more h k r) ∙ in_at g z done st h k r []
-  settle_law (crumb h before after ∷ path) done none st zero q = absurd (not-suc-le-zero q)
-  settle_law (crumb h before after ∷ path) done none st (suc m) q =
-      settle_crumb (is_static_block h) h before after path done st m refl (settle_law path (before & one h done) after st m (omega arith))
-  settle_law (c ∷ path) done (more h k r) st m q = stay_more m done h k r c path ∙ in_at g z done st h k r (c ∷ path)
+  settle_law [] earlier none st m q = stay_none m earlier none ∙ in_over g z earlier st
+  settle_law [] earlier (more h k r) st m q = stay_none m earlier (more h k r) ∙ in_at g z earlier st h k r []
+  settle_law (crumb h before after ∷ path) earlier none st zero q = absurd (not-suc-le-zero q)
+  settle_law (crumb h before after ∷ path) earlier none st (suc m) q =
+      settle_crumb (is_static_block h) h before after path earlier st m refl (settle_law path (before & one h earlier) after st m (omega arith))
+  settle_law (c ∷ path) earlier (more h k r) st m q = stay_more m earlier h k r c path ∙ in_at g z earlier st h k r (c ∷ path)
 
   -- A STATICBLOCK IS LEFT AS IT STANDS
   pub leave_law : (kids : Forest) (h : Head) (before after : Forest) (path : List Crumb) (st : Store) (m : ℕ) → length path ≤ m

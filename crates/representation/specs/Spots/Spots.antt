@@ -32,17 +32,17 @@ after_rows_of (crumb h before after ∷ path) = rows_of after ++ after_rows_of p
 
 -- the open rows, the rows visited, and those still to visit
 unfoldable pub opens_at : Spot → List Row
-opens_at (at done h k r path st) = open_rows_of path (count done + suc (count r)) (suc (count r))
+opens_at (at earlier h k r path st) = open_rows_of path (count earlier + suc (count r)) (suc (count r))
 opens_at (leaving kids h before after path st) = open_rows_of (crumb h before after ∷ path) (count kids) 0
 opens_at (over tree st) = []
 
 unfoldable pub visited_at : Spot → List Row
-visited_at (at done h k r path st) = opens_at (at done h k r path st) ++ rows_of done
+visited_at (at earlier h k r path st) = opens_at (at earlier h k r path st) ++ rows_of earlier
 visited_at (leaving kids h before after path st) = opens_at (leaving kids h before after path st) ++ rows_of kids
 visited_at (over tree st) = rows_of tree
 
 unfoldable pub rest_at : Spot → List Row
-rest_at (at done h k r path st) = rows_of (more h k r) ++ after_rows_of path
+rest_at (at earlier h k r path st) = rows_of (more h k r) ++ after_rows_of path
 rest_at (leaving kids h before after path st) = rows_of after ++ after_rows_of path
 rest_at (over tree st) = []
 

@@ -40,10 +40,10 @@ temp_made h k₁ st z a room =
     (symbol_made st _ 6 h.a 1 0 0 0 0 z room (agrees_length st.as_read st.symbols a))
 
 -- the scopes stay
-temp_scopes : (done : Forest) (h : Head) (k₁ k r : Forest) (path : List Crumb) (st : Store) (g : ℕ) (z : Rest)
-    → (held (at done h k r path st) g z).scopes ≡ scope_cells (temp_in h k₁ st).1.scopes z.scopes
+temp_scopes : (earlier : Forest) (h : Head) (k₁ k r : Forest) (path : List Crumb) (st : Store) (g : ℕ) (z : Rest)
+    → (held (at earlier h k r path st) g z).scopes ≡ scope_cells (temp_in h k₁ st).1.scopes z.scopes
 unfolding held store_at create_symbol
-temp_scopes done h k₁ k r path st g z = refl
+temp_scopes earlier h k₁ k r path st g z = refl
 
 -- the using moves
 moved_held : (y scope : ℕ) (st : Store) (zs zy : List ℕ)
@@ -76,26 +76,26 @@ together : (a m v : List Row) (z : List ℕ) → table (a ++ (m ++ v)) z ≡ (ga
 unfolding gapped free
 together a m v z = simp append_assoc
 
-module _ (done : Forest) (h h₁ : Head) (k₁ : Forest) (h₂ : Head) (k₂ : Forest) (h₃ : Head) (k₃ r₃ r : Forest) (path : List Crumb)
+module _ (earlier : Forest) (h h₁ : Head) (k₁ : Forest) (h₂ : Head) (k₂ : Forest) (h₃ : Head) (k₃ r₃ r : Forest) (path : List Crumb)
     (st : Store) (g : ℕ) (z : Rest) (b : Begins k₁) where
   start_size : (n : ℕ)
       → (let k = more h₁ k₁ (more h₂ k₂ (more h₃ k₃ r₃)) in
-      let s = at done h k r path st in
+      let s = at earlier h k r path st in
       length (visited_at s) + (n + g) + length (rest_at s) ≤ 65535 → length (before s g) + n + size (one h k) ≤ 65535)
   unfolding size
-  start_size n fits = omega (arith, start_room done h (more h₁ k₁ (more h₂ k₂ (more h₃ k₃ r₃))) r path st n g z fits)
+  start_size n fits = omega (arith, start_room earlier h (more h₁ k₁ (more h₂ k₂ (more h₃ k₃ r₃))) r path st n g z fits)
 
   -- THE USING GOES INTO THE BODY
   pub insert_law :
       (let k = more h₁ k₁ (more h₂ k₂ (more h₃ k₃ r₃)) in
-      let s = at done h k r path st in
+      let s = at earlier h k r path st in
       let e = enter_for_of_statement false h k st in
       length (visited_at s) + (4 + g) + length (rest_at s) ≤ 65535 → Agreed st → Room e.1
-      → insert_using_f (held s (4 + g) (with_free 0 1 z)) ≡ held (rewritten done r path e) g z)
+      → insert_using_f (held s (4 + g) (with_free 0 1 z)) ≡ held (rewritten earlier r path e) g z)
   unfolding insert_using_f enter_for_of_statement insert_using store_at free_scopes
   insert_law fits a room =
       let k = more h₁ k₁ (more h₂ k₂ (more h₃ k₃ r₃)) in
-      let s = at done h k r path st in
+      let s = at earlier h k r path st in
       let z₀ = with_free 0 1 z in
       let y = bound_symbol k₁ in
       let st₁ = (temp_in h k₁ st).1 in
@@ -103,34 +103,34 @@ module _ (done : Forest) (h h₁ : Head) (k₁ : Forest) (h₂ : Head) (k₂ : F
       let r₁ = room_before (binding_grows y h₃.a st₁) room in
       let m = moved_held y h₃.a st₁ z.scopes z.symbols in
       rw (
-        symbol_is done h h₁ k₁ h₂ k₂ h₃ k₃ r₃ r path st (4 + g) z₀ fits b,
-        kind_is done h h₁ k₁ h₂ k₂ h₃ k₃ r₃ r path st (4 + g) z₀ fits,
-        a_is done h k r path st (4 + g) z₀,
-        scope_is done h h₁ k₁ h₂ k₂ h₃ k₃ r₃ r path st (4 + g) z₀ fits,
+        symbol_is earlier h h₁ k₁ h₂ k₂ h₃ k₃ r₃ r path st (4 + g) z₀ fits b,
+        kind_is earlier h h₁ k₁ h₂ k₂ h₃ k₃ r₃ r path st (4 + g) z₀ fits,
+        a_is earlier h k r path st (4 + g) z₀,
+        scope_is earlier h h₁ k₁ h₂ k₂ h₃ k₃ r₃ r path st (4 + g) z₀ fits,
         symbols_are s (4 + g) z₀,
-        temp_scopes done h k₁ k r path st (4 + g) z₀,
+        temp_scopes earlier h k₁ k r path st (4 + g) z₀,
         temp_made h k₁ st z.symbols a (omega (arith, (symbol_grows (symbol_in st y).name 6 h.a 1 st).symbols, r₁)),
         m.0,
         m.1,
         m.2,
         symbol_number_lem st (symbol_in st y).name 6 h.a 1,
-        start_law done h k r path st 4 g z₀,
+        start_law earlier h k r path st 4 g z₀,
         insert_rows_law z.records temp h₁.a y h h₁ k₁ h₂ k₂ h₃ k₃ r₃ (before s g) (behind r path) b (start_size 4 fits),
         together (before s g) _ (behind r path) z.records,
       )
-      (replaced_law done h k r path st 4 g z h _ _ z₀ (insert_size h h₁ k₁ h₂ k₂ h₃ k₃ r₃ h₁.a y temp))
+      (replaced_law earlier h k r path st 4 g z h _ _ z₀ (insert_size h h₁ k₁ h₂ k₂ h₃ k₃ r₃ h₁.a y temp))
 
   -- THE USING GOES BEFORE THE BODY in a new Block
   pub wrap_law :
       (let k = more h₁ k₁ (more h₂ k₂ (more h₃ k₃ r₃)) in
-      let s = at done h k r path st in
+      let s = at earlier h k r path st in
       let e = enter_for_of_statement true h k st in
       length (visited_at s) + (5 + g) + length (rest_at s) ≤ 65535 → Agreed st → Room e.1
-      → wrap_body_f (held s (5 + g) (with_free 1 1 z)) ≡ held (rewritten done r path e) g z)
+      → wrap_body_f (held s (5 + g) (with_free 1 1 z)) ≡ held (rewritten earlier r path e) g z)
   unfolding wrap_body_f enter_for_of_statement wrap_body store_at
   wrap_law fits a room =
       let k = more h₁ k₁ (more h₂ k₂ (more h₃ k₃ r₃)) in
-      let s = at done h k r path st in
+      let s = at earlier h k r path st in
       let z₀ = with_free 1 1 z in
       let y = bound_symbol k₁ in
       let st₁ = (temp_in h k₁ st).1 in
@@ -142,21 +142,21 @@ module _ (done : Forest) (h h₁ : Head) (k₁ : Forest) (h₂ : Head) (k₂ : F
       let r₁ = room_before g₂ r₂ in
       let m = moved_held y scope st₂ z.scopes z.symbols in
       rw (
-        symbol_is done h h₁ k₁ h₂ k₂ h₃ k₃ r₃ r path st (5 + g) z₀ fits b,
-        kind_is done h h₁ k₁ h₂ k₂ h₃ k₃ r₃ r path st (5 + g) z₀ fits,
-        a_is done h k r path st (5 + g) z₀,
+        symbol_is earlier h h₁ k₁ h₂ k₂ h₃ k₃ r₃ r path st (5 + g) z₀ fits b,
+        kind_is earlier h h₁ k₁ h₂ k₂ h₃ k₃ r₃ r path st (5 + g) z₀ fits,
+        a_is earlier h k r path st (5 + g) z₀,
         symbols_are s (5 + g) z₀,
-        temp_scopes done h k₁ k r path st (5 + g) z₀,
+        temp_scopes earlier h k₁ k r path st (5 + g) z₀,
         temp_made h k₁ st z.symbols a (omega (arith, (symbol_grows (symbol_in st y).name 6 h.a 1 st).symbols, r₁)),
-        below_is done h h₁ k₁ h₂ k₂ h₃ k₃ r₃ r path st (5 + g) z₀ fits st₁ z.scopes h.a (omega (arith, g₂.scopes, r₂)),
+        below_is earlier h h₁ k₁ h₂ k₂ h₃ k₃ r₃ r path st (5 + g) z₀ fits st₁ z.scopes h.a (omega (arith, g₂.scopes, r₂)),
         below_symbols h.a (one h₃ k₃) st₁ z.symbols,
         below_number h.a (one h₃ k₃) st₁,
         m.0,
         m.1,
         m.2,
         symbol_number_lem st (symbol_in st y).name 6 h.a 1,
-        start_law done h k r path st 5 g z₀,
+        start_law earlier h k r path st 5 g z₀,
         wrap_rows_law z.records temp h₁.a y h h₁ k₁ h₂ k₂ h₃ k₃ r₃ (before s g) (behind r path) b scope (start_size 5 fits),
         together (before s g) _ (behind r path) z.records,
       )
-      (replaced_law done h k r path st 5 g z h _ _ z₀ (wrap_size h h₁ k₁ h₂ k₂ h₃ k₃ r₃ h₁.a y temp scope))
+      (replaced_law earlier h k r path st 5 g z h _ _ z₀ (wrap_size h h₁ k₁ h₂ k₂ h₃ k₃ r₃ h₁.a y temp scope))
