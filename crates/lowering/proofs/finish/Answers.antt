@@ -7,13 +7,9 @@ use Rattle.lowering.proofs.finish.Goals as goal
 
 pub returns : goal.returns
 unfolding finish_f count_visited_f bytes_in
-returns c = (
-  c.clear.ensures ∙ ap (λ (n : ℕ). replicate n 0) c.complete-whole.auto.records,
-  (
-    c.clear-2.ensures ∙ ap (λ (n : ℕ). replicate n 0) c.write.auto.scopes,
-    (
-      c.clear-3.ensures ∙ ap (λ (n : ℕ). replicate n 0) c.count_rows.auto.symbols,
-      rw (← c.complete-whole.ensures, ← c.count_rows.ensures) c.write.ensures.bytes,
-    ),
-  ),
-)
+returns c = record {
+  records = c.clear.ensures ∙ ap (λ (n : ℕ). replicate n 0) c.complete-whole.auto.records;
+  scopes = c.clear-2.ensures ∙ ap (λ (n : ℕ). replicate n 0) c.write.auto.scopes;
+  symbols = c.clear-3.ensures ∙ ap (λ (n : ℕ). replicate n 0) c.count_rows.auto.symbols;
+  written = rw (← c.complete-whole.ensures, ← c.count_rows.ensures) c.write.ensures.bytes;
+}
