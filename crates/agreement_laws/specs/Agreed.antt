@@ -13,10 +13,10 @@ use Rattle.meaning.specs.Reading.{accepted, read_file}
 use Rattle.meaning.specs.Walk.{visits, start, store_of, plug, tree_at, store_at}
 use Rattle.meaning.specs.ImportLine.{with_import, completed}
 use Rattle.spec_laws.specs.Calls.{completed_keeps}
-use Rattle.charge_laws.specs.Counts.Pending.{pending_start}
-use Rattle.charge_laws.specs.Counts.Figures.{settled}
-use Rattle.charge_laws.specs.Fit.Accepted.{accepted_fit}
-use Rattle.charge_laws.specs.Fit.Root.{accepted_program}
+use Rattle.charge_laws.proofs.Counts.Pending.{pending_start}
+use Rattle.charge_laws.proofs.Counts.Figures.{settled}
+use Rattle.charge_laws.proofs.Fit.Accepted.{accepted_fit}
+use Rattle.charge_laws.proofs.Fit.Root.{accepted_program}
 use Rattle.agreement_laws.specs.Weights.{Weight, demanded, offered, Offers}
 use Rattle.agreement_laws.specs.Visits.{AgreeAt, at_settled, visits_agree, completed_agrees}
 use Rattle.agreement_laws.specs.Read.{read_offers}

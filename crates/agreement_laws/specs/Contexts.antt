@@ -35,7 +35,7 @@ use Rattle.meaning.specs.Contexts.{
 }
 use Rattle.meaning.specs.Agreement.{names_scope}
 use Rattle.spec_laws.specs.SameScopes.{load_scopes, context_scopes, transformed_scopes, moved_scopes}
-use Rattle.charge_laws.specs.Growth.Taken.{taken_for, taken_cases}
+use Rattle.charge_laws.proofs.Growth.Taken.{taken_for, taken_cases}
 use Rattle.agreement_laws.specs.Weights.{Weight, demanded, Offers, offers_same}
 use Rattle.agreement_laws.specs.Rows.{never_0, child_offers, parent_offers, flags_offer}
 use Rattle.agreement_laws.specs.Demands.{below_offers}

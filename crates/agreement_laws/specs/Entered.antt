@@ -10,8 +10,9 @@ use Rattle.meaning.specs.Contexts.{transform_block_statement, enter_function_bod
 use Rattle.meaning.specs.ForOf.{enter_for_of_statement}
 use Rattle.meaning.specs.Program.{enter_program}
 use Rattle.meaning.specs.Walk.{Act, enter_as, enter, is_static_block, leave}
-use Rattle.charge_laws.specs.Growth.Chosen.{Chosen, kept, as_program, as_block, as_body, as_try, as_for, as_switch, as_insert, as_wrap, chosen, at_tag}
-use Rattle.charge_laws.specs.Counts.Enter.{Fit}
+use Rattle.charge_laws.specs.Growth.Chosen.{Chosen, kept, as_program, as_block, as_body, as_try, as_for, as_switch, as_insert, as_wrap}
+use Rattle.charge_laws.proofs.Growth.Chosen.{chosen, at_tag}
+use Rattle.charge_laws.proofs.Counts.Enter.{Fit}
 use Rattle.agreement_laws.specs.Tries.{Keeps}
 use Rattle.agreement_laws.specs.Contexts.{block_keeps, body_keeps, static_keeps, for_keeps, switch_keeps}
 use Rattle.agreement_laws.specs.Parts.{keeps_if, try_keeps}

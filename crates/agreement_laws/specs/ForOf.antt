@@ -13,8 +13,8 @@ use Rattle.meaning.specs.Scoping.{Store, symbol_in, create_symbol, insert_scope_
 use Rattle.meaning.specs.Shapes.{block, declaration, read}
 use Rattle.meaning.specs.Statements.{is_using}
 use Rattle.meaning.specs.ForOf.{bound_symbol, rebind, insert_using, wrap_body, enter_for_of_statement}
-use Rattle.charge_laws.specs.Growth.Trees.{using_tag}
-use Rattle.charge_laws.specs.Growth.ForOf.{Named}
+use Rattle.charge_laws.proofs.Growth.Trees.{using_tag}
+use Rattle.charge_laws.proofs.Growth.ForOf.{Named}
 use Rattle.meaning.specs.Agreement.{names_scope}
 use Rattle.agreement_laws.specs.Weights.{Weight, demanded, Offers}
 use Rattle.agreement_laws.specs.Rows.{never_0}

@@ -12,8 +12,8 @@ use Rattle.meaning.specs.Scoping.{Store}
 use Rattle.meaning.specs.Shapes.{declaration}
 use Rattle.meaning.specs.HelperLoader.{load_runtime, load_external, helper_load}
 use Rattle.meaning.specs.Statements.{as_taken_up, take_up, make_context, transform_statements}
-use Rattle.charge_laws.specs.Growth.Trees.{using_tag}
-use Rattle.charge_laws.specs.Growth.Taken.{Taken, nothing, passed, as_const, in_declarator_lem, called, taken, TakenIn, in_list_lem, around}
+use Rattle.charge_laws.proofs.Growth.Trees.{using_tag}
+use Rattle.charge_laws.proofs.Growth.Taken.{Taken, nothing, passed, as_const, in_declarator_lem, called, taken, TakenIn, in_list_lem, around}
 use Rattle.agreement_laws.specs.Weights.{Weight, demanded}
 
 -- the two demand the same, below whatever scope

@@ -31,7 +31,7 @@ use Rattle.meaning.specs.Program.{
   enter_program,
 }
 use Rattle.spec_laws.specs.SameScopes.{items_scopes}
-use Rattle.charge_laws.specs.Growth.Items.{
+use Rattle.charge_laws.proofs.Growth.Items.{
   Exports,
   Alone,
   alone,

@@ -26,9 +26,9 @@ use Rattle.meaning.specs.Walk.{
 }
 use Rattle.meaning.specs.ImportLine.{with_import, completed}
 use Rattle.spec_laws.specs.Calls.{completed_store, completed_keeps}
-use Rattle.charge_laws.specs.Counts.Visits.{&-assoc}
-use Rattle.charge_laws.specs.Counts.Pending.{Pending, pending_visit}
-use Rattle.charge_laws.specs.Counts.Figures.{settled}
+use Rattle.charge_laws.proofs.Counts.Visits.{&-assoc}
+use Rattle.charge_laws.proofs.Counts.Pending.{Pending, pending_visit}
+use Rattle.charge_laws.proofs.Counts.Figures.{settled}
 use Rattle.agreement_laws.specs.Weights.{Weight, demanded, Offers, offers_same}
 use Rattle.agreement_laws.specs.Demands.{demanded_more, demanded_&, around, demanded_plug}
 use Rattle.agreement_laws.specs.Tries.{Keeps}

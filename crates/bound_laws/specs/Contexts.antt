@@ -53,7 +53,7 @@ use Rattle.meaning.specs.Contexts.{
 }
 use Rattle.spec_laws.specs.Trees.{transform_handler}
 use Rattle.spec_laws.specs.Tags.{Seen, other, here, there, seen, clash, and_left, and_right}
-use Rattle.charge_laws.specs.Growth.Rows.{
+use Rattle.charge_laws.proofs.Growth.Rows.{
   Grown,
   both,
   unchanged,
@@ -65,8 +65,8 @@ use Rattle.charge_laws.specs.Growth.Rows.{
   binding_moved,
   bindings_moved,
 }
-use Rattle.charge_laws.specs.Growth.Loading.{load_grows}
-use Rattle.charge_laws.specs.Growth.Made.{context_grows, statements_grow, try_grows}
+use Rattle.charge_laws.proofs.Growth.Loading.{load_grows}
+use Rattle.charge_laws.proofs.Growth.Made.{context_grows, statements_grow, try_grows}
 use Rattle.bound_laws.specs.Rows.{RowKind, per_record, per_mention, rows, rows_most}
 use Rattle.bound_laws.specs.Weights.{
   Role,

@@ -12,7 +12,7 @@ use Rattle.meaning.specs.Statements.{is_using}
 use Rattle.meaning.specs.Walk.{store_of, start, visits, tree_at, store_at}
 use Rattle.meaning.specs.Charges.{record_bytes}
 use Rattle.spec_laws.specs.Tags.{Seen, other, here, there, seen}
-use Rattle.charge_laws.specs.Totals.Fits.{declarators, Sound, accepted_room}
+use Rattle.charge_laws.proofs.Totals.Fits.{declarators, Sound, accepted_room}
 use Rattle.bound_laws.specs.Rows.{given, RowKind, records, scopes, symbols, mentioned, per_record, per_scope, per_symbol, per_mention, rows}
 use Rattle.bound_laws.specs.Weights.{
   Role,

@@ -30,15 +30,15 @@ use Rattle.meaning.specs.ImportLine.{completed, visit_calls}
 use Rattle.meaning.specs.Charges.{figures_at, final_figures}
 use Rattle.meaning.specs.Lowering.{last_spot, final_spot}
 use Rattle.spec_laws.specs.Tags.{clash}
-use Rattle.charge_laws.specs.Growth.Trees.{more_&}
-use Rattle.charge_laws.specs.Growth.Charged.{counts}
-use Rattle.charge_laws.specs.Growth.Enter.{left}
-use Rattle.charge_laws.specs.Counts.Pending.{Pending, pending_start, pending_visit}
-use Rattle.charge_laws.specs.Counts.Left.{over_stays_lem}
-use Rattle.charge_laws.specs.Counts.Figures.{whole_at}
-use Rattle.charge_laws.specs.Fit.Accepted.{accepted_fit}
-use Rattle.charge_laws.specs.Fit.Final.{never_above}
-use Rattle.charge_laws.specs.Fit.Import.{calls_final}
+use Rattle.charge_laws.proofs.Growth.Trees.{more_&}
+use Rattle.charge_laws.proofs.Growth.Charged.{counts}
+use Rattle.charge_laws.proofs.Growth.Enter.{left}
+use Rattle.charge_laws.proofs.Counts.Pending.{Pending, pending_start, pending_visit}
+use Rattle.charge_laws.proofs.Counts.Left.{over_stays_lem}
+use Rattle.charge_laws.proofs.Counts.Figures.{whole_at}
+use Rattle.charge_laws.proofs.Fit.Accepted.{accepted_fit}
+use Rattle.charge_laws.proofs.Fit.Final.{never_above}
+use Rattle.charge_laws.proofs.Fit.Import.{calls_final}
 use Rattle.spec_laws.specs.Calls.{completed_over, calls_are}
 
 -- The last spot is where twice as many visits lead as there are records in the end.

@@ -31,7 +31,7 @@ use Rattle.meaning.specs.Scoping.{
   move_bindings,
   set_flags_of,
 }
-use Rattle.charge_laws.specs.Growth.Rows.{Grown, child_scope, scope_parent, scope_flags, symbol_made, binding_moved, symbol_flags}
+use Rattle.charge_laws.proofs.Growth.Rows.{Grown, child_scope, scope_parent, scope_flags, symbol_made, binding_moved, symbol_flags}
 
 -- ---- numbers with a bound
 

@@ -32,7 +32,7 @@ use Rattle.meaning.specs.Contexts.{
   transform_switch_statement,
 }
 use Rattle.spec_laws.specs.Trees.{transform_handler}
-use Rattle.charge_laws.specs.Growth.Taken.{Taken, nothing, passed, as_const, in_declarator_lem, called, taken, TakenIn, in_list_lem, around, taken_for, taken_cases}
+use Rattle.charge_laws.proofs.Growth.Taken.{Taken, nothing, passed, as_const, in_declarator_lem, called, taken, TakenIn, in_list_lem, around, taken_for, taken_cases}
 use Rattle.bound_laws.specs.Numbers.{
   UpTo,
   HeadWithin,

@@ -30,7 +30,7 @@ use Rattle.meaning.specs.Program.{
   program_items,
   enter_program,
 }
-use Rattle.charge_laws.specs.Growth.Items.{Anything, anything, ChosenItem, as_kept, as_moved, as_class, as_declaration, as_exported_declaration, as_exported_class, as_default_class, as_default_value, chosen_item}
+use Rattle.charge_laws.proofs.Growth.Items.{Anything, anything, ChosenItem, as_kept, as_moved, as_class, as_declaration, as_exported_declaration, as_exported_class, as_default_class, as_default_value, chosen_item}
 use Rattle.bound_laws.specs.Numbers.{
   All,
   UpTo,

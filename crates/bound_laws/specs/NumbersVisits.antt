@@ -41,7 +41,7 @@ use Rattle.meaning.specs.Walk.{
   tree_at,
   store_at,
 }
-use Rattle.charge_laws.specs.Counts.Figures.{settled}
+use Rattle.charge_laws.proofs.Counts.Figures.{settled}
 use Rattle.bound_laws.specs.Numbers.{
   All,
   UpTo,

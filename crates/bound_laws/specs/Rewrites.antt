@@ -32,9 +32,9 @@ use Rattle.meaning.specs.Program.{
   enter_program,
 }
 use Rattle.spec_laws.specs.Tags.{clash, and_left}
-use Rattle.charge_laws.specs.Growth.Rows.{Grown, both, scope_below, symbol_made, symbol_flags, binding_moved, flags_of}
-use Rattle.charge_laws.specs.Growth.Items.{Anything, anything, ChosenItem, as_kept, as_moved, as_class, as_declaration, as_exported_declaration, as_exported_class, as_default_class, as_default_value, staying_tag, chosen_item}
-use Rattle.charge_laws.specs.Growth.Trees.{using_tag}
+use Rattle.charge_laws.proofs.Growth.Rows.{Grown, both, scope_below, symbol_made, symbol_flags, binding_moved, flags_of}
+use Rattle.charge_laws.proofs.Growth.Items.{Anything, anything, ChosenItem, as_kept, as_moved, as_class, as_declaration, as_exported_declaration, as_exported_class, as_default_class, as_default_value, staying_tag, chosen_item}
+use Rattle.charge_laws.proofs.Growth.Trees.{using_tag}
 use Rattle.bound_laws.specs.Rows.{given, RowKind, per_record, per_scope, per_symbol, per_mention, rows, rows_most}
 use Rattle.bound_laws.specs.Weights.{
   Role,

@@ -3,7 +3,7 @@
 use Rattle.std.specs.Prelude.{if◌then◌else◌, Bool, true, false, not, ◌&&◌, ℕ, ◌+◌, ◌*◌, ◌≤◌, length, eqb}
 use Rattle.std.proofs.Common.{arith}
 use Rattle.meaning.specs.Scoping.{Store}
-use Rattle.charge_laws.specs.Growth.Rows.{Grown}
+use Rattle.charge_laws.proofs.Growth.Rows.{Grown}
 
 abbrev pub given : Bool → ℕ → ℕ
 given b n = if b then n else 0

@@ -11,7 +11,7 @@ use Rattle.meaning.specs.Walk.{is_static_block, enter, leave, Crumb, crumb, Spot
 use Rattle.meaning.specs.Reading.{accepted, read_file}
 use Rattle.meaning.specs.Lowering.{last_spot}
 use Rattle.bound_laws.specs.Last.{last_is}
-use Rattle.charge_laws.specs.Counts.Visits.{&-none, &-assoc}
+use Rattle.charge_laws.proofs.Counts.Visits.{&-none, &-assoc}
 
 -- the hoist scope below a record
 unfoldable pub hoist_below : ℕ → Head → ℕ

@@ -36,7 +36,8 @@ use Rattle.meaning.specs.Walk.{
   store_at,
 }
 use Rattle.spec_laws.specs.Tags.{clash}
-use Rattle.charge_laws.specs.Growth.Chosen.{Chosen, kept, as_program, as_block, as_body, as_try, as_for, as_switch, as_insert, as_wrap, chosen}
+use Rattle.charge_laws.specs.Growth.Chosen.{Chosen, kept, as_program, as_block, as_body, as_try, as_for, as_switch, as_insert, as_wrap}
+use Rattle.charge_laws.proofs.Growth.Chosen.{chosen}
 use Rattle.bound_laws.specs.Rows.{RowKind, rows}
 use Rattle.bound_laws.specs.Weights.{Role, plain, below, weigh, weight, next, after, weigh_&}
 use Rattle.bound_laws.specs.Contexts.{Within, block_within, body_within, static_within, try_within, for_within, switch_within}

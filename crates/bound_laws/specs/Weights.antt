@@ -16,7 +16,7 @@ use Rattle.meaning.specs.Statements.{
 }
 use Rattle.meaning.specs.Contexts.{for_list, take_up_for, any_case_using, take_up_cases}
 use Rattle.spec_laws.specs.Tags.{Seen, other, here, there, seen, clash}
-use Rattle.charge_laws.specs.Growth.Trees.{using_tag}
+use Rattle.charge_laws.proofs.Growth.Trees.{using_tag}
 use Rattle.bound_laws.specs.Rows.{given, RowKind, per_record, per_scope, per_symbol, per_mention}
 
 -- ---- what a record is to the one around it

@@ -1,6 +1,4 @@
 -- The charge of each visit, from the source alone.
 pub mod VisitCharges
-pub mod Totals
 pub mod Growth
 pub mod Counts
-pub mod Fit

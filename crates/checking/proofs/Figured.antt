@@ -18,8 +18,8 @@ use Rattle.figures.specs.Figures.{helper_f, import_f, final_f, figured_f, shown_
 use Rattle.figures.specs.declared.FinalFigures.{FinalFigures}
 use Rattle.figures.specs.declared.Figured.{Figured}
 use Rattle.figures.specs.declared.Figured.TheVariants.{Fine as FineFigures, Refused as RefusedFigures}
-use Rattle.charge_laws.specs.Totals.Total.{figures_from}
-use Rattle.charge_laws.specs.Totals.Accepted.{accepted_records, accepted_figures}
+use Rattle.charge_laws.proofs.Totals.Total.{figures_from}
+use Rattle.charge_laws.proofs.Totals.Accepted.{accepted_records, accepted_figures}
 use Rattle.checking.specs.declared.Checked.{Checked}
 use Rattle.checking.specs.declared.Checked.TheVariants.{Fine, Refused as RefusedCheck}
 use Rattle.checking.specs.declared.Whole.{Whole}

@@ -29,7 +29,7 @@ use Rattle.parsing.specs.Files.{settings_are, scopes_length, symbols_length}
 use Rattle.figures.specs.Tally.{no_tally, ◌⊞◌, cap, tally_of}
 use Rattle.figures.specs.declared.tally.Tally.{Tally}
 use Rattle.figures.specs.declared.tally.Role.TheVariants.{Plain}
-use Rattle.charge_laws.specs.Totals.Bound.{tally_records}
+use Rattle.charge_laws.proofs.Totals.Bound.{tally_records}
 use Rattle.checking.specs.declared.Layout.{Layout}
 use Rattle.checking.specs.declared.Whole.{Whole}
 use Rattle.checking.specs.declared.Whole.TheVariants.{Accepted, Refused as RefusedFile}

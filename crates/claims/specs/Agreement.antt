@@ -14,7 +14,7 @@ use Rattle.start.specs.Start.{lent_in}
 use Rattle.start.specs.Filled.{admitted}
 use Rattle.representation.specs.Shown.Shown.{records_in, scopes_in}
 use Rattle.readback_laws.specs.Decoded.{tree_of}
-use Rattle.readback_laws.specs.Back.{tree_flat}
+use Rattle.readback_laws.proofs.Back.{tree_flat}
 use Rattle.agreement_laws.specs.Agreed.{calls_scopes_agree}
 use Rattle.claims.specs.Calls.{after_calls, calls_tree, calls_scopes}
 

@@ -17,10 +17,10 @@ use Rattle.spec_laws.specs.Figures.{figures_same, total_++}
 use Rattle.spec_laws.specs.Trees.{Bytes}
 use Rattle.spec_laws.specs.Calls.{completed_over, calls_are}
 use Rattle.charge_laws.specs.VisitCharges.{visit_charges}
-use Rattle.charge_laws.specs.Counts.Figures.{joined}
-use Rattle.charge_laws.specs.Fit.Ends.{walk_ends}
-use Rattle.charge_laws.specs.Fit.Final.{charges_final}
-use Rattle.charge_laws.specs.Fit.Import.{calls_charged, calls_above}
+use Rattle.charge_laws.proofs.Counts.Figures.{joined}
+use Rattle.charge_laws.proofs.Fit.Ends.{walk_ends}
+use Rattle.charge_laws.proofs.Fit.Final.{charges_final}
+use Rattle.charge_laws.proofs.Fit.Import.{calls_charged, calls_above}
 use Rattle.tables.specs.Loops.{turns}
 use Rattle.path.specs.Path.{Tables}
 use Rattle.representation.specs.Spots.Spots.{held}
@@ -28,13 +28,14 @@ use Rattle.start.specs.Start.{lent_in, free_rows, counts_behind}
 use Rattle.start.specs.Filled.{admitted}
 use Rattle.walk.specs.Call.{visit_call_f}
 use Rattle.walk.specs.Over.{is_over_in}
-use Rattle.simulation.specs.Visit.{over_told_lem}
-use Rattle.simulation.specs.Visits.{at_spot}
-use Rattle.simulation.specs.Started.{calls_after_start}
+use Rattle.simulation.proofs.Visit.{over_told_lem}
+use Rattle.simulation.proofs.Visits.{at_spot}
+use Rattle.simulation.proofs.Started.{calls_after_start}
 use Rattle.bound_laws.specs.Last.{final_figures_lem, final_is}
-use Rattle.readback_laws.specs.ReadBack.{fields_of, field_count, is_record, counts_back}
+use Rattle.readback_laws.specs.ReadBack.{fields_of, field_count, is_record}
+use Rattle.readback_laws.proofs.ReadBack.{counts_back}
 use Rattle.representation.specs.Shown.Shown.{records_in, scopes_in, symbols_in}
-use Rattle.representation.specs.Shown.Held.{held_records, held_scopes, held_symbols, flatten_size}
+use Rattle.representation.proofs.Shown.Held.{held_records, held_scopes, held_symbols, flatten_size}
 use Rattle.renumbering_laws.specs.Final.{lowered_tagged, lowered_figures}
 
 -- the tables that start leaves of an admitted file, and those after k calls for a visit, each on exactly what the one before left

@@ -43,9 +43,9 @@ use Rattle.cases.specs.TableCounts.{count_table, counts_hold}
 use Rattle.cases.specs.TableDepth.{depth_table, depth_holds}
 use Rattle.cases.specs.TableOrder.{order_table, orders_hold}
 use Rattle.cases.specs.TableWord.{const_in_body, using_in_body, const_after_using, using_after_using, word_table, words_hold}
-use Rattle.charge_laws.specs.Counts.Figures.{joined}
-use Rattle.charge_laws.specs.Fit.Accepted.{accepted_dues}
-use Rattle.charge_laws.specs.Fit.Import.{imports_are}
+use Rattle.charge_laws.proofs.Counts.Figures.{joined}
+use Rattle.charge_laws.proofs.Fit.Accepted.{accepted_dues}
+use Rattle.charge_laws.proofs.Fit.Import.{imports_are}
 use Rattle.spec_laws.specs.Trees.{Bytes}
 use Rattle.spec_laws.specs.Calls.{calls_are}
 use Rattle.figures.specs.Figures.{shown_figures, figured_of}
@@ -64,10 +64,11 @@ use Rattle.walk.specs.Call.{visit_call_f, over_unchanged}
 use Rattle.walk.specs.Plain.{visit_some_f, some_visits}
 use Rattle.hint_laws.specs.Hints.{asked, given}
 use Rattle.readback_laws.specs.ReadBack.{fields_of, field_count, is_record}
-use Rattle.fields.specs.Lengths.{lengths, no_tags, lengths_count, lengths_right, lengths_none}
+use Rattle.fields.specs.Lengths.{lengths, no_tags, lengths_count, lengths_none}
+use Rattle.fields.proofs.Lengths.{lengths_right}
 use Rattle.readback_laws.specs.Decoded.{tree_of, tree_in}
-use Rattle.readback_laws.specs.Written.{file_written}
-use Rattle.readback_laws.specs.Loads.Written.{is_load}
+use Rattle.readback_laws.proofs.Written.{file_written}
+use Rattle.readback_laws.proofs.Loads.Written.{is_load}
 use Rattle.agreement_laws.specs.Agreed.{read_agrees}
 use Rattle.renumbering_laws.specs.Final.{lowered_length, loads_written, lowered_gives}
 use Rattle.idempotence_laws.specs.Fields.{field_figures}
@@ -78,7 +79,7 @@ use Rattle.claims.specs.Agreement.{scopes_in_tables}
 use Rattle.claims.specs.Twice.{Wrote, LowersTwice, lowering_twice, lowering_again}
 use Rattle.claims.specs.Order.{InTreeOrder, AgreesInBytes, OneToOne, in_tree_order, agrees_in_bytes, final_one_to_one, numbered_once}
 use Rattle.one_word_laws.specs.Changed.{OneWord}
-use Rattle.one_word_laws.specs.Reads.{word_read}
+use Rattle.one_word_laws.proofs.Reads.{word_read}
 use Rattle.claims.specs.OneWord.{WordPair, GrowsLittle, with_room, grows_little, LowersTo, room_enough, half_enough, GrowsMost, GrowsLeast, ReachedBy, most_reached, least_reached}
 use Rattle.claims.specs.Letters.{ButLetters, letters_alone}
 use Rattle.claims.specs.Depth.{read_deep, depth_first, read_before, Changed, depth_is_first, answer_changed, still_accepted, once_accepted}

@@ -12,18 +12,19 @@ use Rattle.meaning.specs.Charges.{final_figures}
 use Rattle.meaning.specs.Lowering.{admit, lowered_file}
 use Rattle.spec_laws.specs.Trees.{Bytes}
 use Rattle.spec_laws.specs.Calls.{calls_are}
-use Rattle.charge_laws.specs.Fit.Import.{calls_above}
+use Rattle.charge_laws.proofs.Fit.Import.{calls_above}
 use Rattle.bound_laws.specs.MentionsFit.{mentions_fit}
 use Rattle.tables.specs.Table.{counts_at}
 use Rattle.mentions.specs.Sums.{counts_from}
 use Rattle.start.specs.Start.{lent_in}
 use Rattle.start.specs.Filled.{admitted}
 use Rattle.representation.specs.Shown.Shown.{counts_in}
-use Rattle.simulation.specs.Visits.{at_spot}
-use Rattle.simulation.specs.Counted.{counts_shown}
-use Rattle.simulation.specs.Started.{zeros_before, placed, calls_after_start}
-use Rattle.readback_laws.specs.ReadBack.{fields_of, field_count, counts_back}
-use Rattle.readback_laws.specs.Counted.{mentions_in, counts_said, counts_said_lem}
+use Rattle.simulation.proofs.Visits.{at_spot}
+use Rattle.simulation.proofs.Counted.{counts_shown}
+use Rattle.simulation.proofs.Started.{zeros_before, placed, calls_after_start}
+use Rattle.readback_laws.specs.ReadBack.{fields_of, field_count}
+use Rattle.readback_laws.proofs.ReadBack.{counts_back}
+use Rattle.readback_laws.proofs.Counted.{mentions_in, counts_said, counts_said_lem}
 use Rattle.renumbering_laws.specs.Final.{lowered_tagged}
 use Rattle.claims.specs.Calls.{after_calls}
 

@@ -16,12 +16,12 @@ use Rattle.meaning.specs.Charges.{final_figures}
 use Rattle.meaning.specs.Lowering.{last_spot, final_spot}
 use Rattle.spec_laws.specs.Calls.{completed_keeps}
 use Rattle.hint_laws.specs.Hints.{sum_over, over_declarators, takes_up, of_source, asked, called, calls_in, given}
-use Rattle.hint_laws.specs.Requested.Asked.{OldCalls, accepted_old, overs_none, calls_in_none, asked_by_kind, asked_of_source}
+use Rattle.hint_laws.proofs.Requested.Asked.{OldCalls, accepted_old, overs_none, calls_in_none, asked_by_kind, asked_of_source}
 use Rattle.hint_laws.specs.Balanced.Balance.{letter_in, waits, done_in, gives, balance_of, balance}
-use Rattle.hint_laws.specs.Balanced.Visit.{visits_balance}
-use Rattle.hint_laws.specs.Balanced.Settled.{Settled, settled_gives}
-use Rattle.hint_laws.specs.Lowered.Quiet.{Quiet, AllQuiet, nothing_asked}
-use Rattle.hint_laws.specs.Lowered.Visits.{over_quiet}
+use Rattle.hint_laws.proofs.Balanced.Visit.{visits_balance}
+use Rattle.hint_laws.proofs.Balanced.Settled.{Settled, settled_gives}
+use Rattle.hint_laws.proofs.Lowered.Quiet.{Quiet, AllQuiet, nothing_asked}
+use Rattle.hint_laws.proofs.Lowered.Visits.{over_quiet}
 use Rattle.bound_laws.specs.Last.{last_spot_lem, last_over}
 
 both : (u v : Head → Forest → ℕ) (f : Forest) → sum_over (λ h k. u h k + v h k) f ≡ sum_over u f + sum_over v f

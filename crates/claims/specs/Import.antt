@@ -42,8 +42,8 @@ use Rattle.meaning.specs.Renumbering.{scope_named, named_scopes, place_from, new
 use Rattle.spec_laws.specs.Tags.{clash, and_right}
 use Rattle.spec_laws.specs.Trees.{Bytes, visits_last}
 use Rattle.spec_laws.specs.Calls.{completed_store, not_yet, completed_none, calls_are}
-use Rattle.charge_laws.specs.Counts.Left.{over_stays_lem}
-use Rattle.charge_laws.specs.Growth.Items.{
+use Rattle.charge_laws.proofs.Counts.Left.{over_stays_lem}
+use Rattle.charge_laws.proofs.Growth.Items.{
   Anything,
   ChosenItem,
   as_kept,
@@ -56,16 +56,16 @@ use Rattle.charge_laws.specs.Growth.Items.{
   as_default_value,
   chosen_item,
 }
-use Rattle.charge_laws.specs.Fit.Import.{accepted_helper, due_if, calls_final}
-use Rattle.charge_laws.specs.Fit.Placed.{ReadAs, same_tag, Placed, accepted_placed}
-use Rattle.charge_laws.specs.Fit.Root.{accepted_program}
-use Rattle.simulation.specs.Visits.{at_spot}
+use Rattle.charge_laws.proofs.Fit.Import.{accepted_helper, due_if, calls_final}
+use Rattle.charge_laws.proofs.Fit.Placed.{ReadAs, same_tag, Placed, accepted_placed}
+use Rattle.charge_laws.proofs.Fit.Root.{accepted_program}
+use Rattle.simulation.proofs.Visits.{at_spot}
 use Rattle.start.specs.Start.{lent_in}
 use Rattle.start.specs.Filled.{admitted}
 use Rattle.bound_laws.specs.Last.{last_spot_lem, last_over, final_is}
 use Rattle.readback_laws.specs.Decoded.{tree_in}
-use Rattle.readback_laws.specs.Mapped.{mapped}
-use Rattle.readback_laws.specs.Back.{plain_head, plain, tree_back}
+use Rattle.readback_laws.proofs.Mapped.{mapped}
+use Rattle.readback_laws.proofs.Back.{plain_head, plain, tree_back}
 use Rattle.renumbering_laws.specs.Final.{lowered_tagged, lowered_childless}
 use Rattle.scoping.specs.Changes.{SymbolRows, in_symbols}
 use Rattle.representation.specs.Store.Held.{ctx_of}

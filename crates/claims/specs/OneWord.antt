@@ -20,7 +20,7 @@ use Rattle.start.specs.Start.{lent_in}
 use Rattle.lowering.specs.declared.Lowered.TheVariants.{Written as WrittenIn}
 use Rattle.lowering.specs.Lower.{finished, zeros_for, written_over, lower_of, lower_f}
 use Rattle.one_word_laws.specs.Changed.{here, behind, in_list_lem, inside, beside, OneWord, most_records, most_scopes, most_symbols, most_bytes, most_import, in_runtime_module, Growth}
-use Rattle.one_word_laws.specs.Final.{half_initializers, final_grown}
+use Rattle.one_word_laws.proofs.Final.{half_initializers, final_grown}
 use Rattle.claims.specs.Refusals.Small.{Enough, enough_admitted, enough_output}
 
 -- ---- what is claimed

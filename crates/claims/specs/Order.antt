@@ -17,10 +17,11 @@ use Rattle.meaning.specs.Charges.{Figures, figures_in, final_figures}
 use Rattle.meaning.specs.Lowering.{final_spot, lowered_file}
 use Rattle.spec_laws.specs.Trees.{Bytes}
 use Rattle.bound_laws.specs.Numbers.{All}
-use Rattle.readback_laws.specs.ReadBack.{Read, fields_of, scope_reads, symbol_reads, record_reads, fields_for, read_back, field_count, Tagged, counts_back}
+use Rattle.readback_laws.specs.ReadBack.{Read, fields_of, scope_reads, symbol_reads, record_reads, fields_for, field_count, Tagged}
+use Rattle.readback_laws.proofs.ReadBack.{read_back, counts_back}
 use Rattle.readback_laws.specs.Decoded.{tree_in}
-use Rattle.readback_laws.specs.Mapped.{mapped}
-use Rattle.readback_laws.specs.Back.{plain_head, plain, tree_back}
+use Rattle.readback_laws.proofs.Mapped.{mapped}
+use Rattle.readback_laws.proofs.Back.{plain_head, plain, tree_back}
 use Rattle.renumbering_laws.specs.Heads.{scope_plain}
 use Rattle.renumbering_laws.specs.Order.{up_from}
 use Rattle.renumbering_laws.specs.Named.{new_place, new_row, new_most, one_to_one}

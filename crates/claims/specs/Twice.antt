@@ -21,7 +21,7 @@ use Rattle.lowering.specs.declared.Lowered.TheVariants.{Written as WrittenIn, Re
 use Rattle.lowering.specs.Lower.{Finished, finished, zeros_for, written_over, lower_of, lower_f}
 use Rattle.renumbering_laws.specs.Final.{lowered_length}
 use Rattle.idempotence_laws.specs.Fields.{field_figures}
-use Rattle.idempotence_laws.specs.Again.{again_written, again_figures}
+use Rattle.idempotence_laws.proofs.Again.{again_written, again_figures}
 use Rattle.claims.specs.Calls.{file_shows}
 use Rattle.claims.specs.Refusals.Small.{Enough, Short, first_short, enough_admitted, small_refused, short_output_lem, enough_output, lower_total}
 

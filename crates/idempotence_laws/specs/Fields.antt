@@ -8,10 +8,11 @@ use Rattle.meaning.specs.Reading.{accepted, read_file}
 use Rattle.meaning.specs.Charges.{Figures, figures, figures_in}
 use Rattle.spec_laws.specs.Trees.{Bytes}
 use Rattle.spec_laws.specs.Figures.{figures_same}
-use Rattle.readback_laws.specs.ReadBack.{fields_of, field_count, is_record, counts_back}
-use Rattle.readback_laws.specs.Length.{tagged_length}
-use Rattle.readback_laws.specs.Written.{file_written}
-use Rattle.readback_laws.specs.Accepted.{read_tagged}
+use Rattle.readback_laws.specs.ReadBack.{fields_of, field_count, is_record}
+use Rattle.readback_laws.proofs.ReadBack.{counts_back}
+use Rattle.readback_laws.proofs.Length.{tagged_length}
+use Rattle.readback_laws.proofs.Written.{file_written}
+use Rattle.readback_laws.proofs.Accepted.{read_tagged}
 
 -- records, scope rows, symbol rows, no context, and the length
 unfoldable pub field_figures : List ℕ → Figures

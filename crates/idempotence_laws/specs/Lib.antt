@@ -1,6 +1,1 @@
--- Lowering a lowered file changes nothing.
-pub mod Quiet
-pub mod QuietHeads
-pub mod Scopes
 pub mod Fields
-pub mod Again

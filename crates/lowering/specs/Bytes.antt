@@ -42,7 +42,7 @@ use Rattle.representation.specs.Spots.Spots.{Rest, visited_at, rest_at, walk_at,
 use Rattle.writing.specs.Writing.{field_with, scope_field, symbol_field, own_or, record_field, rows_bytes, list_bytes, record_at, file_bytes}
 use Rattle.bound_laws.specs.Numbers.{All}
 use Rattle.readback_laws.specs.ReadBack.{is_record, Tagged}
-use Rattle.readback_laws.specs.Length.{complete, record_complete, numbers_length}
+use Rattle.readback_laws.proofs.Length.{complete, record_complete, numbers_length}
 use Rattle.renumbering_laws.specs.Trees.{renumbered_count, renumbered_tagged, renumbered_mentions}
 use Rattle.renumbering_laws.specs.Named.{named_rows_lem, no_zero, no_more}
 use Rattle.lowering.specs.Numbered.{numbered_is, numbers_in_lem}

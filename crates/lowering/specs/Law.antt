@@ -18,7 +18,7 @@ use Rattle.meaning.specs.Lowering.{Lent, check_output, admit, admit_output, last
 use Rattle.meaning.specs.Agreement.{ScopesAgree}
 use Rattle.meaning.specs.Renumbering.{renumbered}
 use Rattle.spec_laws.specs.Tags.{clash}
-use Rattle.charge_laws.specs.Totals.Fits.{accepted_fits}
+use Rattle.charge_laws.proofs.Totals.Fits.{accepted_fits}
 use Rattle.spec_laws.specs.Trees.{Bytes}
 use Rattle.bound_laws.specs.MentionsFit.{mentions_fit}
 use Rattle.figures.specs.Figures.{shown_figures}
@@ -30,20 +30,20 @@ use Rattle.tables.specs.Table.{counts_at}
 use Rattle.mentions.specs.Counters.{add_record_f, add_rows_f}
 use Rattle.mentions.specs.Sums.{heads_of, counts_from, from_at, counts_length, counted_tree}
 use Rattle.representation.specs.Spots.Spots.{visited_at, Rest, walk_at, held}
-use Rattle.representation.specs.Counts.Rows.{heads_length}
-use Rattle.representation.specs.Counts.Heads.{open_heads, over_stands}
-use Rattle.representation.specs.Counts.Held.{visited_rows}
+use Rattle.representation.proofs.Counts.Rows.{heads_length}
+use Rattle.representation.proofs.Counts.Heads.{open_heads, over_stands}
+use Rattle.representation.proofs.Counts.Held.{visited_rows}
 use Rattle.start.specs.Start.{lent_in}
 use Rattle.start.specs.Flat.{fill_f}
 use Rattle.start.specs.Filled.{admitted, fill_law}
 use Rattle.scoping_laws.specs.Created.Held.{free_scopes}
-use Rattle.simulation.specs.Visits.{held_in, at_spot}
-use Rattle.simulation.specs.Calls.{complete_holds}
-use Rattle.simulation.specs.Counted.{Placed, with_in, counted_in, on_counts_lem, count_shown}
-use Rattle.simulation.specs.Started.{zeros_after, zeros_before, visits_after_start, uncounted, placed}
+use Rattle.simulation.proofs.Visits.{held_in, at_spot}
+use Rattle.simulation.proofs.Calls.{complete_holds}
+use Rattle.simulation.proofs.Counted.{Placed, with_in, counted_in, on_counts_lem, count_shown}
+use Rattle.simulation.proofs.Started.{zeros_after, zeros_before, visits_after_start, uncounted, placed}
 use Rattle.writing.specs.Stored.{sets_front}
 use Rattle.bound_laws.specs.Last.{last_spot_lem, last_over, final_over, final_figures_lem}
-use Rattle.charge_laws.specs.Fit.Import.{some_records}
+use Rattle.charge_laws.proofs.Fit.Import.{some_records}
 use Rattle.path.specs.Path.{Tables, tables}
 use Rattle.import_line.specs.Import.{complete_in}
 use Rattle.readback_laws.specs.ReadBack.{Tagged}

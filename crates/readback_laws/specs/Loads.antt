@@ -1,5 +1,2 @@
 -- The Loads written are those read and one for each context.
 pub mod Contexts
-pub mod Program
-pub mod Entered
-pub mod Written

@@ -13,7 +13,7 @@ use Rattle.meaning.specs.Agreement.{ScopesAgree}
 use Rattle.meaning.specs.Renumbering.{named_scopes, new_number, renumbered_scope, renumbered_symbol, renumbered}
 use Rattle.meaning.specs.Charges.{figures, figures_in}
 use Rattle.bound_laws.specs.Numbers.{All, ScopeWithin, SymbolWithin, all_row}
-use Rattle.readback_laws.specs.InBytes.{Small}
+use Rattle.readback_laws.proofs.InBytes.{Small}
 use Rattle.renumbering_laws.specs.Order.{up_from, places_up, up_keeps}
 use Rattle.renumbering_laws.specs.Trees.{
   all_same,

@@ -13,18 +13,18 @@ use Rattle.meaning.specs.ImportLine.{completed}
 use Rattle.meaning.specs.Charges.{Figures, figures_in, figures_at, final_figures}
 use Rattle.meaning.specs.Lowering.{final_spot, lowered_file}
 use Rattle.spec_laws.specs.Trees.{Bytes}
-use Rattle.charge_laws.specs.Totals.Fits.{accepted_fits}
+use Rattle.charge_laws.proofs.Totals.Fits.{accepted_fits}
 use Rattle.bound_laws.specs.Last.{last_spot_lem, final_figures_lem}
 use Rattle.hint_laws.specs.Hints.{given}
 use Rattle.readback_laws.specs.ReadBack.{fields_of, field_count, Tagged}
-use Rattle.readback_laws.specs.Length.{tagged_length}
+use Rattle.readback_laws.proofs.Length.{tagged_length}
 use Rattle.readback_laws.specs.Decoded.{tree_in}
-use Rattle.readback_laws.specs.Back.{Childless, tree_back, hints_back}
-use Rattle.readback_laws.specs.Childless.{calls_childless}
-use Rattle.readback_laws.specs.Written.{file_written}
-use Rattle.readback_laws.specs.Accepted.{calls_tagged}
-use Rattle.readback_laws.specs.InBytes.{Small, small_bytes, calls_small}
-use Rattle.readback_laws.specs.Loads.Written.{is_load, final_loads, loads_back}
+use Rattle.readback_laws.proofs.Back.{Childless, tree_back, hints_back}
+use Rattle.readback_laws.proofs.Childless.{calls_childless}
+use Rattle.readback_laws.proofs.Written.{file_written}
+use Rattle.readback_laws.proofs.Accepted.{calls_tagged}
+use Rattle.readback_laws.proofs.InBytes.{Small, small_bytes, calls_small}
+use Rattle.readback_laws.proofs.Loads.Written.{is_load, final_loads, loads_back}
 use Rattle.agreement_laws.specs.Agreed.{calls_scopes_agree}
 use Rattle.renumbering_laws.specs.Order.{up_from}
 use Rattle.renumbering_laws.specs.Trees.{plain_named, renumbered_tagged, renumbered_childless, renumbered_loads, renumbered_gives}

@@ -10,8 +10,8 @@ use Rattle.meaning.specs.Grammar.{scope_first, scope_second, scope_of}
 use Rattle.meaning.specs.Renumbering.{with_scope}
 use Rattle.spec_laws.specs.Tags.{clash}
 use Rattle.bound_laws.specs.Numbers.{All, HeadWithin}
-use Rattle.readback_laws.specs.Mapped.{KeepsHints}
-use Rattle.readback_laws.specs.Back.{plain_head}
+use Rattle.readback_laws.proofs.Mapped.{KeepsHints}
+use Rattle.readback_laws.proofs.Back.{plain_head}
 
 -- ---- where the number stands
 

@@ -15,8 +15,8 @@ use Rattle.meaning.specs.Charges.{record_bytes}
 use Rattle.bound_laws.specs.Numbers.{All, TreeWithin}
 use Rattle.hint_laws.specs.Hints.{of_source, given}
 use Rattle.readback_laws.specs.ReadBack.{Tagged}
-use Rattle.readback_laws.specs.Mapped.{mapped, mapped_gives}
-use Rattle.readback_laws.specs.Back.{plain, Childless}
+use Rattle.readback_laws.proofs.Mapped.{mapped, mapped_gives}
+use Rattle.readback_laws.proofs.Back.{plain, Childless}
 use Rattle.readback_laws.specs.Loads.Contexts.{load_of, loads}
 use Rattle.renumbering_laws.specs.Heads.{with_tag, scope_with, with_own, named_with, with_within, scope_plain, renumbering_keeps}
 

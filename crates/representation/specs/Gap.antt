@@ -1,4 +1,2 @@
 -- What streaming through the gap does to the rows of a tree.
 pub mod Cells
-pub mod Rows
-pub mod Streams

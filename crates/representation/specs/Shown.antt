@@ -1,3 +1,2 @@
 -- The tree, the scopes and the symbols that tables show.
 pub mod Shown
-pub mod Held

@@ -13,17 +13,17 @@ use Rattle.meaning.specs.Reading.{accepted}
 use Rattle.meaning.specs.Walk.{store_at, store_of, start}
 use Rattle.meaning.specs.Lowering.{admit}
 use Rattle.parsing.specs.Counts.{size_bytes}
-use Rattle.charge_laws.specs.Totals.Fits.{accepted_room}
+use Rattle.charge_laws.proofs.Totals.Fits.{accepted_room}
 use Rattle.tables.specs.Columns.SymbolTable
 use Rattle.tables.specs.Table.{counts_at}
 use Rattle.mentions.specs.Counters.{add_record_f, add_rows_f}
 use Rattle.mentions.specs.Sums.{heads_of, two_a_record, counts_from, counted_tree}
 use Rattle.path.specs.Path.{Tables, tables}
 use Rattle.representation.specs.Spots.Spots.{rest_at, Rest, walk_at, held}
-use Rattle.representation.specs.Spots.Lengths.{store_settled}
-use Rattle.representation.specs.Counts.Rows.{heads_length}
-use Rattle.representation.specs.Counts.Heads.{after_heads, settle_stands}
-use Rattle.representation.specs.Counts.Held.{with_counts, cells_length, zeros_split, on_held, rest_rows}
+use Rattle.representation.proofs.Spots.Lengths.{store_settled}
+use Rattle.representation.proofs.Counts.Rows.{heads_length}
+use Rattle.representation.proofs.Counts.Heads.{after_heads, settle_stands}
+use Rattle.representation.proofs.Counts.Held.{with_counts, cells_length, zeros_split, on_held, rest_rows}
 use Rattle.start.specs.Start.{lent_in, free_rows, zeros_behind, counts_behind}
 use Rattle.start.specs.Flat.{counted_f}
 use Rattle.start.specs.Filled.{read_most, admitted}

@@ -16,7 +16,7 @@ use Rattle.meaning.specs.Lowering.{Lent, check_mode, check_rows, check_file, adm
 use Rattle.parsing.specs.Outcomes.{Holds, bind, bind_any}
 use Rattle.parsing.specs.Parsed.{ParsedFile}
 use Rattle.parsing.specs.Files.{file_parsed}
-use Rattle.charge_laws.specs.Totals.Fits.{accepted_fits}
+use Rattle.charge_laws.proofs.Totals.Fits.{accepted_fits}
 use Rattle.checking.specs.Survey.{layout_of}
 use Rattle.path.specs.declared.Walk.{Walk}
 use Rattle.path.specs.Path.{Tables, tables}
@@ -28,7 +28,7 @@ use Rattle.start.specs.Start.{lent_in, free_rows, zeros_behind}
 use Rattle.start.specs.Flat.{walk_f, fill_f}
 use Rattle.start.specs.Rows.{scopes_are, symbols_are}
 use Rattle.start.specs.Records.{records_are}
-use Rattle.representation.specs.Run.{parsed_run}
+use Rattle.representation.proofs.Run.{parsed_run}
 
 tables_eq : {x y : Tables} → x.records ≡ y.records → x.scopes ≡ y.scopes → x.symbols ≡ y.symbols → x.walk ≡ y.walk → x ≡ y
 tables_eq e₁ e₂ e₃ e₄ = λ i. record { records = e₁ i; scopes = e₂ i; symbols = e₃ i; walk = e₄ i }

@@ -9,8 +9,8 @@ use Rattle.tables.specs.Loops.{turns}
 use Rattle.tables.specs.Table.{set_row_f}
 use Rattle.tables.specs.declared.Row.{Row}
 use Rattle.representation.specs.Gap.Cells.{table, zeros, free, length_free}
-use Rattle.representation.specs.Gap.Rows.{set_row_lem, length_snoc}
-use Rattle.representation.specs.Run.{Run}
+use Rattle.representation.proofs.Gap.Rows.{set_row_lem, length_snoc}
+use Rattle.representation.proofs.Run.{Run}
 use Rattle.start.specs.Flat.{cleared, filling, next_record, records_f}
 use Rattle.start.specs.Rows.{blank, cleared_is}
 

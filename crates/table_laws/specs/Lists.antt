@@ -1,4 +1,1 @@
--- What taking up a list does to the rows of a tree.
-pub mod TakeUp
-pub mod Plan
 pub mod Try

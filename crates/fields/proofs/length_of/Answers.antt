@@ -1,7 +1,8 @@
 -- `fields::length_of` meets its contract. Assumes nothing.
 use mathlib.Core.Path.{refl, sym, ◌∙◌}
 use borrow.Author.Rules.{rules}
-use Rattle.fields.specs.Lengths.{lengths, lengths_right, lengths_behind}
+use Rattle.fields.specs.Lengths.{lengths}
+use Rattle.fields.proofs.Lengths.{lengths_right, lengths_behind}
 -- an answer that is the table's entry is 01's length
 use Rattle.fields.proofs.length_of.Goals as goal
 

@@ -3,7 +3,7 @@
 use Rattle.std.specs.Prelude.{◌≡◌, refl, Bool, true, false, List, ◌∷◌, ℕ, zero, suc, ◌+◌, ◌≤◌, length}
 use Rattle.std.proofs.Common.{arith}
 use Rattle.meaning.specs.Scoping.{Store}
-use Rattle.charge_laws.specs.Growth.Rows.{Grown, one_if}
+use Rattle.charge_laws.proofs.Growth.Rows.{Grown, one_if}
 use Rattle.representation.specs.Store.Held.{scope_cells, symbol_cells, ctx_of}
 use Rattle.statements.specs.declared.Parts.{Parts}
 use Rattle.creation.specs.Creation.{InRows, in_rows, Creating, creating}

@@ -12,17 +12,17 @@ use Rattle.meaning.specs.Shapes.{block, try_statement}
 use Rattle.meaning.specs.Statements.{take_up, make_context, transform_statements, create_try_stmt}
 use Rattle.meaning.specs.Contexts.{transform_block_statement, enter_function_body}
 use Rattle.meaning.specs.Due.{missing}
-use Rattle.charge_laws.specs.Growth.Rows.{one_if, scope_below, bindings_moved}
-use Rattle.charge_laws.specs.Growth.Made.{try_grows}
+use Rattle.charge_laws.proofs.Growth.Rows.{one_if, scope_below, bindings_moved}
+use Rattle.charge_laws.proofs.Growth.Made.{try_grows}
 use Rattle.tables.specs.declared.Row.{Row}
 use Rattle.representation.specs.Gap.Cells.{table, rows_of}
 use Rattle.scoping.specs.Changes.{move_block_scoped_f}
 use Rattle.representation.specs.Store.Held.{scope_cells, symbol_cells, ctx_of, symbols_held}
-use Rattle.representation.specs.Store.Symbols.{bindings_ctx}
-use Rattle.representation.specs.Store.Moved.{block_scoped_moved}
-use Rattle.representation.specs.Store.Agreed.{Agreed, below_agreed, bindings_agreed}
+use Rattle.representation.proofs.Store.Symbols.{bindings_ctx}
+use Rattle.representation.proofs.Store.Moved.{block_scoped_moved}
+use Rattle.representation.proofs.Store.Agreed.{Agreed, below_agreed, bindings_agreed}
 use Rattle.statements.specs.declared.Parts.{Parts}
-use Rattle.table_laws.specs.Lists.Plan.{awaits, any_awaits}
+use Rattle.table_laws.proofs.Lists.Plan.{awaits, any_awaits}
 use Rattle.table_laws.specs.Lists.Try.{context_of, handlers_of}
 use Rattle.creation.specs.Creation.{with_ctx_f}
 use Rattle.creation.specs.Kinds.{for_block_f, for_body_f}

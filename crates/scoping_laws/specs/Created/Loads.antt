@@ -13,14 +13,14 @@ use Rattle.meaning.specs.Shapes.{load}
 use Rattle.meaning.specs.HelperLoader.{make_helper, load_runtime, load_external, is_first, helper_load}
 use Rattle.meaning.specs.Statements.{make_context, transform_statements}
 use Rattle.meaning.specs.Due.{missing}
-use Rattle.charge_laws.specs.Growth.Rows.{one_if}
-use Rattle.charge_laws.specs.Growth.Loading.{load_grows}
+use Rattle.charge_laws.proofs.Growth.Rows.{one_if}
+use Rattle.charge_laws.proofs.Growth.Loading.{load_grows}
 use Rattle.tables.specs.Table.{capped}
 use Rattle.scoping.specs.Rows.{with_context, with_helper}
 use Rattle.representation.specs.Store.Held.{scope_cells, symbol_cells, ctx_of, symbols_held}
-use Rattle.representation.specs.Store.Symbols.{symbol_made, symbol_number_lem}
-use Rattle.representation.specs.Store.Searches.{find_is}
-use Rattle.representation.specs.Store.Agreed.{Agreed, agrees_length, symbol_agreed}
+use Rattle.representation.proofs.Store.Symbols.{symbol_made, symbol_number_lem}
+use Rattle.representation.proofs.Store.Searches.{find_is}
+use Rattle.representation.proofs.Store.Agreed.{Agreed, agrees_length, symbol_agreed}
 use Rattle.helper_loader.specs.Load.{Loading, loading, loaded_f, make_helper_f, load_runtime_f, helper_load_f}
 use Rattle.creation.specs.Creation.{Transforming, transforming, make_context_f, load_context_f, transform_statements_f}
 use Rattle.scoping_laws.specs.Created.Held.{free_symbols, free_first, next_symbol, Room, room_before}

@@ -20,17 +20,17 @@ use Rattle.meaning.specs.Contexts.{
   transform_switch_statement,
 }
 use Rattle.meaning.specs.Due.{missing}
-use Rattle.charge_laws.specs.Growth.Rows.{Grown, one_if, both, child_scope, scope_parent, scope_below}
-use Rattle.charge_laws.specs.Growth.Loading.{load_grows}
-use Rattle.charge_laws.specs.Growth.Made.{try_grows}
+use Rattle.charge_laws.proofs.Growth.Rows.{Grown, one_if, both, child_scope, scope_parent, scope_below}
+use Rattle.charge_laws.proofs.Growth.Loading.{load_grows}
+use Rattle.charge_laws.proofs.Growth.Made.{try_grows}
 use Rattle.tables.specs.declared.Row.{Row}
 use Rattle.representation.specs.Gap.Cells.{table, rows_of}
 use Rattle.scoping.specs.Changes.{create_child_scope_f, change_scope_parent_f}
 use Rattle.representation.specs.Store.Held.{scope_cells, ctx_of, scopes_held, symbols_held}
-use Rattle.representation.specs.Store.Scopes.{child_scope_made, child_scope_number, parent_changed, parent_ctx}
-use Rattle.representation.specs.Store.Agreed.{Agreed, child_scope_agreed, parent_agreed, below_agreed}
+use Rattle.representation.proofs.Store.Scopes.{child_scope_made, child_scope_number, parent_changed, parent_ctx}
+use Rattle.representation.proofs.Store.Agreed.{Agreed, child_scope_agreed, parent_agreed, below_agreed}
 use Rattle.statements.specs.declared.Parts.{Parts}
-use Rattle.table_laws.specs.Lists.Plan.{awaits, any_awaits}
+use Rattle.table_laws.proofs.Lists.Plan.{awaits, any_awaits}
 use Rattle.table_laws.specs.Lists.Try.{context_of, handlers_of}
 use Rattle.creation.specs.Creation.{load_context_f, create_try_stmt_f}
 use Rattle.creation.specs.Kinds.{for_loop_f, for_switch_f}

@@ -19,15 +19,15 @@ use Rattle.meaning.specs.Shapes.{block, try_statement}
 use Rattle.meaning.specs.Statements.{take_up, make_context, transform_statements, create_try_stmt}
 use Rattle.meaning.specs.Contexts.{exit_static_block, transform_try_block}
 use Rattle.meaning.specs.Due.{missing}
-use Rattle.charge_laws.specs.Growth.Rows.{one_if, scope_between, scope_flags, binding_moved as binding_grows}
-use Rattle.charge_laws.specs.Growth.Made.{try_grows}
+use Rattle.charge_laws.proofs.Growth.Rows.{one_if, scope_between, scope_flags, binding_moved as binding_grows}
+use Rattle.charge_laws.proofs.Growth.Made.{try_grows}
 use Rattle.scoping.specs.Changes.{move_binding_f, set_scope_flags_f}
 use Rattle.representation.specs.Store.Held.{scope_cells, symbol_cells, ctx_of, scopes_held, symbols_held}
-use Rattle.representation.specs.Store.Scopes.{scope_inserted, inserted_number, scope_flags_set, scope_flags_ctx}
-use Rattle.representation.specs.Store.Symbols.{binding_moved, binding_ctx}
-use Rattle.representation.specs.Store.Agreed.{Agreed, inserted_agreed, binding_agreed, scope_flags_agreed}
+use Rattle.representation.proofs.Store.Scopes.{scope_inserted, inserted_number, scope_flags_set, scope_flags_ctx}
+use Rattle.representation.proofs.Store.Symbols.{binding_moved, binding_ctx}
+use Rattle.representation.proofs.Store.Agreed.{Agreed, inserted_agreed, binding_agreed, scope_flags_agreed}
 use Rattle.statements.specs.declared.Parts.{Parts}
-use Rattle.table_laws.specs.Lists.Plan.{awaits}
+use Rattle.table_laws.proofs.Lists.Plan.{awaits}
 use Rattle.table_laws.specs.Lists.Try.{context_of, handlers_of}
 use Rattle.creation.specs.Creation.{with_ctx_f}
 use Rattle.creation.specs.Kinds.{for_static_block_f, for_try_part_f}

@@ -16,12 +16,12 @@ use Rattle.tables.specs.Loops.{until, stopped}
 use Rattle.tables.specs.Table.{cap_one, capped, row_f}
 use Rattle.tables.specs.declared.Row.{Row}
 use Rattle.representation.specs.Gap.Cells.{table, line, rows_of, length_rows}
-use Rattle.representation.specs.Gap.Rows.{row_at_lem, length_snoc}
+use Rattle.representation.proofs.Gap.Rows.{row_at_lem, length_snoc}
 use Rattle.scoping.specs.Changes.{in_scopes, change_scope_parent_f}
 use Rattle.scoping.specs.declared.Ctx.{Ctx}
 use Rattle.representation.specs.Store.Held.{scope_cells, symbol_cells, ctx_of, scopes_held}
-use Rattle.representation.specs.Store.Scopes.{parent_changed, parent_ctx, child_scope_made, child_scope_number}
-use Rattle.table_laws.specs.Lists.Plan.{cap_sum}
+use Rattle.representation.proofs.Store.Scopes.{parent_changed, parent_ctx, child_scope_made, child_scope_number}
+use Rattle.table_laws.proofs.Lists.Plan.{cap_sum}
 use Rattle.creation.specs.Scopes.{ScopeMoveF, scope_move_f, move_scope_f, passed, move_scopes_f, insert_scope_below_f}
 use Rattle.scoping_laws.specs.Created.Held.{free_scopes}
 use Rattle.spec_laws.specs.Bools.{and-false, one_less, some}

@@ -8,13 +8,13 @@ use Rattle.meaning.specs.Tree.{Forest, ◌&◌}
 use Rattle.meaning.specs.Scoping.{Store, create_child_scope, create_symbol}
 use Rattle.meaning.specs.Shapes.{block, try_statement}
 use Rattle.meaning.specs.Statements.{create_catch_clause, create_finally_block, create_try_stmt}
-use Rattle.charge_laws.specs.Growth.Rows.{child_scope}
-use Rattle.charge_laws.specs.Growth.Made.{try_grows}
+use Rattle.charge_laws.proofs.Growth.Rows.{child_scope}
+use Rattle.charge_laws.proofs.Growth.Made.{try_grows}
 use Rattle.tables.specs.Table.{cap_one}
 use Rattle.representation.specs.Store.Held.{scope_cells, symbol_cells, ctx_of}
-use Rattle.representation.specs.Store.Scopes.{child_scope_made, child_scope_number}
-use Rattle.representation.specs.Store.Symbols.{symbol_made}
-use Rattle.representation.specs.Store.Agreed.{Agreed, agrees_length, child_scope_agreed, symbol_agreed}
+use Rattle.representation.proofs.Store.Scopes.{child_scope_made, child_scope_number}
+use Rattle.representation.proofs.Store.Symbols.{symbol_made}
+use Rattle.representation.proofs.Store.Agreed.{Agreed, agrees_length, child_scope_agreed, symbol_agreed}
 use Rattle.statements.specs.Try.{step_form}
 use Rattle.statements.specs.declared.Parts.{Parts}
 use Rattle.table_laws.specs.Lists.Try.{handlers_of}

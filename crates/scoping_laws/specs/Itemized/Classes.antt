@@ -24,12 +24,12 @@ use Rattle.meaning.specs.Program.{
 use Rattle.tables.specs.Table.{closed_row_f}
 use Rattle.tables.specs.declared.Row.{Row}
 use Rattle.representation.specs.Gap.Cells.{line, rows_of, gapped}
-use Rattle.representation.specs.Gap.Rows.{next_gapped}
+use Rattle.representation.proofs.Gap.Rows.{next_gapped}
 use Rattle.scoping.specs.Changes.{in_symbols}
 use Rattle.scoping.specs.declared.Ctx.{Ctx}
 use Rattle.representation.specs.Store.Held.{symbol_cells, symbols_held}
-use Rattle.representation.specs.Store.Symbols.{name_is, made_is, symbol_flags_set, symbol_flags_ctx, symbol_number_lem, symbol_made}
-use Rattle.representation.specs.Store.Agreed.{Agreed, agrees_length, symbol_agreed, symbol_flags_agreed}
+use Rattle.representation.proofs.Store.Symbols.{name_is, made_is, symbol_flags_set, symbol_flags_ctx, symbol_number_lem, symbol_made}
+use Rattle.representation.proofs.Store.Agreed.{Agreed, agrees_length, symbol_agreed, symbol_flags_agreed}
 use Rattle.scoping_laws.specs.Created.Held.{free_symbols}
 use Rattle.rewrite_items.specs.Items.{
   drop_f,

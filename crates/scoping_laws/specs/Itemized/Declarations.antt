@@ -10,15 +10,15 @@ use Rattle.meaning.specs.Scoping.{Store, set_symbol_flags, set_flags_of}
 use Rattle.meaning.specs.Shapes.{export_named}
 use Rattle.meaning.specs.Statements.{is_using}
 use Rattle.meaning.specs.Program.{bound_names, specifiers, top_level_declaration, exported_declaration}
-use Rattle.charge_laws.specs.Growth.Rows.{flags_of}
+use Rattle.charge_laws.proofs.Growth.Rows.{flags_of}
 use Rattle.tables.specs.Table.{capped, closed_row_f}
 use Rattle.tables.specs.Stream.{Buf}
 use Rattle.tables.specs.declared.Row.{Row}
 use Rattle.representation.specs.Gap.Cells.{free, line, rows_of, gapped}
-use Rattle.representation.specs.Gap.Rows.{next_gapped, emit_gapped, length_snoc}
+use Rattle.representation.proofs.Gap.Rows.{next_gapped, emit_gapped, length_snoc}
 use Rattle.scoping.specs.declared.Ctx.{Ctx}
 use Rattle.representation.specs.Store.Held.{symbol_cells, ctx_of, symbols_held}
-use Rattle.representation.specs.Store.Symbols.{symbol_flags_ctx}
+use Rattle.representation.proofs.Store.Symbols.{symbol_flags_ctx}
 use Rattle.rewrite_items.specs.Names.{count_names_f, flag_names_f}
 use Rattle.rewrite_items.specs.Items.{recorded_f, declared_f, exported_declaration_f}
 use Rattle.scoping_laws.specs.Itemized.Rows.{table_behind, length_behind, next_behind, next_n, drop_gapped, pass_record}

@@ -9,7 +9,7 @@ use Rattle.tables.specs.Stream.{Buf}
 use Rattle.tables.specs.declared.Row.{Row}
 use Rattle.representation.specs.Gap.Cells.{line, rows_of, gapped}
 use Rattle.representation.specs.Store.Held.{symbol_cells, ctx_of}
-use Rattle.representation.specs.Store.Agreed.{Agreed}
+use Rattle.representation.proofs.Store.Agreed.{Agreed}
 use Rattle.scoping_laws.specs.Created.Held.{free_symbols}
 use Rattle.rewrite_items.specs.Kinds.{item_f}
 use Rattle.rewrite_items.specs.Items.{PassingF, passing_f, transform_as, transform_item_f}

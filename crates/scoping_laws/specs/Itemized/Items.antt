@@ -21,12 +21,12 @@ use Rattle.meaning.specs.Program.{
   program_item,
 }
 use Rattle.meaning.specs.Charges.{line_charge, total, act_lines, item_lines}
-use Rattle.charge_laws.specs.Growth.Items.{Export, Alone, alone, ChosenItem, as_kept, as_moved, as_class, as_declaration, as_exported_declaration, as_exported_class, as_default_class, as_default_value, only_item}
+use Rattle.charge_laws.proofs.Growth.Items.{Export, Alone, alone, ChosenItem, as_kept, as_moved, as_class, as_declaration, as_exported_declaration, as_exported_class, as_default_class, as_default_value, only_item}
 use Rattle.tables.specs.Stream.{Buf}
 use Rattle.tables.specs.declared.Row.{Row}
 use Rattle.representation.specs.Gap.Cells.{line, rows_of, gapped}
-use Rattle.representation.specs.Gap.Streams.{copy_all}
-use Rattle.representation.specs.Store.Agreed.{Agreed, flags_agreed}
+use Rattle.representation.proofs.Gap.Streams.{copy_all}
+use Rattle.representation.proofs.Store.Agreed.{Agreed, flags_agreed}
 use Rattle.scoping_laws.specs.Created.Held.{free_symbols}
 use Rattle.rewrite_items.specs.Items.{copied_f}
 use Rattle.rewrite_items.specs.declared.Item.TheVariants.{

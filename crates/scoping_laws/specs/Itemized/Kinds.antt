@@ -17,11 +17,11 @@ use Rattle.meaning.specs.Program.{
   keeps_default,
 }
 use Rattle.spec_laws.specs.Tags.{clash}
-use Rattle.charge_laws.specs.Growth.Items.{Alone, alone, function, module_line, no_default, default_function, no_export, export_other, ChosenItem, as_kept, as_moved, as_class, as_declaration, as_exported_declaration, as_exported_class, as_default_class, as_default_value}
+use Rattle.charge_laws.proofs.Growth.Items.{Alone, alone, function, module_line, no_default, default_function, no_export, export_other, ChosenItem, as_kept, as_moved, as_class, as_declaration, as_exported_declaration, as_exported_class, as_default_class, as_default_value}
 use Rattle.tables.specs.Table.{capped, row_f}
 use Rattle.tables.specs.declared.Row.{Row}
 use Rattle.representation.specs.Gap.Cells.{line, rows_of, gapped}
-use Rattle.representation.specs.Gap.Rows.{next_gapped}
+use Rattle.representation.proofs.Gap.Rows.{next_gapped}
 use Rattle.rewrite_items.specs.Kinds.{item_f, default_item_f, default_class_item_f, exported_item_f}
 use Rattle.rewrite_items.specs.declared.Item.{Item}
 use Rattle.rewrite_items.specs.declared.Item.TheVariants.{

@@ -12,18 +12,18 @@ use Rattle.meaning.specs.File.{Symbol}
 use Rattle.meaning.specs.Scoping.{Store, symbol_in, set_symbol_flags, set_flags_of}
 use Rattle.meaning.specs.Contexts.{names_in}
 use Rattle.meaning.specs.Program.{bound_names, specifiers}
-use Rattle.charge_laws.specs.Growth.Rows.{flags_of}
+use Rattle.charge_laws.proofs.Growth.Rows.{flags_of}
 use Rattle.tables.specs.Table.{cap_one, column_f, closed_row_f}
 use Rattle.tables.specs.Stream.{Buf, emit_f}
 use Rattle.tables.specs.declared.Row.{Row}
 use Rattle.representation.specs.Gap.Cells.{table, free, line, rows_of, gapped}
-use Rattle.representation.specs.Gap.Rows.{length_snoc, emit_gapped}
+use Rattle.representation.proofs.Gap.Rows.{length_snoc, emit_gapped}
 use Rattle.scoping.specs.Rows.{symbol_number}
 use Rattle.scoping.specs.Changes.{SymbolRows}
 use Rattle.scoping.specs.declared.Ctx.{Ctx}
 use Rattle.representation.specs.Store.Held.{symbol_cells, ctx_of, symbols_held}
-use Rattle.representation.specs.Store.Symbols.{name_is, symbol_flags_set, symbol_flags_ctx}
-use Rattle.table_laws.specs.Lists.Plan.{cap_sum}
+use Rattle.representation.proofs.Store.Symbols.{name_is, symbol_flags_set, symbol_flags_ctx}
+use Rattle.table_laws.proofs.Lists.Plan.{cap_sum}
 use Rattle.rewrite_items.specs.Names.{
   is_name_f,
   next_name_f,

@@ -11,13 +11,13 @@ use Rattle.meaning.specs.Scoping.{Store}
 use Rattle.meaning.specs.Program.{item_act, program_item, program_items}
 use Rattle.meaning.specs.Charges.{total, act_lines, item_lines}
 use Rattle.spec_laws.specs.Figures.{total_++}
-use Rattle.charge_laws.specs.Growth.Items.{Export, Exports, only_item}
-use Rattle.charge_laws.specs.Growth.Program.{item_pays}
+use Rattle.charge_laws.proofs.Growth.Items.{Export, Exports, only_item}
+use Rattle.charge_laws.proofs.Growth.Program.{item_pays}
 use Rattle.tables.specs.Loops.{turns}
 use Rattle.tables.specs.Stream.{Buf}
 use Rattle.tables.specs.declared.Row.{Row}
 use Rattle.representation.specs.Gap.Cells.{rows_of, gapped, length_rows, size_&}
-use Rattle.representation.specs.Store.Agreed.{Agreed}
+use Rattle.representation.proofs.Store.Agreed.{Agreed}
 use Rattle.scoping_laws.specs.Created.Held.{free_symbols}
 use Rattle.rewrite_items.specs.Items.{PassingF, transform_item_f}
 use Rattle.scoping_laws.specs.Itemized.Held.{held}

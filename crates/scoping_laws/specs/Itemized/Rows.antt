@@ -14,9 +14,9 @@ use Rattle.tables.specs.Table.{cap_one, capped, column_f, row_f, closed_row_f, s
 use Rattle.tables.specs.Stream.{replace_row_f, copy_f}
 use Rattle.tables.specs.declared.Row.{Row}
 use Rattle.representation.specs.Gap.Cells.{table, zeros, free, line, rows_of, gapped, length_free}
-use Rattle.representation.specs.Gap.Rows.{set_row_lem, row_at_lem, length_snoc, emit_gapped, pass_as_gapped, next_gapped}
-use Rattle.representation.specs.Gap.Streams.{copy_all}
-use Rattle.table_laws.specs.Lists.Try.{declare_law}
+use Rattle.representation.proofs.Gap.Rows.{set_row_lem, row_at_lem, length_snoc, emit_gapped, pass_as_gapped, next_gapped}
+use Rattle.representation.proofs.Gap.Streams.{copy_all}
+use Rattle.table_laws.proofs.Lists.Try.{declare_law}
 use Rattle.rewrite_items.specs.Items.{drop_f, export_rows_f, value_rows_f}
 
 -- ---- the rows behind the gap, after the first of them

@@ -5,7 +5,7 @@ use Rattle.meaning.specs.Numbers.Tag
 use Rattle.meaning.specs.Tree.{one_of, Head, Forest, none, more}
 use Rattle.meaning.specs.Scoping.{Store}
 use Rattle.meaning.specs.Program.{transform_class_decl, Split, top_level_class, top_level_declaration, exported_declaration, exported_class, default_class, default_value, ItemAct, item_as, program_item}
-use Rattle.charge_laws.specs.Growth.Items.{Anything, anything, staying_tag, ChosenItem, as_kept, as_moved, as_class, as_declaration, as_exported_declaration, as_exported_class, as_default_class, as_default_value, chosen_item}
+use Rattle.charge_laws.proofs.Growth.Items.{Anything, anything, staying_tag, ChosenItem, as_kept, as_moved, as_class, as_declaration, as_exported_declaration, as_exported_class, as_default_class, as_default_value, chosen_item}
 
 -- functions, imports and exports
 abbrev pub stays : ℕ → Bool

@@ -2,7 +2,7 @@
 -- Assumes nothing.
 use Rattle.std.specs.Prelude.{if◌then◌else◌, ◌≡◌, Bool, not, eqb}
 use Rattle.std.proofs.Math.Path.{refl, ap}
-use Rattle.std.proofs.Common.{sym, ◌∙◌, zero-add}
+use Rattle.std.proofs.Common.{sym, ◌∙◌}
 use Rattle.std.proofs.Math.Bool.{true, false}
 use mathlib.Core.List.{List, ◌++◌, append_assoc}
 use Prim.Native.Nat.{ℕ, suc, ◌+◌, ◌-◌, ◌≤◌}
@@ -10,42 +10,33 @@ use native.Mathlib.Omega.{arith}
 use Rattle.std.proofs.Math.ListN.{length, length-append}
 use Rattle.meaning.specs.Tree.{Head, Forest, Node, node, one, single, count, size}
 use Rattle.meaning.specs.Scoping.{Store, return}
-use Rattle.meaning.specs.Statements.{any_using, take_up}
+use Rattle.meaning.specs.Statements.{any_using}
 use Rattle.meaning.specs.Contexts.{exit_static_block}
 use Rattle.meaning.specs.Charges.{wraps}
 use Rattle.meaning.specs.Walk.{Crumb}
 use Rattle.meaning.specs.Due.{missing}
-use Rattle.charge_laws.specs.Growth.Rows.{one_if}
-use Rattle.tables.specs.Table.{capped, column_f, row_f, closed_row_f}
+use Rattle.charge_laws.proofs.Growth.Rows.{one_if}
+use Rattle.tables.specs.Table.{capped, column_f, row_f}
 use Rattle.tables.specs.Stream.{Buf, take_back_f}
 use Rattle.tables.specs.declared.Row.{Row}
 use Rattle.path.specs.Path.{Tables, tables, with_cursor_f, with_ctx_f}
 use Rattle.representation.specs.Gap.Cells.{free, line, rows_of, gapped, length_rows}
-use Rattle.representation.specs.Gap.Rows.{n_at, next_gapped, take_back_gapped}
+use Rattle.representation.proofs.Gap.Rows.{n_at, next_gapped, take_back_gapped}
 use Rattle.representation.specs.Store.Held.{scope_cells, symbol_cells, ctx_of}
-use Rattle.representation.specs.Store.Agreed.{Agreed}
 use Rattle.representation.specs.Spots.Spots.{Rest}
-use Rattle.representation.specs.Spots.Scopes.{under}
-use Rattle.representation.specs.Spots.Lengths.{walk_eq}
+use Rattle.representation.proofs.Spots.Scopes.{under}
+use Rattle.representation.proofs.Spots.Lengths.{walk_eq}
 use Rattle.statements.specs.Plan.{plan, no_plan, plan_f}
-use Rattle.statements.specs.declared.Plan.{Plan}
-use Rattle.charge_laws.specs.Growth.Trees.{list_taken}
-use Rattle.table_laws.specs.Lists.Plan.{usings, awaits, any_usings, cap_sum}
-use Rattle.scoping_laws.specs.Created.Held.{free_scopes, free_symbols, Room}
-use Rattle.scoping_laws.specs.Created.Parts.{static_parts, static_held, static_node, static_room}
-use Rattle.rewrite_contexts.specs.Lists.{list_scope, wrapped_rows_f, exit_static_block_f}
-use Rattle.table_laws.specs.Streamed.Places.{one_row, plan_below}
-use Rattle.table_laws.specs.Streamed.Lists.{wrapped_rows_law}
-use Rattle.simulation.specs.Rewritten.Replaced.{with_free}
-use Rattle.simulation.specs.Rewritten.Contexts.{try_size}
-use Rattle.walk.specs.Visit.{leave_block_f}
+use Rattle.table_laws.proofs.Lists.Plan.{usings, awaits, any_usings, cap_sum}
+use Rattle.scoping_laws.specs.Created.Held.{free_scopes, free_symbols}
+use Rattle.table_laws.proofs.Streamed.Places.{one_row, plan_below}
 use Rattle.simulation.specs.Leaving.Standing.{behind, walk_in, rows_in, standing}
 
 module _ (before after : Forest) (path : List Crumb) (h : Head) (k : Forest) (st : Store) where
-  abbrev up_to : List Row
+  abbrev pub up_to : List Row
   up_to = under before after path
 
-  abbrev v : List Row
+  abbrev pub v : List Row
   v = behind before after path
 
   -- ---- its list
@@ -55,7 +46,7 @@ module _ (before after : Forest) (path : List Crumb) (h : Head) (k : Forest) (st
     t = rows_in before after path h k g z
 
     -- what it has to take up
-    plan_is : length up_to + size (one h k) ≤ 65535
+    pub plan_is : length up_to + size (one h k) ≤ 65535
         → plan_f t (no_plan (suc (length up_to))) (column_f t (suc (length up_to) - 1) 4)
         ≡ plan (length up_to + suc (size k)) (usings k) (awaits k) (wraps k)
     unfolding size
@@ -66,7 +57,7 @@ module _ (before after : Forest) (path : List Crumb) (h : Head) (k : Forest) (st
         (plan_below z h k up_to (free g ++ v) _ refl (omega arith))
 
     -- its rows stand behind the gap again
-    back_is : length up_to + size (one h k) + 1 ≤ 65535
+    pub back_is : length up_to + size (one h k) + 1 ≤ 65535
         → (let w = walk_in before after path h k st g in
         take_back_f (capped w.visited.0 1 - w.inner.0) (record { t = t; read = w.gap.0; written = w.visited.0 })
         ≡ gapped z up_to g (rows_of (one h k) ++ v))
@@ -82,14 +73,14 @@ module _ (before after : Forest) (path : List Crumb) (h : Head) (k : Forest) (st
   -- ---- its context
 
   module _ (g : ℕ) (z : Rest) where
-    abbrev n : ℕ
+    abbrev pub n : ℕ
     n = wraps k + 12
 
     -- the tables once its rows are taken back
-    abbrev back : Buf
+    abbrev pub back : Buf
     back = gapped z.records up_to (n + g) (rows_of (one h k) ++ v)
 
-    abbrev taken : Tables
+    abbrev pub taken : Tables
     taken =
         tables
         back.t
@@ -97,13 +88,13 @@ module _ (before after : Forest) (path : List Crumb) (h : Head) (k : Forest) (st
         (symbol_cells st.symbols st.as_read (free_symbols (2 + one_if (missing st)) z.symbols))
         (with_cursor_f (walk_in before after path h k st (n + g)) back.read back.written)
 
-    old_is : column_f back.t back.read 1 ≡ h.a
+    pub old_is : column_f back.t back.read 1 ≡ h.a
     unfolding row_f
     old_is =
         rw (one_row h k) (ap (λ (x : Row). x.a) (next_gapped z.records up_to (n + g) (line h (count k)) (rows_of k ++ v)))
 
     -- another record, larger by n, is written
-    written_law : (x : Node) (st' : Store) → size (single x) ≡ size (one h k) + n
+    pub written_law : (x : Node) (st' : Store) → size (single x) ≡ size (one h k) + n
         → (let b = gapped z.records (up_to ++ rows_of (single x)) g v in
         tables
         b.t
@@ -123,34 +114,9 @@ module _ (before after : Forest) (path : List Crumb) (h : Head) (k : Forest) (st
         (symbol_cells st'.symbols st'.as_read z.symbols))
         (walk_eq (omega arith) (omega arith) (omega arith) refl refl))
 
-    -- IT GETS ITS CONTEXT
-    exit_law : (p : Plan) → p.awaits ≡ awaits k
-        → (let e = exit_static_block h k st in
-        length up_to + (n + g) + size (one h k) ≤ 65535 → Agreed st → Room e.1
-        → exit_static_block_f p taken ≡ standing before after path e.0.head e.0.children e.1 g z)
-    unfolding exit_static_block_f with_cursor_f size
-    exit_law p same fits a room =
-        let parts = static_parts h k st (awaits k) in
-        let s = list_scope parts in
-        let ctx = parts.context.0 in
-        let room' = static_room h k st (awaits k) room in
-        let i : n + g ≡ wraps k + (12 + g) = omega arith in
-        let rows = ap
-        (λ (i : ℕ). wrapped_rows_f (closed_row_f 16 s 0 0 1) h.a parts (gapped z.records up_to i (rows_of (one h k) ++ v))) i
-        ∙ wrapped_rows_law z.records 16 s h k h.a parts up_to g v (omega arith) room' in
-        let larger = try_size h.a (take_up ctx k) parts in
-        rw (
-          old_is,
-          same,
-          static_held h k st z.scopes z.symbols (awaits k) a room,
-          rows,
-          static_node h k st (awaits k) refl,
-        )
-        (written_law _ (exit_static_block h k st).1 (omega (arith, larger, list_taken k ctx)))
-
 -- ---- by whether it has a using
 
-no_usings : (k : Forest) (b : Bool) → any_using k ≡ b → eqb (usings k) 0 ≡ not b
+pub no_usings : (k : Forest) (b : Bool) → any_using k ≡ b → eqb (usings k) 0 ≡ not b
 no_usings k b e = not_not (eqb (usings k) 0) ∙ ap not (sym (any_usings k) ∙ e)
   where
     not_not : (c : Bool) → c ≡ not (not c)
@@ -170,23 +136,3 @@ symbols_for b st = if b then 2 + one_if (missing st) else 0
 -- what is put in its place
 abbrev pub leave_by : Bool → Head → Forest → Store → Node × Store
 leave_by b h k st = (if b then exit_static_block h k else return (node h k)) st
-
-module _ (before after : Forest) (path : List Crumb) (h : Head) (k : Forest) (st : Store) (g : ℕ) (z : Rest) where
-  -- THE STATICBLOCK IS LEFT, first by whether it has a using
-  pub leave_block_law : (b : Bool) → any_using k ≡ b
-      → (let n = records_for b k in
-      let e = leave_by b h k st in
-      length (under before after path) + (n + g) + size (one h k) ≤ 65535 → Agreed st → Room e.1
-      → leave_block_f (standing before after path h k st (n + g) (with_free (scopes_for b) (symbols_for b st) z))
-      ≡ standing before after path e.0.head e.0.children e.1 g z)
-  unfolding leave_block_f free_scopes free_symbols
-  leave_block_law true u fits a room =
-      let n = wraps k + 12 in
-      rw (
-        plan_is before after path h k st (n + g) z.records (omega arith),
-        no_usings k true u,
-        back_is before after path h k st (n + g) z.records (omega arith),
-      )
-      (exit_law before after path h k st g z _ refl fits a room)
-  leave_block_law false u fits a room =
-      rw (zero-add g, plan_is before after path h k st g z.records (omega arith), no_usings k false u)

@@ -14,9 +14,9 @@ use Rattle.path.specs.declared.Walk.{Walk}
 use Rattle.representation.specs.Gap.Cells.{table, free, rows_of, length_rows, size_&, rows_&}
 use Rattle.representation.specs.Store.Held.{scope_cells, symbol_cells, ctx_of}
 use Rattle.representation.specs.Spots.Spots.{after_rows_of, opens_at, rest_at, Rest, walk_at, held}
-use Rattle.representation.specs.Spots.Scopes.{depth_law, outer, under, inner_number}
-use Rattle.representation.specs.Spots.Settle.{records_at, records_in, counted, close_law, settle_law}
-use Rattle.representation.specs.Spots.Lengths.{visited_leaving, visited_settled, rest_settled, store_settled, walk_eq}
+use Rattle.representation.proofs.Spots.Scopes.{depth_law, outer, under, inner_number}
+use Rattle.representation.proofs.Spots.Settle.{records_at, records_in, counted, close_law, settle_law}
+use Rattle.representation.proofs.Spots.Lengths.{visited_leaving, visited_settled, rest_settled, store_settled, walk_eq}
 
 module _ (before after : Forest) (path : List Crumb) where
   -- the rows behind the StaticBlock

@@ -1,0 +1,4 @@
+pub mod Totals
+pub mod Growth
+pub mod Counts
+pub mod Fit

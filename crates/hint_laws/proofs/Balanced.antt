@@ -1,0 +1,14 @@
+pub mod Sums
+pub mod Alike
+pub mod Lists
+pub mod Tries
+pub mod Contexts
+pub mod ForSwitch
+pub mod Parts
+pub mod ForOf
+pub mod Items
+pub mod Program
+pub mod Entered
+pub mod Once
+pub mod Visit
+pub mod Settled

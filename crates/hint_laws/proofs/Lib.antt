@@ -1,0 +1,4 @@
+pub mod Outline
+pub mod Requested
+pub mod Balanced
+pub mod Lowered

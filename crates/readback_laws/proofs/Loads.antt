@@ -1,0 +1,4 @@
+pub mod Program
+pub mod Entered
+pub mod Written
+pub mod Contexts

@@ -1,0 +1,4 @@
+pub mod Scopes
+pub mod Settle
+pub mod Lengths
+pub mod Enter
