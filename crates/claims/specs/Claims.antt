@@ -79,7 +79,7 @@ use Rattle.claims.specs.Agreement.{scopes_in_tables}
 use Rattle.claims.specs.Twice.{Wrote, LowersTwice, lowering_twice, lowering_again}
 use Rattle.claims.specs.Order.{InTreeOrder, AgreesInBytes, OneToOne, in_tree_order, agrees_in_bytes, final_one_to_one, numbered_once}
 use Rattle.one_word_laws.specs.Changed.{OneWord}
-use Rattle.one_word_laws.proofs.Reads.{word_read}
+use Rattle.one_word_laws.proofs.ChangedRead.{word_read}
 use Rattle.claims.specs.OneWord.{WordPair, GrowsLittle, with_room, grows_little, LowersTo, room_enough, half_enough, GrowsMost, GrowsLeast, ReachedBy, most_reached, least_reached}
 use Rattle.claims.specs.Letters.{ButLetters, letters_alone}
 use Rattle.claims.specs.Depth.{read_deep, depth_first, read_before, Changed, depth_is_first, answer_changed, still_accepted, once_accepted}

@@ -11,4 +11,4 @@ pub mod Final
 pub mod SameBytes
 pub mod SameRows
 pub mod Reparsed
-pub mod Reads
+pub mod ChangedRead

@@ -41,7 +41,7 @@ use Rattle.representation.specs.Spots.Spots.{opens_at, visited_at, rest_at, Rest
 use Rattle.representation.proofs.Spots.Lengths.{walk_eq}
 use Rattle.representation.proofs.Counts.Heads.{open_heads, over_stands}
 use Rattle.representation.proofs.Counts.Held.{with_counts, some_visited}
-use Rattle.table_laws.proofs.Lists.Plan.{cap_sum}
+use Rattle.table_laws.specs.Lists.Plan.{cap_sum}
 use Rattle.walk.specs.Over.{is_over_in}
 use Rattle.walk.specs.Counted.{Counted, counted, visit_counted_f, complete_counted_f, complete_counted_in, complete_steps}
 use Rattle.walk.specs.Call.{visit_call_f, over_unchanged, call_last, call_goes_on}

@@ -29,7 +29,7 @@ use Rattle.charge_laws.proofs.Growth.Contexts.{block_pays, body_pays, for_pays, 
 use Rattle.charge_laws.proofs.Counts.TakenUp.{Labelled}
 use Rattle.path.specs.Path.{Tables}
 use Rattle.representation.specs.Spots.Spots.{visited_at, rest_at, Rest, held}
-use Rattle.table_laws.proofs.Lists.Plan.{usings, any_usings}
+use Rattle.table_laws.specs.Lists.Plan.{usings, any_usings}
 use Rattle.rewrite_for_switch.specs.For.{plan_for_f}
 use Rattle.table_laws.proofs.Streamed.Cases.{case_usings, any_case_usings}
 use Rattle.simulation.proofs.Rewritten.Standing.{list_plan, cases_plan, n_is, list_plan_lem, cases_plan_lem, for_plan}

@@ -1,4 +1,3 @@
 pub mod Try
+
 -- What taking up a list does to the rows of a tree.
-pub mod TakeUp
-pub mod Plan

@@ -6,5 +6,5 @@ pub mod Sides
 pub mod ForOf
 pub mod Parts
 pub mod Lists
+
 -- What the rewrites of contexts do to the rows of a tree.
-pub mod Places

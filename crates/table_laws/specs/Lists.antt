@@ -1,1 +1,3 @@
+pub mod TakeUp
+pub mod Plan
 pub mod Try

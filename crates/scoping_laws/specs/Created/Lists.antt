@@ -22,7 +22,7 @@ use Rattle.representation.proofs.Store.Symbols.{bindings_ctx}
 use Rattle.representation.proofs.Store.Moved.{block_scoped_moved}
 use Rattle.representation.proofs.Store.Agreed.{Agreed, below_agreed, bindings_agreed}
 use Rattle.statements.specs.declared.Parts.{Parts}
-use Rattle.table_laws.proofs.Lists.Plan.{awaits, any_awaits}
+use Rattle.table_laws.specs.Lists.Plan.{awaits, any_awaits}
 use Rattle.table_laws.specs.Lists.Try.{context_of, handlers_of}
 use Rattle.creation.specs.Creation.{with_ctx_f}
 use Rattle.creation.specs.Kinds.{for_block_f, for_body_f}

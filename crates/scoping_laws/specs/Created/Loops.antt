@@ -30,7 +30,7 @@ use Rattle.representation.specs.Store.Held.{scope_cells, ctx_of, scopes_held, sy
 use Rattle.representation.proofs.Store.Scopes.{child_scope_made, child_scope_number, parent_changed, parent_ctx}
 use Rattle.representation.proofs.Store.Agreed.{Agreed, child_scope_agreed, parent_agreed, below_agreed}
 use Rattle.statements.specs.declared.Parts.{Parts}
-use Rattle.table_laws.proofs.Lists.Plan.{awaits, any_awaits}
+use Rattle.table_laws.specs.Lists.Plan.{awaits, any_awaits}
 use Rattle.table_laws.specs.Lists.Try.{context_of, handlers_of}
 use Rattle.creation.specs.Creation.{load_context_f, create_try_stmt_f}
 use Rattle.creation.specs.Kinds.{for_loop_f, for_switch_f}

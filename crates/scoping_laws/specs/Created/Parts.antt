@@ -27,7 +27,7 @@ use Rattle.representation.proofs.Store.Scopes.{scope_inserted, inserted_number, 
 use Rattle.representation.proofs.Store.Symbols.{binding_moved, binding_ctx}
 use Rattle.representation.proofs.Store.Agreed.{Agreed, inserted_agreed, binding_agreed, scope_flags_agreed}
 use Rattle.statements.specs.declared.Parts.{Parts}
-use Rattle.table_laws.proofs.Lists.Plan.{awaits}
+use Rattle.table_laws.specs.Lists.Plan.{awaits}
 use Rattle.table_laws.specs.Lists.Try.{context_of, handlers_of}
 use Rattle.creation.specs.Creation.{with_ctx_f}
 use Rattle.creation.specs.Kinds.{for_static_block_f, for_try_part_f}

@@ -21,7 +21,7 @@ use Rattle.scoping.specs.Changes.{in_scopes, change_scope_parent_f}
 use Rattle.scoping.specs.declared.Ctx.{Ctx}
 use Rattle.representation.specs.Store.Held.{scope_cells, symbol_cells, ctx_of, scopes_held}
 use Rattle.representation.proofs.Store.Scopes.{parent_changed, parent_ctx, child_scope_made, child_scope_number}
-use Rattle.table_laws.proofs.Lists.Plan.{cap_sum}
+use Rattle.table_laws.specs.Lists.Plan.{cap_sum}
 use Rattle.creation.specs.Scopes.{ScopeMoveF, scope_move_f, move_scope_f, passed, move_scopes_f, insert_scope_below_f}
 use Rattle.scoping_laws.specs.Created.Held.{free_scopes}
 use Rattle.spec_laws.specs.Bools.{and-false, one_less, some}

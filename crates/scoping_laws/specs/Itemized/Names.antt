@@ -23,7 +23,7 @@ use Rattle.scoping.specs.Changes.{SymbolRows}
 use Rattle.scoping.specs.declared.Ctx.{Ctx}
 use Rattle.representation.specs.Store.Held.{symbol_cells, ctx_of, symbols_held}
 use Rattle.representation.proofs.Store.Symbols.{name_is, symbol_flags_set, symbol_flags_ctx}
-use Rattle.table_laws.proofs.Lists.Plan.{cap_sum}
+use Rattle.table_laws.specs.Lists.Plan.{cap_sum}
 use Rattle.rewrite_items.specs.Names.{
   is_name_f,
   next_name_f,

@@ -17,7 +17,7 @@ use Rattle.tables.specs.Table.{cap_one, capped, column_f, row_f}
 use Rattle.tables.specs.declared.Row.{Row}
 use Rattle.representation.specs.Gap.Cells.{table, line, rows_of, length_rows}
 use Rattle.representation.proofs.Gap.Rows.{row_at_lem, length_snoc}
-use Rattle.table_laws.proofs.Lists.Plan.{cap_sum}
+use Rattle.table_laws.specs.Lists.Plan.{cap_sum}
 use Rattle.rewrite_items.specs.Names.{names, first_names, is_name_f, next_name_f, names_done_f}
 use Rattle.rewrite_items.specs.declared.Names.{Names}
 use Rattle.spec_laws.specs.Bools.{and-false, one_less, some}

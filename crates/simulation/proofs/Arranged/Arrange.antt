@@ -14,7 +14,7 @@ use Rattle.tables.specs.Table.{cap_one, capped}
 use Rattle.tables.specs.declared.Row.{Row}
 use Rattle.representation.specs.Gap.Cells.{table, rows_of, length_rows}
 use Rattle.statements.specs.declared.Counting.{Counting}
-use Rattle.table_laws.proofs.Lists.Plan.{cap_sum}
+use Rattle.table_laws.specs.Lists.Plan.{cap_sum}
 use Rattle.rewrite_program.specs.Placing.{number_rows_f}
 use Rattle.table_laws.proofs.Placed.Numbers.{cons, numbered, all_append, rows_closed, number_law}
 use Rattle.table_laws.proofs.Placed.Merge.{Merge, nil, left, right, numbered_append}

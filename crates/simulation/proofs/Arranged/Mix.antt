@@ -14,8 +14,8 @@ use Rattle.tables.specs.Table.{end_f}
 use Rattle.tables.specs.declared.Row.{Row}
 use Rattle.representation.specs.Gap.Cells.{table, line, rows_of, length_rows}
 use Rattle.statements.specs.Plan.{counting}
-use Rattle.table_laws.proofs.Lists.Plan.{cap_sum, end_here}
-use Rattle.table_laws.proofs.Streamed.Places.{tag_here}
+use Rattle.table_laws.specs.Lists.Plan.{cap_sum, end_here}
+use Rattle.table_laws.specs.Streamed.Places.{tag_here}
 use Rattle.rewrite_program.specs.Placing.{number_rows_f}
 use Rattle.table_laws.proofs.Placed.Numbers.{numbered, length_numbered, number_law}
 use Rattle.table_laws.proofs.Placed.Merge.{Merge, nil, lefts, rights, numbered_append}

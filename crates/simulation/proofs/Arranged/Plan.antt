@@ -32,8 +32,8 @@ use Rattle.tables.specs.Table.{row_f}
 use Rattle.tables.specs.declared.Row.{Row}
 use Rattle.representation.specs.Gap.Cells.{table, line, rows_of, count_&, size_&}
 use Rattle.representation.proofs.Gap.Rows.{length_snoc}
-use Rattle.table_laws.proofs.Lists.TakeUp.{length_line}
-use Rattle.table_laws.proofs.Lists.Plan.{cap_sum, parted, row_here, end_here}
+use Rattle.table_laws.specs.Lists.TakeUp.{length_line}
+use Rattle.table_laws.specs.Lists.Plan.{cap_sum, parted, row_here, end_here}
 use Rattle.rewrite_items.specs.Kinds.{item_f}
 use Rattle.rewrite_items.specs.declared.Item.{Item}
 use Rattle.scoping_laws.specs.Itemized.Items.{items_rows}

@@ -29,7 +29,7 @@ use Rattle.representation.specs.Spots.Spots.{visited_at, rest_at, Rest, walk_at,
 use Rattle.creation.specs.Scopes.{insert_scope_below_f}
 use Rattle.scoping_laws.specs.Created.Held.{free_scopes, free_symbols, Room}
 use Rattle.scoping_laws.specs.Created.Scopes.{below_symbols, insert_below_law}
-use Rattle.table_laws.proofs.Streamed.Places.{one_row}
+use Rattle.table_laws.specs.Streamed.Places.{one_row}
 use Rattle.scoping_laws.specs.Itemized.Items.{items_rows, items_symbols}
 use Rattle.scoping_laws.specs.Itemized.Program.{items_store}
 use Rattle.rewrite_program.specs.Plan.{plan, plan_program_f}

@@ -14,7 +14,7 @@ use Rattle.representation.specs.Gap.Cells.{table, free, rows_of, gapped}
 use Rattle.representation.proofs.Gap.Rows.{emit_gapped}
 use Rattle.representation.specs.Store.Held.{symbol_cells, ctx_of}
 use Rattle.representation.proofs.Store.Agreed.{Agreed}
-use Rattle.table_laws.proofs.Lists.Plan.{cap_sum}
+use Rattle.table_laws.specs.Lists.Plan.{cap_sum}
 use Rattle.scoping_laws.specs.Created.Held.{free_symbols}
 use Rattle.rewrite_items.specs.Items.{PassingF}
 use Rattle.scoping_laws.specs.Itemized.Held.{held}

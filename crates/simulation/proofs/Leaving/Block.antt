@@ -23,7 +23,7 @@ use Rattle.representation.specs.Spots.Spots.{Rest}
 use Rattle.representation.proofs.Spots.Scopes.{under}
 use Rattle.statements.specs.declared.Plan.{Plan}
 use Rattle.charge_laws.proofs.Growth.Trees.{list_taken}
-use Rattle.table_laws.proofs.Lists.Plan.{awaits}
+use Rattle.table_laws.specs.Lists.Plan.{awaits}
 use Rattle.scoping_laws.specs.Created.Held.{free_scopes, free_symbols, Room}
 use Rattle.scoping_laws.specs.Created.Parts.{static_parts, static_held, static_node, static_room}
 use Rattle.rewrite_contexts.specs.Lists.{list_scope, wrapped_rows_f, exit_static_block_f}

@@ -14,7 +14,7 @@ use Rattle.tables.specs.Table.{capped, column_f, closed_row_f}
 use Rattle.representation.proofs.Store.Agreed.{Agreed}
 use Rattle.representation.specs.Spots.Spots.{visited_at, rest_at, Rest, held}
 use Rattle.charge_laws.proofs.Growth.Trees.{list_taken}
-use Rattle.table_laws.proofs.Lists.Plan.{awaits, cap_sum}
+use Rattle.table_laws.specs.Lists.Plan.{awaits, cap_sum}
 use Rattle.creation.specs.Kinds.{for_block_f, for_body_f}
 use Rattle.scoping_laws.specs.Created.Held.{Room}
 use Rattle.scoping_laws.specs.Created.Lists.{block_parts, block_held, block_node, block_room, body_parts, body_held, body_node, body_room}

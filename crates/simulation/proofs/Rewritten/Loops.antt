@@ -15,7 +15,7 @@ use Rattle.charge_laws.proofs.Counts.TakenUp.{Labelled}
 use Rattle.tables.specs.Table.{column_f}
 use Rattle.representation.proofs.Store.Agreed.{Agreed}
 use Rattle.representation.specs.Spots.Spots.{visited_at, rest_at, Rest, held}
-use Rattle.table_laws.proofs.Lists.Plan.{awaits, cap_sum}
+use Rattle.table_laws.specs.Lists.Plan.{awaits, cap_sum}
 use Rattle.creation.specs.Kinds.{for_loop_f, for_switch_f}
 use Rattle.scoping_laws.specs.Created.Held.{Room}
 use Rattle.scoping_laws.specs.Created.Loops.{for_parts, for_held, for_node, for_room, switch_parts, switch_held, switch_node, switch_room}

@@ -14,7 +14,7 @@ use Rattle.representation.specs.Gap.Cells.{table, zeros, free, rows_of, gapped}
 use Rattle.representation.specs.Store.Held.{scope_cells, symbol_cells, ctx_of}
 use Rattle.representation.specs.Spots.Spots.{after_rows_of, opens_at, visited_at, rest_at, Rest, walk_at, held}
 use Rattle.representation.proofs.Spots.Lengths.{rest_at_lem, walk_eq}
-use Rattle.table_laws.proofs.Streamed.Places.{more_rows}
+use Rattle.table_laws.specs.Streamed.Places.{more_rows}
 use Rattle.scoping_laws.specs.Created.Held.{free_scopes, free_symbols}
 use Rattle.simulation.proofs.Rewritten.Standing.{before, behind, rows_here, gap_here}
 use Rattle.representation.proofs.Gap.Rows.{length_left}

@@ -25,8 +25,8 @@ use Rattle.creation.specs.Scopes.{insert_scope_below_f}
 use Rattle.scoping_laws.specs.Created.Held.{free_scopes}
 use Rattle.scoping_laws.specs.Created.Scopes.{insert_below_law}
 use Rattle.rewrite_for_of.specs.ForOf.{takes_using_f, using_symbol_f, body_after_f, inserts_f}
-use Rattle.table_laws.proofs.Lists.Plan.{parted}
-use Rattle.table_laws.proofs.Streamed.Places.{more_rows}
+use Rattle.table_laws.specs.Lists.Plan.{parted}
+use Rattle.table_laws.specs.Streamed.Places.{more_rows}
 use Rattle.table_laws.proofs.Streamed.Sides.{sides_rows, takes_none_law, takes_using_law, using_symbol_law, body_after_law, body_row_law}
 use Rattle.simulation.proofs.Rewritten.Standing.{before, to_list, behind, rows_here, gap_here, room_here, list_here}
 

@@ -21,13 +21,13 @@ use Rattle.representation.proofs.Spots.Scopes.{depth_law, current_law, hoist_law
 use Rattle.representation.proofs.Spots.Lengths.{visited_at_lem, rest_at_lem}
 use Rattle.statements.specs.Plan.{plan, no_plan, plan_f}
 use Rattle.statements.specs.declared.Plan.{Plan}
-use Rattle.table_laws.proofs.Lists.Plan.{usings, awaits, plan_list_law}
+use Rattle.table_laws.specs.Lists.Plan.{usings, awaits, plan_list_law}
 use Rattle.creation.specs.Creation.{in_rows}
 use Rattle.scoping_laws.specs.Created.Held.{rows_held}
 use Rattle.rewrite_contexts.specs.Lists.{current_in, hoist_in}
 use Rattle.rewrite_for_switch.specs.For.{plan_for_f}
 use Rattle.rewrite_for_switch.specs.Switch.{plan_cases_f}
-use Rattle.table_laws.proofs.Streamed.Places.{one_row, more_rows}
+use Rattle.table_laws.specs.Streamed.Places.{one_row, more_rows}
 use Rattle.table_laws.proofs.Streamed.For.{Plans, plan_for_law}
 use Rattle.table_laws.proofs.Streamed.Cases.{case_usings, case_awaits, plan_cases_law}
 

@@ -14,7 +14,7 @@ use Rattle.representation.specs.Gap.Cells.{line, rows_of}
 use Rattle.representation.proofs.Gap.Rows.{next_gapped}
 use Rattle.representation.proofs.Store.Agreed.{Agreed}
 use Rattle.rewrite_contexts.specs.Tries.{PartingF, transform_part_f, transform_handler_f, transform_child_f, transform_children_f}
-use Rattle.table_laws.proofs.Streamed.Places.{one_row}
+use Rattle.table_laws.specs.Streamed.Places.{one_row}
 use Rattle.table_laws.specs.Streamed.Parts.{own_rows, part_rows, child_rows, try_rows}
 use Rattle.table_laws.proofs.Streamed.Parts.{Catches}
 use Rattle.simulation.proofs.Tried.Passing.{Rewrites}

@@ -22,7 +22,7 @@ use Rattle.representation.proofs.Store.Symbols.{bindings_ctx}
 use Rattle.representation.proofs.Store.Agreed.{Agreed, bindings_agreed}
 use Rattle.scoping_laws.specs.Created.Held.{free_scopes, free_symbols}
 use Rattle.rewrite_contexts.specs.Tries.{PartingF, parting_f, transform_parts_f, plan_parts_f, last_block_scope_f, move_names_f, transform_handler_f}
-use Rattle.table_laws.proofs.Streamed.Places.{one_row, below_here, rows_below, n_gapped}
+use Rattle.table_laws.specs.Streamed.Places.{one_row, below_here, rows_below, n_gapped}
 use Rattle.table_laws.specs.Streamed.Parts.{part_rows}
 use Rattle.table_laws.proofs.Streamed.Parts.{any_parts, plan_parts_law, last_block_law}
 use Rattle.simulation.proofs.Tried.Passing.{beside, passing, new_scopes, new_symbols, Rewrites}

@@ -15,9 +15,9 @@ use Rattle.scoping.specs.declared.Ctx.{Ctx}
 use Rattle.representation.specs.Gap.Cells.{table, line, rows_of}
 use Rattle.representation.specs.Store.Held.{symbol_cells, ctx_of, symbols_held}
 use Rattle.representation.proofs.Store.Symbols.{binding_moved, binding_ctx}
-use Rattle.table_laws.proofs.Lists.TakeUp.{length_line}
+use Rattle.table_laws.specs.Lists.TakeUp.{length_line}
 use Rattle.rewrite_contexts.specs.Tries.{Naming, naming, move_name_f, move_names_f}
-use Rattle.table_laws.proofs.Lists.Plan.{parted, row_here, end_here}
+use Rattle.table_laws.specs.Lists.Plan.{parted, row_here, end_here}
 
 -- a symbol moves, or not
 abbrev moved_if : Bool → ℕ → ℕ → Store → Store

@@ -23,12 +23,12 @@ use Rattle.representation.specs.Gap.Cells.{line, rows_of, gapped, length_rows}
 use Rattle.representation.proofs.Gap.Rows.{next_gapped}
 use Rattle.representation.proofs.Gap.Streams.{copy_all}
 use Rattle.representation.proofs.Store.Agreed.{Agreed}
-use Rattle.table_laws.proofs.Lists.Plan.{awaits, any_usings}
+use Rattle.table_laws.specs.Lists.Plan.{awaits, any_usings}
 use Rattle.scoping_laws.specs.Created.Held.{free_scopes, free_symbols, Room}
 use Rattle.scoping_laws.specs.Created.Parts.{part_parts, part_held, part_node, part_room, part_agreed}
 use Rattle.rewrite_contexts.specs.Lists.{list_scope, wrapped_rows_f}
 use Rattle.rewrite_contexts.specs.Tries.{parting_f, transform_try_block_f, is_part_f, transform_part_f}
-use Rattle.table_laws.proofs.Streamed.Places.{one_row, plan_gapped}
+use Rattle.table_laws.specs.Streamed.Places.{one_row, plan_gapped}
 use Rattle.table_laws.proofs.Streamed.Lists.{wrapped_rows_law}
 use Rattle.table_laws.specs.Streamed.Parts.{own_rows}
 use Rattle.simulation.proofs.Tried.Passing.{beside, passing, new_scopes, new_symbols, Later, grown_later, none_new, Rewrites}

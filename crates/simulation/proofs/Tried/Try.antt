@@ -19,7 +19,7 @@ use Rattle.creation.specs.Creation.{InRows}
 use Rattle.scoping_laws.specs.Created.Held.{Room}
 use Rattle.rewrite_contexts.specs.Lists.{current_in, hoist_in}
 use Rattle.rewrite_contexts.specs.Tries.{PartingF, parting_f, transform_children_f, plan_try_f, enter_try_statement_f}
-use Rattle.table_laws.proofs.Streamed.Places.{one_row}
+use Rattle.table_laws.specs.Streamed.Places.{one_row}
 use Rattle.table_laws.specs.Streamed.Parts.{try_rows}
 use Rattle.table_laws.proofs.Streamed.Parts.{Catches, plan_try_law}
 use Rattle.simulation.proofs.Rewritten.Standing.{before, to_list, behind, n_is, store_is, current_is, hoist_is, list_here}

@@ -27,9 +27,9 @@ use Rattle.representation.specs.Spots.Spots.{Rest}
 use Rattle.representation.proofs.Spots.Scopes.{under}
 use Rattle.representation.proofs.Spots.Lengths.{walk_eq}
 use Rattle.statements.specs.Plan.{plan, no_plan, plan_f}
-use Rattle.table_laws.proofs.Lists.Plan.{usings, awaits, any_usings, cap_sum}
+use Rattle.table_laws.specs.Lists.Plan.{usings, awaits, any_usings, cap_sum}
 use Rattle.scoping_laws.specs.Created.Held.{free_scopes, free_symbols}
-use Rattle.table_laws.proofs.Streamed.Places.{one_row, plan_below}
+use Rattle.table_laws.specs.Streamed.Places.{one_row, plan_below}
 use Rattle.simulation.specs.Leaving.Standing.{behind, walk_in, rows_in, standing}
 
 module _ (before after : Forest) (path : List Crumb) (h : Head) (k : Forest) (st : Store) where

@@ -19,9 +19,9 @@ use Rattle.representation.proofs.Gap.Rows.{length_snoc, emit_gapped}
 use Rattle.statements.specs.TakeUp.{take_up_f}
 use Rattle.statements.specs.Try.{declare_f, declare_context_f, catch_clause_f, finally_block_f, handlers_f, open_try_f, transform_list_f}
 use Rattle.statements.specs.declared.Parts.{Parts}
-use Rattle.table_laws.proofs.Lists.TakeUp.{count_taken, take_up_law}
+use Rattle.table_laws.specs.Lists.TakeUp.{count_taken, take_up_law}
 use Rattle.charge_laws.proofs.Growth.Trees.{list_taken}
-use Rattle.table_laws.proofs.Lists.Plan.{cap_sum}
+use Rattle.table_laws.specs.Lists.Plan.{cap_sum}
 use Rattle.table_laws.specs.Lists.Try.{context_of, handlers_of}
 
 -- a Try of a first Block and others

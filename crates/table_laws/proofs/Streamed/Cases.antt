@@ -15,10 +15,10 @@ use Rattle.tables.specs.declared.Row.{Row}
 use Rattle.representation.specs.Gap.Cells.{table, line, rows_of}
 use Rattle.representation.proofs.Gap.Rows.{length_snoc}
 use Rattle.statements.specs.Plan.{plan, plan_f}
-use Rattle.table_laws.proofs.Lists.TakeUp.{length_line}
-use Rattle.table_laws.proofs.Lists.Plan.{usings, awaits, any_usings, any_awaits, plan_law, parted, plan_eq, row_here, end_here, counts_size as list_size}
+use Rattle.table_laws.specs.Lists.TakeUp.{length_line}
+use Rattle.table_laws.specs.Lists.Plan.{usings, awaits, any_usings, any_awaits, plan_law, parted, plan_eq, row_here, end_here, counts_size as list_size}
 use Rattle.rewrite_for_switch.specs.Switch.{plan_case_f, plan_cases_f}
-use Rattle.table_laws.proofs.Streamed.Places.{some_both, below_here, rows_below}
+use Rattle.table_laws.specs.Streamed.Places.{some_both, below_here, rows_below}
 use Rattle.spec_laws.specs.Bools.{at_most}
 
 -- a number of a Case's list, or 0

@@ -24,13 +24,13 @@ use Rattle.statements.specs.TakeUp.{take_up_f}
 use Rattle.statements.specs.Plan.{plan, no_plan, plan_f}
 use Rattle.statements.specs.declared.Parts.{Parts}
 use Rattle.statements.specs.declared.Plan.{Plan}
-use Rattle.table_laws.proofs.Lists.TakeUp.{count_taken, take_up_law}
+use Rattle.table_laws.specs.Lists.TakeUp.{count_taken, take_up_law}
 use Rattle.charge_laws.proofs.Growth.Trees.{for_taken}
-use Rattle.table_laws.proofs.Lists.Plan.{usings, awaits, parted, row_here}
+use Rattle.table_laws.specs.Lists.Plan.{usings, awaits, parted, row_here}
 use Rattle.table_laws.specs.Lists.Try.{context_of, handlers_of}
 use Rattle.rewrite_contexts.specs.Lists.{list_scope}
 use Rattle.rewrite_for_switch.specs.For.{is_loop_f, next_row, labels_end_f, plan_for_f, pass_rows_f, for_rows_f}
-use Rattle.table_laws.proofs.Streamed.Places.{one_row, tag_here, rows_below, plan_below, n_gapped}
+use Rattle.table_laws.specs.Streamed.Places.{one_row, tag_here, rows_below, plan_below, n_gapped}
 use Rattle.table_laws.proofs.Streamed.Frame.{frame_law}
 
 -- how many Labels stand before a record

@@ -18,10 +18,10 @@ use Rattle.tables.specs.declared.Row.{Row}
 use Rattle.representation.specs.Gap.Cells.{table, free, line, rows_of, gapped, length_rows, count_&, size_&, rows_&}
 use Rattle.representation.proofs.Gap.Rows.{length_snoc, next_gapped, pass_gapped, pass_as_gapped, emit_gapped}
 use Rattle.representation.proofs.Gap.Streams.{copy_all}
-use Rattle.table_laws.proofs.Lists.Plan.{cap_sum}
+use Rattle.table_laws.specs.Lists.Plan.{cap_sum}
 use Rattle.table_laws.proofs.Lists.Try.{declare_law}
 use Rattle.rewrite_for_of.specs.ForOf.{left_rows_f, using_rows_f, insert_rows_f, wrap_rows_f}
-use Rattle.table_laws.proofs.Streamed.Places.{cap_count, next_rows, more_rows, n_gapped}
+use Rattle.table_laws.specs.Streamed.Places.{cap_count, next_rows, more_rows, n_gapped}
 use Rattle.table_laws.proofs.Streamed.Sides.{sides_rows}
 use Rattle.spec_laws.specs.Trees.{count_size}
 

@@ -15,11 +15,11 @@ use Rattle.tables.specs.declared.Row.{Row}
 use Rattle.representation.specs.Gap.Cells.{line, rows_of, gapped}
 use Rattle.representation.proofs.Gap.Rows.{length_snoc, next_gapped, emit_gapped, pass_as_gapped}
 use Rattle.statements.specs.declared.Parts.{Parts}
-use Rattle.table_laws.proofs.Lists.TakeUp.{count_taken}
+use Rattle.table_laws.specs.Lists.TakeUp.{count_taken}
 use Rattle.table_laws.specs.Lists.Try.{context_of, handlers_of}
 use Rattle.table_laws.proofs.Lists.Try.{transform_list_law, try_rows_law}
 use Rattle.rewrite_contexts.specs.Lists.{block_rows_f, wrapped_rows_f}
-use Rattle.table_laws.proofs.Streamed.Places.{cap_count, one_row, n_gapped}
+use Rattle.table_laws.specs.Streamed.Places.{cap_count, one_row, n_gapped}
 use Rattle.table_laws.specs.Streamed.Lists.{try_rows_lem}
 
 module _ (z : List ℕ) where

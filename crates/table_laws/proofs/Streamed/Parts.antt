@@ -18,10 +18,10 @@ use Rattle.representation.specs.Gap.Cells.{table, line, rows_of}
 use Rattle.representation.proofs.Gap.Rows.{length_snoc}
 use Rattle.statements.specs.Plan.{counting, no_plan, plan_f}
 use Rattle.statements.specs.declared.Counting.{Counting}
-use Rattle.table_laws.proofs.Lists.TakeUp.{length_line}
-use Rattle.table_laws.proofs.Lists.Plan.{any_usings, cap_sum, parted, row_here, end_here}
+use Rattle.table_laws.specs.Lists.TakeUp.{length_line}
+use Rattle.table_laws.specs.Lists.Plan.{any_usings, cap_sum, parted, row_here, end_here}
 use Rattle.rewrite_contexts.specs.Tries.{is_part_f, part_rows_f, plan_part_f, plan_parts_f, plan_child_f, plan_try_f, if_block_f, last_child, block_scope_f, last_block_scope_f}
-use Rattle.table_laws.proofs.Streamed.Places.{some_both, below_here, rows_below, plan_below}
+use Rattle.table_laws.specs.Streamed.Places.{some_both, below_here, rows_below, plan_below}
 use Rattle.table_laws.specs.Streamed.Parts.{own_rows, part_rows, child_rows, try_rows}
 
 -- ---- none or some

@@ -14,9 +14,9 @@ use Rattle.tables.specs.declared.Row.{Row}
 use Rattle.representation.specs.Gap.Cells.{table, line, rows_of, length_rows}
 use Rattle.representation.proofs.Gap.Rows.{a_at, n_at, row_at_lem, length_snoc}
 use Rattle.representation.proofs.Gap.Streams.{end_all}
-use Rattle.table_laws.proofs.Lists.Plan.{cap_sum, parted}
+use Rattle.table_laws.specs.Lists.Plan.{cap_sum, parted}
 use Rattle.rewrite_for_of.specs.ForOf.{is_identifier_f, takes_using_f, using_symbol_f, body_after_f}
-use Rattle.table_laws.proofs.Streamed.Places.{one_row, more_rows}
+use Rattle.table_laws.specs.Streamed.Places.{one_row, more_rows}
 
 -- the rows of a record with two children and others
 pub sides_rows : (h h₁ : Head) (k₁ : Forest) (h₂ : Head) (k₂ rest : Forest) (v : List Row)

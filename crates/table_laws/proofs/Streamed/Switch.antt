@@ -21,12 +21,12 @@ use Rattle.representation.proofs.Gap.Rows.{length_snoc, next_gapped, pass_gapped
 use Rattle.representation.proofs.Gap.Streams.{copy_all}
 use Rattle.statements.specs.TakeUp.{take_up_f}
 use Rattle.statements.specs.declared.Parts.{Parts}
-use Rattle.table_laws.proofs.Lists.TakeUp.{count_taken, length_line, take_up_law, first_row}
+use Rattle.table_laws.specs.Lists.TakeUp.{count_taken, length_line, take_up_law, first_row}
 use Rattle.charge_laws.proofs.Growth.Trees.{list_taken, cases_taken}
 use Rattle.table_laws.specs.Lists.Try.{context_of, handlers_of}
 use Rattle.rewrite_contexts.specs.Lists.{list_scope}
 use Rattle.rewrite_for_switch.specs.Switch.{take_up_case_f, take_up_cases_f, switch_rows_f}
-use Rattle.table_laws.proofs.Streamed.Places.{one_row, n_gapped}
+use Rattle.table_laws.specs.Streamed.Places.{one_row, n_gapped}
 use Rattle.table_laws.proofs.Streamed.Cases.{in_case}
 use Rattle.table_laws.proofs.Streamed.Frame.{frame_law}
 

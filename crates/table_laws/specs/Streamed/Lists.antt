@@ -10,7 +10,7 @@ use Rattle.tables.specs.Table.{closed_row_f}
 use Rattle.representation.specs.Gap.Cells.{rows_of}
 use Rattle.statements.specs.declared.Parts.{Parts}
 use Rattle.table_laws.specs.Lists.Try.{handlers_of}
-use Rattle.table_laws.proofs.Streamed.Places.{one_row}
+use Rattle.table_laws.specs.Streamed.Places.{one_row}
 
 -- a Try of a first Block and two others
 pub try_rows_lem : (scope : ℕ) (list : Forest) (p : Parts)

@@ -20,7 +20,7 @@ use Rattle.representation.proofs.Gap.Streams.{end_one}
 use Rattle.statements.specs.TakeUp.{has_initializer_f}
 use Rattle.statements.specs.Plan.{counting, count_one_f, initializers_f, wraps_f, plan, no_plan, plan_one_f, plan_f}
 use Rattle.statements.specs.declared.Counting.{Counting}
-use Rattle.table_laws.proofs.Lists.TakeUp.{initializer, item_wraps, length_line}
+use Rattle.table_laws.specs.Lists.TakeUp.{initializer, item_wraps, length_line}
 use Rattle.spec_laws.specs.Bools.{at_most}
 
 -- the usings that stand directly in a list, and the `await using`s

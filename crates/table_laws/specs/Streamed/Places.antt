@@ -10,7 +10,7 @@ use Rattle.tables.specs.declared.Row.{Row}
 use Rattle.representation.specs.Gap.Cells.{table, free, line, rows_of, gapped}
 use Rattle.representation.proofs.Gap.Rows.{length_snoc, next_gapped, length_left}
 use Rattle.statements.specs.Plan.{plan, no_plan, plan_f}
-use Rattle.table_laws.proofs.Lists.Plan.{usings, awaits, cap_sum, plan_list_law, row_here}
+use Rattle.table_laws.specs.Lists.Plan.{usings, awaits, cap_sum, plan_list_law, row_here}
 use Rattle.spec_laws.specs.Trees.{count_size}
 
 -- of two numbers, one is not 0
