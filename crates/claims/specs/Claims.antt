@@ -36,7 +36,7 @@ use Rattle.meaning.specs.Charges.{Figures, ◌⊕◌, total, initializers, figur
 use Rattle.meaning.specs.Due.{dues, import_dues}
 use Rattle.meaning.specs.declared.Place.{Place}
 use Rattle.charge_laws.specs.VisitCharges.{visit_charges}
-use Rattle.meaning.specs.Lowering.{Lent, Written, check_file, figures_of, admit, final_spot, lowered_file, lower}
+use Rattle.meaning.specs.Lowering.{Lent, Written, figures_of, admit, final_spot, lowered_file, lower}
 use Rattle.cases.specs.Table.{table, table_holds}
 use Rattle.cases.specs.TableImport.{import_table, imports_hold}
 use Rattle.cases.specs.TableCounts.{count_table, counts_hold}
@@ -71,12 +71,10 @@ use Rattle.readback_laws.proofs.Written.{file_written}
 use Rattle.readback_laws.proofs.Loads.Written.{is_load}
 use Rattle.agreement_laws.specs.Agreed.{read_agrees}
 use Rattle.renumbering_laws.specs.Final.{lowered_length, loads_written, lowered_gives}
-use Rattle.idempotence_laws.specs.Fields.{field_figures}
 use Rattle.parsing.specs.Counted.{read_uncounted, symbol_offset, CountsRight, LowestWrong, CountRefused, count_refused, counts_right, count_wrong, counts_accepted, count_lowest}
 use Rattle.representation.specs.Shown.Shown.{records_in, scopes_in, symbols_in, counts_in}
 use Rattle.claims.specs.Counts.{TrueCounts, TrueInBytes, counts_in_tables, counts_in_bytes, calls_mentions_fit}
 use Rattle.claims.specs.Agreement.{scopes_in_tables}
-use Rattle.claims.specs.Twice.{Wrote, LowersTwice, lowering_twice, lowering_again}
 use Rattle.claims.specs.Order.{InTreeOrder, AgreesInBytes, OneToOne, in_tree_order, agrees_in_bytes, final_one_to_one, numbered_once}
 use Rattle.one_word_laws.specs.Changed.{OneWord}
 use Rattle.one_word_laws.proofs.ChangedRead.{word_read}
@@ -84,42 +82,18 @@ use Rattle.claims.specs.OneWord.{WordPair, GrowsLittle, with_room, grows_little,
 use Rattle.claims.specs.Letters.{ButLetters, letters_alone}
 use Rattle.claims.specs.Depth.{read_deep, depth_first, read_before, Changed, depth_is_first, answer_changed, still_accepted, once_accepted}
 use Rattle.claims.specs.Refusals.Numbers.{read_numbers, figures_numbers_lem, admit_numbers, lower_numbers}
-use Rattle.claims.specs.Refusals.Small.{Enough, Short, first_short, small_refused, refused_small, lower_total, short_output_lem, enough_output}
+use Rattle.claims.specs.Refusals.Small.{Enough, lower_total, short_output_lem, enough_output}
 use Rattle.lowering.specs.declared.Lowered.{Lowered}
 use Rattle.lowering.specs.declared.Lowered.TheVariants.{Written as WrittenIn, Refused}
 use Rattle.lowering.specs.Lower.{finished, zeros_for, written_over, lower_of, lower_f}
-use Rattle.desk_numbers.specs.Answers.{
-  checked_numbers,
-  figured_numbers,
-  started_numbers,
-  outcome_numbers,
-  plain_numbers,
-  checked_numbers_lem,
-  figured_numbers_lem,
-  started_numbers_lem,
-}
+use Rattle.desk_numbers.specs.Answers.{checked_numbers, figured_numbers, started_numbers, outcome_numbers, plain_numbers, checked_numbers_lem, figured_numbers_lem, started_numbers_lem}
 use Rattle.lowering.specs.Answers.{lowered_numbers, lowered_numbers_lem}
 use Rattle.desk_numbers.specs.Numbers.{walk_numbers, walk_in, numbers_kept, begun_numbers}
 use Rattle.path.specs.declared.Walk.{Walk}
 use Rattle.claims.specs.Desk.{desk_calls, in_numbers, desk_calls_lem}
 use Rattle.claims.specs.Hinting.{final_hints}
-use Rattle.claims.specs.Import.{imports, IsHelper, ImportLine, calls, import_stands, import_in_bytes, imports_in, LinesRead, accepted_lines, items_imports, load_told}
-use Rattle.claims.specs.Calls.{
-  first_tables,
-  after_calls,
-  charges_of,
-  import_charge,
-  final_charged,
-  calls_tree,
-  calls_scopes,
-  calls_symbols,
-  calls_over,
-  calls_end,
-  calls_last,
-  calls_count,
-  calls_most,
-  file_shows,
-}
+use Rattle.claims.specs.Import.{imports, IsHelper, calls, import_in_bytes, imports_in, LinesRead, accepted_lines, items_imports, load_told}
+use Rattle.claims.specs.Calls.{first_tables, after_calls, charges_of, import_charge, final_charged, calls_tree, calls_scopes, calls_symbols, calls_over, calls_end, calls_last, calls_count, calls_most, file_shows}
 
 -- ---- DEMAND 1: refusals, and that every input is answered
 
@@ -318,23 +292,7 @@ pub desk_visits : (bytes r s y : List ℕ) (f : File) → admit bytes (lent_in r
     → desk_calls (suc k) (begun_numbers old (start_f bytes r s y)) ≡ in_numbers (is_over (visit_calls (suc k) (start f))) (after_calls (suc k) f r s y)
 desk_visits = desk_calls_lem
 
--- REFUSAL 9 EXACTLY. Whatever file and tables are handed in: if the checks before it are passed and a final figure is above the rows lent,
--- lowering is refused with 9, the place being the first that is short;
-pub small_tables : (bytes : List ℕ) (lent : Lent) (out : ℕ) (f : File) → check_file bytes ≡ accepted f → Short lent (final_figures f)
-    → lower bytes lent out ≡ refused 9 (first_short lent (final_figures f))
-small_tables = small_refused
-
--- and if it is refused with 9, the checks before it are passed and a final figure is above the rows lent.
-pub only_small_tables : (bytes : List ℕ) (lent : Lent) (out p : ℕ) → lower bytes lent out ≡ refused 9 p
-    → (f : File) × (check_file bytes ≡ accepted f) × Short lent (final_figures f) × (p ≡ first_short lent (final_figures f))
-only_small_tables = refused_small
-
--- ---- REQUEST 1 of document 02: the import line
-
--- When it stands, what it is, and that it stands once, after any number of calls for a visit of an accepted file's walk. What it charges,
--- and that tables, figures and written file show it, is said by `demand_3`.
-pub import_line_lem : (bytes : List ℕ) (f : File) (k : ℕ) → read_file bytes ≡ accepted f → ImportLine calls f k
-import_line_lem = import_stands
+-- ---- REQUEST 1 of document 02: the import line (when it stands, and that it stands once: proofs/Claims.antt)
 
 -- A lowering that is accepted writes it: in the tree that the written bytes say, it is Program's first child.
 pub import_written : (bytes r s y : List ℕ) (f : File) → Bytes bytes → admit bytes (lent_in r s y) ≡ accepted f → imports f ≡ true
@@ -534,16 +492,3 @@ scopes_agree = scopes_in_tables
 -- So they do in every file that reading accepts.
 pub read_scopes_agree : (bytes : List ℕ) (f : File) → read_file bytes ≡ accepted f → ScopesAgree f.scopes f.tree
 read_scopes_agree = read_agrees
-
--- What lowering writes comes out of a second lowering unchanged to the last byte, wherever it can be read. (With more than 64 levels or 65,535 bytes
--- by now, reading refuses it.) The answer has the counts of the file's own fields, no context, and its length. Where rows or output are too few
--- for these, and only there, it is refused, with 9 or 10 (`ToItself`). Each byte of the first file is at most 255, as in every `&[u8]`.
-pub lowers_to_itself : LowersTwice lower_f
-lowers_to_itself = lowering_twice
-
--- As much memory as the first lowering had is enough.
-pub lowers_again : (bytes r s y o file : List ℕ) (g : File) → Bytes bytes → Wrote lower_f bytes r s y o file → read_file file ≡ accepted g
-    → (r' s' y' o' : List ℕ) → length r ≤ length r' → length s ≤ length s' → length y ≤ length y' → length o ≤ length o'
-    → lower_f file r' s' y' o'
-    ≡ finished (WrittenIn (shown_figures (field_figures file))) (zeros_for r') (zeros_for s') (zeros_for y') (written_over file o')
-lowers_again = lowering_again

@@ -31,7 +31,7 @@ use Rattle.figures.specs.Figures.{shown_figures}
 use Rattle.start.specs.Start.{lent_in}
 use Rattle.lowering.specs.declared.Lowered.{Lowered}
 use Rattle.lowering.specs.declared.Lowered.TheVariants.{Written as WrittenIn, Refused as RefusedIn}
-use Rattle.lowering.specs.Lower.{Finished, written_over, lower_of, lower_f}
+use Rattle.lowering.specs.Lower.{Finished, written_over, lower_of}
 use Rattle.fields.specs.Lengths.{lengths}
 use Rattle.parsing.specs.Counted.{read_uncounted, first_symbol, symbol_offset, fifth_number, CountRight, LowestWrong}
 use Rattle.mentions.specs.Sums.{counts_from}
@@ -49,48 +49,48 @@ use Rattle.claims.specs.Depth.{forest_with, read_deep, depth_first, read_before}
 use Rattle.claims.specs.Letters.{take_up_before, take_up_cases_before, switch_by, switch_before, unlettered, ButLetters}
 use Rattle.claims.specs.Import.{imports, ImportLine}
 use Rattle.claims.specs.Counts.{TrueCounts, TrueInBytes}
-use Rattle.claims.specs.Twice.{Run, Wrote, ToItself, LowersTwice}
+use Rattle.claims.specs.Twice.{Run, Wrote, LowersTwice}
 use Rattle.renumbering_laws.specs.Order.{up_from}
 use Rattle.claims.specs.Order.{InTreeOrder, scopes_said, AgreesInBytes}
 use Rattle.one_word_laws.specs.Changed.{WordChanged, here, behind, in_list_lem, inside, beside, in_runtime_module, Growth}
 use Rattle.cases.specs.TableWord.{const_in_body, using_in_body, const_in_script, using_in_script, const_in_program, using_in_program, const_after_using, using_after_using}
 use Rattle.claims.specs.OneWord.{WordPair, GrowsLittle, file_of, declarator, declarators, body_pair, after_pair}
 use Rattle.claims.specs.Refusals.Small.{Enough}
-use Rattle.claims.specs.Claims.{DepthFirst, CountsChecked, lowers_to_itself}
+use Rattle.claims.specs.Claims.{DepthFirst, CountsChecked}
 
 -- ---- two files and what is seen of an answer
 
 -- 01's whole case: a using in a block, and none directly in Program
-abbrev whole : List ℕ
+abbrev pub whole : List ℕ
 whole = bytes "40:1,0 41:0,16 41:1,0 42:10,6,2,0,1 1:1,1 2:2,1 5:3,1 6:0,1,2 26:1 24:7,0"
 
 -- an empty Program
-abbrev empty : List ℕ
+abbrev pub empty : List ℕ
 empty = bytes "40:1,0 41:0,16 1:1,0"
 
-abbrev lend : ℕ → ℕ → ℕ → Lent
+abbrev pub lend : ℕ → ℕ → ℕ → Lent
 lend r s y = record { records = r; scopes = s; symbols = y }
 
 -- what `desklower` lends
-abbrev desk : Lent
+abbrev pub desk : Lent
 desk = lend 4096 1024 1024
 
-abbrev Lowering : Type 0
+abbrev pub Lowering : Type 0
 Lowering = List ℕ → Lent → ℕ → Outcome Written
 
-abbrev on : Lowering → List ℕ → Outcome Written
+abbrev pub on : Lowering → List ℕ → Outcome Written
 on l file = l file desk 65536
 
-abbrev is_accepted : Outcome Written → Bool
+abbrev pub is_accepted : Outcome Written → Bool
 is_accepted (accepted w) = true
 is_accepted (refused c p) = false
 
 -- the length of the file, and the records that the answer says; 0 for a refusal
-abbrev file_length : Outcome Written → ℕ
+abbrev pub file_length : Outcome Written → ℕ
 file_length (accepted w) = length w.file
 file_length (refused c p) = 0
 
-abbrev records_said : Outcome Written → ℕ
+abbrev pub records_said : Outcome Written → ℕ
 records_said (accepted w) = w.figures.records
 records_said (refused c p) = 0
 
@@ -112,7 +112,7 @@ whole_records = refl
 
 -- ---- copying the input through (excluded by `lowering_is_01`)
 
-abbrev with_file : List ℕ → Outcome Written → Outcome Written
+abbrev pub with_file : List ℕ → Outcome Written → Outcome Written
 with_file file (accepted w) = accepted (record { file = file; figures = w.figures })
 with_file file (refused c p) = refused c p
 
@@ -144,7 +144,7 @@ no_skipping e = omega (arith, program_length, whole_length, ap (λ (l : Lowering
 
 -- ---- refusing all (excluded by `lowering_is_01` and `small_tables`)
 
-abbrev refusing_all : ℕ → ℕ → Lowering
+abbrev pub refusing_all : ℕ → ℕ → Lowering
 refusing_all c p file lent out = refused c p
 
 pub no_refusing_all : (c p : ℕ) → refusing_all c p ≡ lower → ⊥
@@ -198,31 +198,28 @@ unfoldable pub hasty : ℕ → File → Spot
 hasty zero f = start f
 hasty (suc k) f = final_spot f
 
-abbrev honest : ℕ → File → Spot
+abbrev pub honest : ℕ → File → Spot
 honest k f = visit_calls k (start f)
 
-abbrev records_after_one : (ℕ → File → Spot) → ℕ
+abbrev pub records_after_one : (ℕ → File → Spot) → ℕ
 records_after_one walk = (figures_at (walk 1 (file_of (read_file whole)))).records
 
-hasty_records : records_after_one hasty ≡ 18
+pub hasty_records : records_after_one hasty ≡ 18
 unfolding hasty computing
 hasty_records = refl
 
-honest_records : records_after_one honest ≡ 6
+pub honest_records : records_after_one honest ≡ 6
 unfolding computing
 honest_records = refl
-
-pub no_haste : hasty ≡ honest → ⊥
-no_haste e = omega (arith, hasty_records, honest_records, ap records_after_one e)
 
 -- ---- never over (excluded by `over_told` of `demand_3`)
 
 -- what is told of the tables: there is always a visit left
-abbrev never_over : Tables → Bool
+abbrev pub never_over : Tables → Bool
 never_over q = false
 
 -- the end of the walk over the empty Program
-abbrev end : Spot
+abbrev pub end : Spot
 end = final_spot (file_of (read_file empty))
 
 end_over : is_over end ≡ true
@@ -237,10 +234,10 @@ no_endless e =
 -- ---- invented figures (excluded by the counts in the written file, `demand_3`)
 
 -- one record more than there are
-abbrev one_more : Figures → Figures
+abbrev pub one_more : Figures → Figures
 one_more g = figures (suc g.records) g.scopes g.symbols g.contexts g.bytes
 
-abbrev with_figures : (Figures → Figures) → Outcome Written → Outcome Written
+abbrev pub with_figures : (Figures → Figures) → Outcome Written → Outcome Written
 with_figures change (accepted w) = accepted (record { file = w.file; figures = change w.figures })
 with_figures change (refused c p) = refused c p
 
@@ -255,13 +252,13 @@ pub no_inventing : inventing ≡ lower → ⊥
 no_inventing e = omega (arith, invented_records, whole_records, ap (λ (l : Lowering). records_said (on l whole)) e)
 
 -- and one context more
-abbrev context_more : Figures → Figures
+abbrev pub context_more : Figures → Figures
 context_more g = figures g.records g.scopes g.symbols (suc g.contexts) g.bytes
 
 unfoldable pub inventing_contexts : Lowering
 inventing_contexts file lent out = with_figures context_more (lower file lent out)
 
-abbrev contexts_said : Outcome Written → ℕ
+abbrev pub contexts_said : Outcome Written → ℕ
 contexts_said (accepted w) = w.figures.contexts
 contexts_said (refused c p) = 0
 
@@ -278,11 +275,11 @@ no_inventing_contexts e = omega (arith, invented_contexts, whole_contexts, ap (�
 
 -- ---- one letter for all (excluded by `hints`)
 
-abbrev Weight : Type 0
+abbrev pub Weight : Type 0
 Weight = List ℕ → List ℕ → ℕ → ℕ
 
 -- a block with an `await using`
-abbrev awaited : List ℕ
+abbrev pub awaited : List ℕ
 awaited = bytes "40:1,0 41:0,16 41:1,0 42:10,6,2,0,1 1:1,1 2:2,1 5:4,1 6:0,1,2 26:1 24:7,0"
 
 -- every using is taken for a plain one
@@ -290,7 +287,7 @@ unfoldable pub asked_plain : Weight → Forest → ℕ
 asked_plain w tree = sum_over (asks_for w (λ _. 0)) tree
 
 -- each using counts its letter
-abbrev by_letter : Weight
+abbrev pub by_letter : Weight
 by_letter names e letter = letter
 
 asked_letter : asked by_letter (file_of (read_file awaited)).tree ≡ 1
@@ -313,39 +310,39 @@ no_one_letter e =
 -- ---- hints in the written file
 
 -- what is written; nothing for a refusal
-abbrev bytes_of : Outcome Written → List ℕ
+abbrev pub bytes_of : Outcome Written → List ℕ
 bytes_of (accepted w) = w.file
 bytes_of (refused c p) = []
 
 -- what the source asks for, and what is called in the file that a lowering writes
-abbrev asked_in : List ℕ → Weight → ℕ
+abbrev pub asked_in : List ℕ → Weight → ℕ
 asked_in file w = asked w (file_of (read_file file)).tree
 
-abbrev given_by : Lowering → List ℕ → Weight → ℕ
+abbrev pub given_by : Lowering → List ℕ → Weight → ℕ
 given_by l file w = given w (length (file_of (read_file file)).symbols) (tree_in (bytes_of (on l file)))
 
 -- what `hints` says of a lowering, on a file
-abbrev Hinted : Lowering → List ℕ → Type 0
+abbrev pub Hinted : Lowering → List ℕ → Type 0
 Hinted l file = (w : Weight) → given_by l file w ≡ asked_in file w
 
 -- what the last call leaves, written in some other form
-abbrev writing_as : (File → File) → Lowering
+abbrev pub writing_as : (File → File) → Lowering
 writing_as form file lent out = do
   f ← admit file lent
   check_output out (final_figures f)
   accepted (record { file = written (form (file_at (final_spot f))); figures = final_figures f })
 
 -- a lowering that changes the lowered tree before it is written
-abbrev with_tree : File → Forest → File
+abbrev pub with_tree : File → Forest → File
 with_tree f tree = record { mode = f.mode; is_module = f.is_module; scopes = f.scopes; symbols = f.symbols; tree = tree }
 
-abbrev changing : (List Symbol → Forest → Forest) → Lowering
+abbrev pub changing : (List Symbol → Forest → Forest) → Lowering
 changing change file lent out = writing_as (λ g. renumbered (with_tree g (change g.symbols g.tree))) file lent out
 
 -- ---- the letters of two declarations swapped (excluded by `hints`)
 
 -- a Block with `using [] = 7` and `await using [] = 8`, whose Declarators both bind no name
-abbrev twins : List ℕ
+abbrev pub twins : List ℕ
 twins = bytes "40:1,0 41:0,16 41:1,0 1:1,1 2:2,2 5:3,1 6:1,0,1 24:7,0 5:4,1 6:1,0,1 24:8,0"
 
 -- each Call has the other letter
@@ -358,7 +355,7 @@ unfoldable pub swapping : Lowering
 swapping file lent out = changing (λ _ tree. other_letters tree) file lent out
 
 -- the letter of the declaration whose initializer is `24:8`
-abbrev of_eight : Weight
+abbrev pub of_eight : Weight
 of_eight names e letter = if eqb (get_or e 1 0) 8 then letter else 0
 
 twins_asked : asked_in twins of_eight ≡ 1
@@ -383,7 +380,7 @@ swapped_not_hinted e = omega (arith, twins_asked, twins_swapped, e of_eight)
 -- ---- the value of `_default` wrapped (excluded by `hints`)
 
 -- a module with a using and an exported value
-abbrev exporting : List ℕ
+abbrev pub exporting : List ℕ
 exporting = bytes "40:1,1 41:0,17 42:10,6,1,0,1 1:1,2 5:3,1 6:0,1,2 26:1 24:7,0 18:1 24:5,0"
 
 -- the row of the first symbol with a name
@@ -405,7 +402,7 @@ unfoldable pub wrapping_default : Lowering
 wrapping_default file lent out = changing wrap_default file lent out
 
 -- every initializer that is called counts
-abbrev any_called : Weight
+abbrev pub any_called : Weight
 any_called names e letter = 1
 
 default_asked : asked_in exporting any_called ≡ 1
@@ -429,23 +426,23 @@ wrapped_not_hinted e = omega (arith, default_asked, default_wrapped, e any_calle
 -- ---- the running letter of before in a switch (excluded by `hints`)
 
 -- an `await using` in a Case, and a `using` in the next
-abbrev cases : List ℕ
+abbrev pub cases : List ℕ
 cases =
     bytes "40:1,0 41:0,16 41:1,0 42:10,6,2,0,1 42:11,6,2,0,1 1:1,1 9:2,3 24:0,0 10:0,1 5:4,1 6:0,1,2 26:1 24:7,0 10:0,1 5:3,1 6:0,1,2 26:2 24:8,0"
 
-abbrev first_head : Forest → Head
+abbrev pub first_head : Forest → Head
 first_head none = hd 0 0 0 0
 first_head (more h k r) = h
 
-abbrev first_children : Forest → Forest
+abbrev pub first_children : Forest → Forest
 first_children none = none
 first_children (more h k r) = k
 
-abbrev SwitchRewrite : Type 0
+abbrev pub SwitchRewrite : Type 0
 SwitchRewrite = ℕ → Head → Forest → Change Node
 
 -- a Program with a Switch alone, that being rewritten
-abbrev switched : SwitchRewrite → File → File
+abbrev pub switched : SwitchRewrite → File → File
 switched switch f =
     let s = first_children f.tree in
     let e = switch 1 (first_head s) (first_children s) (store_of f) in
@@ -519,18 +516,18 @@ calls_a none = false
 calls_a (more h k r) = (eqb h.tag Tag.Call && eqb h.a Letter.A) || calls_a k || calls_a r
 
 -- the release is awaited if a Call in a Case has the letter `a`
-abbrev switch_by_letters : SwitchRewrite
+abbrev pub switch_by_letters : SwitchRewrite
 switch_by_letters = switch_by take_up_cases (λ k. calls_a (take_up_cases 1 k))
 
 -- a Switch with an `await using` without an initializer
-abbrev bare : File
+abbrev pub bare : File
 bare = file_of (read_file (bytes "40:1,0 41:0,16 41:1,0 42:10,6,2,0,1 1:1,1 9:2,2 24:0,0 10:0,1 5:4,1 6:0,1,1 26:1"))
 
 -- the forms of all Steps
 unfoldable pub steps : Forest → ℕ
 steps f = sum_over (λ h k. if eqb h.tag Tag.Step then h.a else 0) f
 
-abbrev bare_steps : SwitchRewrite → ℕ
+abbrev pub bare_steps : SwitchRewrite → ℕ
 bare_steps switch = steps (unlettered (switched switch bare).tree)
 
 steps_before : bare_steps switch_before ≡ 2
@@ -551,14 +548,14 @@ no_letter_step e =
 -- ---- the import line at another time or place (excluded by `import_line_lem`)
 
 -- a block with a using, in a runtime module and in a script
-abbrev importing : File
+abbrev pub importing : File
 importing = file_of (read_file (bytes "40:0,1 41:0,16 41:1,0 42:10,6,2,0,1 1:1,1 2:2,1 5:3,1 6:0,1,2 26:1 24:7,0"))
 
-abbrev script : File
+abbrev pub script : File
 script = file_of (read_file (bytes "40:0,0 41:0,16 41:1,0 42:10,6,2,0,1 1:1,1 2:2,1 5:3,1 6:0,1,2 26:1 24:7,0"))
 
 -- how many records there are
-abbrev records_at : Spot → ℕ
+abbrev pub records_at : Spot → ℕ
 records_at s = size (tree_at s)
 
 -- the line stands from the first visit on
@@ -656,18 +653,18 @@ no_filled_table right = omega (arith, right 21)
 -- ---- depth at another time than right after a head (excluded by `depth_first_lem`)
 
 -- a refusal's number, 0 for none
-abbrev number_of : Outcome File → ℕ
+abbrev pub number_of : Outcome File → ℕ
 number_of (accepted f) = 0
 number_of (refused c p) = c
 
 -- a record at level 65 with a tag that may not stand there, with a head of two bytes, and with nothing wrong
-abbrev wrong_tag : List ℕ
+abbrev pub wrong_tag : List ℕ
 wrong_tag = deep 62 ++ bytes "2:1,0"
 
-abbrev cut_head : List ℕ
+abbrev pub cut_head : List ℕ
 cut_head = deep 62 ++ 24 ∷ 0 ∷ []
 
-abbrev too_deep_only : List ℕ
+abbrev pub too_deep_only : List ℕ
 too_deep_only = deep 62 ++ bytes "24:1,0"
 
 -- behind the record's own checks, as before
@@ -714,7 +711,7 @@ no_level_more d = omega (arith, more_number, deep_number, ap number_of (d.deep t
 
 -- ---- counts that are not those of the tree (excluded by `counts_true`, `counts_written` and `count_refusal`)
 
-abbrev whole_file : File
+abbrev pub whole_file : File
 whole_file = file_of (read_file whole)
 
 -- counts as they were read, and 0 for new symbols
@@ -734,7 +731,7 @@ pub no_stale_counts : TrueCounts stale_counts whole_file 2 → ⊥
 no_stale_counts e = omega (arith, stale_count, true_count, ap (λ (c : List ℕ). get_or c 1 0) e)
 
 -- the lowered file with such counts
-abbrev stale_file : List ℕ
+abbrev pub stale_file : List ℕ
 stale_file =
     bytes "40:1,0 41:0,16 41:1,0 41:1,2 41:3,0 41:1,0 42:10,6,2,0,1 42:5,1,1,1,0 42:2,17,4,0,0 1:1,1 11:3,3 2:2,2 5:0,1 6:0,1,2 26:2 28:1,0 5:2,1 6:0,1,2 26:1 27:0,2,1 24:7,0 12:3,1,0,2 26:3 2:4,1 29:0,2,3 2:5,1 29:1,2,0"
 
@@ -755,10 +752,10 @@ unfolding counts_from
 no_stale_file e = omega (arith, stale_said, named_there, ap (λ (c : List ℕ). get_or c 1 0) (rw rows_there at e))
 
 -- a file in which the second and the third row have wrong counts
-abbrev wrong_counts : List ℕ
+abbrev pub wrong_counts : List ℕ
 wrong_counts = bytes "40:1,0 41:0,16 42:10,6,1,0,0 42:11,6,1,0,1 42:12,6,1,0,1 1:1,0"
 
-abbrev miscounted : File
+abbrev pub miscounted : File
 miscounted = file_of (read_uncounted wrong_counts)
 
 but_for_counts : read_uncounted wrong_counts ≡ accepted miscounted
@@ -789,7 +786,7 @@ highest_wrong f count (suc n) y at =
     let higher = highest_wrong f count n (suc y) (at + symbol_bytes) in
     if not (eqb higher 0) then higher else if eqb (two f (at + 11)) (count y) then 0 else y
 
-abbrev highest : List ℕ → File → Outcome File
+abbrev pub highest : List ℕ → File → Outcome File
 highest f g =
     let y = highest_wrong f (λ y. mentions y g.tree) (length g.symbols) 1 (first_symbol g) in
     if eqb y 0 then accepted g else refused 5 (symbol_offset g y)
@@ -798,7 +795,7 @@ unfoldable pub read_highest : List ℕ → Outcome File
 read_highest f = read_uncounted f >>= highest f
 
 -- the place of a refusal, 0 for none
-abbrev place_of : Outcome File → ℕ
+abbrev pub place_of : Outcome File → ℕ
 place_of (accepted f) = 0
 place_of (refused c p) = p
 
@@ -831,16 +828,16 @@ no_highest_row c = omega (arith, highest_place, second_place, ap place_of (c.wro
 -- ---- scope rows that do not agree with the tree (excluded by `scopes_agree`)
 
 -- a Body with a Block and a using: the Block's row, the third, comes below the new scope 4
-abbrev block_in_body : File
+abbrev pub block_in_body : File
 block_in_body =
     file_of (read_file (bytes "40:1,0 41:0,16 41:1,8 41:2,0 42:20,64,1,0,1 42:10,6,2,0,1 1:1,1 13:0,2,1,2 24:1,0 14:2 2:3,0 5:3,1 6:0,1,2 26:2 24:7,0"))
 
 -- where its fourth visit leads
-abbrev body_entered : Spot
+abbrev pub body_entered : Spot
 body_entered = visit_calls 4 (start block_in_body)
 
 -- the first number, 0 for none
-abbrev first_of : List ℕ → ℕ
+abbrev pub first_of : List ℕ → ℕ
 first_of ns = get_or ns 0 0
 
 third_below : enclosing_scopes 3 0 (tree_at body_entered) ≡ 4 ∷ []
@@ -853,7 +850,7 @@ unmoved [] ss = ss
 unmoved (r ∷ rs) [] = []
 unmoved (r ∷ rs) (s ∷ ss) = scope_row r.parent s.flags ∷ unmoved rs ss
 
-abbrev unmoved_rows : List Scope
+abbrev pub unmoved_rows : List Scope
 unmoved_rows = unmoved block_in_body.scopes (store_at body_entered).scopes
 
 third_unmoved : (is_row (length unmoved_rows) 3 ≡ true) × ((row_at no_scope unmoved_rows 3).parent ≡ 2)
@@ -865,7 +862,7 @@ no_unmoved_parent a =
     omega (arith, third_unmoved.1, ap first_of third_below, ap first_of (a.rows 3 third_unmoved.0))
 
 -- a row more than records name
-abbrev idle_rows : List Scope
+abbrev pub idle_rows : List Scope
 idle_rows = (store_at body_entered).scopes ++ scope_row 1 0 ∷ []
 
 eighth_idle : (is_row (length idle_rows) 8 ≡ true) × (enclosing_scopes 8 0 (tree_at body_entered) ≡ [])
@@ -892,11 +889,11 @@ no_shared_row a = omega (arith, ap (λ (ns : List ℕ). length ns) fifth_shared.
 -- ---- lowerings that do not leave their own files as they are (excluded by `lowers_to_itself`)
 
 -- a lowering as it is called
-abbrev as_run : Lowering → Run
+abbrev pub as_run : Lowering → Run
 as_run l file r s y o = lower_of (l file (lent_in r s y) (length o)) r s y o
 
 -- so many zeros are lent
-abbrev zeros : ℕ → List ℕ
+abbrev pub zeros : ℕ → List ℕ
 zeros n = replicate n 0
 
 -- each byte of a list is at most 255
@@ -904,14 +901,14 @@ unfoldable pub small : List ℕ → Bool
 small [] = true
 small (x ∷ xs) = leb x 255 && small xs
 
-small_bytes : (xs : List ℕ) → small xs ≡ true → Bytes xs
+pub small_bytes : (xs : List ℕ) → small xs ≡ true → Bytes xs
 unfolding small
 small_bytes [] e i = omega arith
 small_bytes (x ∷ xs) e zero = leb-true x 255 (and_left (leb x 255) (small xs) e)
 small_bytes (x ∷ xs) e (suc i) = small_bytes xs (and_right (leb x 255) (small xs) e) i
 
 -- what a lowering wrote
-wrote_by : (l : Lowering) (file r s y o : List ℕ) (w : Written) → l file (lent_in r s y) (length o) ≡ accepted w
+pub wrote_by : (l : Lowering) (file r s y o : List ℕ) (w : Written) → l file (lent_in r s y) (length o) ≡ accepted w
     → take w.figures.bytes (written_over w.file o) ≡ w.file → Wrote (as_run l) file r s y o w.file
 wrote_by l file r s y o w e t = (
   shown_figures w.figures,
@@ -920,15 +917,15 @@ wrote_by l file r s y o w e t = (
 )
 
 -- the whole case lowered
-abbrev whole_lowered : List ℕ
+abbrev pub whole_lowered : List ℕ
 whole_lowered =
     bytes "40:1,0 41:0,16 41:1,0 41:1,2 41:3,0 41:1,0 42:10,6,2,0,1 42:5,1,1,1,4 42:2,17,4,0,2 1:1,1 11:3,3 2:2,2 5:0,1 6:0,1,2 26:2 28:1,0 5:2,1 6:0,1,2 26:1 27:0,2,1 24:7,0 12:3,1,0,2 26:3 2:4,1 29:0,2,3 2:5,1 29:1,2,0"
 
-whole_small : small whole ≡ true
+pub whole_small : small whole ≡ true
 unfolding small computing
 whole_small = refl
 
-whole_read : read_file whole_lowered ≡ accepted (file_of (read_file whole_lowered))
+pub whole_read : read_file whole_lowered ≡ accepted (file_of (read_file whole_lowered))
 unfolding computing
 whole_read = refl
 
@@ -946,7 +943,7 @@ second_answer l file r s y o w g twice bytes e t read rows long =
     ((twice file r s y o w.file g (small_bytes file bytes) (wrote_by l file r s y o w e t) read).same r s y o rows long)
 
 -- just enough for the whole case
-whole_lent : lent_in (zeros 126) (zeros 15) (zeros 18) ≡ lend 18 5 3
+pub whole_lent : lent_in (zeros 126) (zeros 15) (zeros 18) ≡ lend 18 5 3
 unfolding lent_in
 whole_lent = refl
 
@@ -957,14 +954,14 @@ lowered_length : length whole_lowered ≡ 215
 unfolding computing
 lowered_length = refl
 
-whole_front : take 215 (written_over whole_lowered (zeros 215)) ≡ whole_lowered
+pub whole_front : take 215 (written_over whole_lowered (zeros 215)) ≡ whole_lowered
 unfolding computing
 whole_front = refl
 
-abbrev whole_written : Written
+abbrev pub whole_written : Written
 whole_written = record { file = whole_lowered; figures = figures 18 5 3 1 215 }
 
-abbrev whole_second : Lowering → Lowered
+abbrev pub whole_second : Lowering → Lowered
 whole_second l = (lower_of (l whole_lowered (lent_in (zeros 126) (zeros 15) (zeros 18)) 215) (zeros 126) (zeros 15) (zeros 18) (zeros 215)).answer
 
 whole_second_lem : (l : Lowering) → l whole (lend 18 5 3) 215 ≡ accepted whole_written → LowersTwice (as_run l)
@@ -975,19 +972,12 @@ whole_second_lem l e twice =
     whole_front whole_read whole_enough (omega (arith, lowered_length))
 
 -- 01's lowering wrote such a file, so the claim speaks of some: the whole case, lowered, is lowered to itself
-whole_first : lower whole (lend 18 5 3) 215 ≡ accepted whole_written
+pub whole_first : lower whole (lend 18 5 3) 215 ≡ accepted whole_written
 unfolding computing
 whole_first = refl
 
-pub whole_to_itself : ToItself lower_f whole_lowered
-unfolding lower_f
-whole_to_itself =
-    lowers_to_itself whole (zeros 126) (zeros 15) (zeros 18) (zeros 215) whole_lowered (file_of (read_file whole_lowered)) (small_bytes whole whole_small)
-    (wrote_by lower whole (zeros 126) (zeros 15) (zeros 18) (zeros 215) whole_written (ap (λ (lent : Lent). lower whole lent 215) whole_lent ∙ whole_first) whole_front)
-    whole_read
-
 -- the contexts that were made before are counted again, by their Loads
-abbrev by_loads : Outcome Written → Outcome Written
+abbrev pub by_loads : Outcome Written → Outcome Written
 by_loads (accepted w) =
     let x = w.figures in
     accepted
@@ -1004,7 +994,7 @@ counting_first : counting_again whole (lend 18 5 3) 215 ≡ accepted whole_writt
 unfolding counting_again field_count fields_of fields_in numbers_in computing
 counting_first = refl
 
-abbrev contexts_in : Lowered → ℕ
+abbrev pub contexts_in : Lowered → ℕ
 contexts_in (WrittenIn x) = x.contexts
 contexts_in (RefusedIn c p) = 0
 
@@ -1029,7 +1019,7 @@ refusing_first : refusing_lowered whole (lend 18 5 3) 215 ≡ accepted whole_wri
 unfolding refusing_lowered field_count fields_of fields_in numbers_in computing
 refusing_first = refl
 
-abbrev records_told : Lowered → ℕ
+abbrev pub records_told : Lowered → ℕ
 records_told (WrittenIn x) = x.records
 records_told (RefusedIn c p) = 0
 
@@ -1053,7 +1043,7 @@ first_load (more h k r) =
     let inside = first_load k in
     if eqb h.tag Tag.Load then h.b else if eqb inside 0 then first_load r else inside
 
-abbrev with_line : File → File
+abbrev pub with_line : File → File
 with_line f =
     let y = first_load f.tree in
     if eqb f.mode 0 && eqb f.is_module 1 && not (eqb y 0) then with_tree f (with_import y f.tree) else f
@@ -1067,14 +1057,14 @@ importing_again file lent out = do
         figures = figures_in (with_line (file_at (last_spot f))) ⊕ figures 0 0 0 (final_figures f).contexts 0;
       })
 
-abbrev module_file : List ℕ
+abbrev pub module_file : List ℕ
 module_file = bytes "40:0,1 41:0,16 41:1,0 42:10,6,2,0,1 1:1,1 2:2,1 5:3,1 6:0,1,2 26:1 24:7,0"
 
-abbrev module_lowered : List ℕ
+abbrev pub module_lowered : List ℕ
 module_lowered =
     bytes "40:0,1 41:0,16 41:1,0 41:1,2 41:3,0 41:1,0 42:10,6,2,0,1 42:5,1,1,1,4 42:5,32,1,1,2 42:2,17,4,0,2 1:1,2 17:4,0,1 20:3,3 11:3,3 2:2,2 5:0,1 6:0,1,2 26:2 28:0,3 5:2,1 6:0,1,2 26:1 27:0,2,1 24:7,0 12:3,1,0,2 26:4 2:4,1 29:0,2,4 2:5,1 29:1,2,0"
 
-abbrev module_written : Written
+abbrev pub module_written : Written
 module_written = record { file = module_lowered; figures = figures 20 5 4 1 244 }
 
 module_first : importing_again module_file (lend 20 5 4) 244 ≡ accepted module_written
@@ -1130,14 +1120,14 @@ unfoldable pub as_made : Lowering
 as_made file lent out = writing_as (λ g. g) file lent out
 
 -- a Switch with a using: the Block made around it stands before it in the tree, and its row behind
-abbrev one_case : List ℕ
+abbrev pub one_case : List ℕ
 one_case = bytes "40:1,0 41:0,16 41:1,0 42:10,6,2,0,1 1:1,1 9:2,2 24:0,0 10:0,1 5:3,1 6:0,1,2 26:1 24:7,0"
 
-abbrev one_case_made : List ℕ
+abbrev pub one_case_made : List ℕ
 one_case_made =
     bytes "40:1,0 41:0,16 41:3,0 41:1,0 41:1,2 41:4,0 41:1,0 42:10,6,2,0,1 42:5,1,1,1,4 42:2,17,5,0,2 1:1,1 11:3,3 2:3,2 5:0,1 6:0,1,2 26:2 28:1,0 9:2,2 24:0,0 10:0,1 5:2,1 6:0,1,2 26:1 27:0,2,1 24:7,0 12:4,1,0,2 26:3 2:5,1 29:0,2,3 2:6,1 29:1,2,0"
 
-abbrev made_written : Written
+abbrev pub made_written : Written
 made_written = record { file = one_case_made; figures = figures 21 6 3 1 243 }
 
 made_first : as_made one_case (lend 21 6 3) 243 ≡ accepted made_written
@@ -1179,7 +1169,7 @@ no_order_of_making ordered =
 
 -- ---- parents that keep their old numbers (excluded by `written_scopes_agree`)
 
-abbrev old_parents : File → File
+abbrev pub old_parents : File → File
 old_parents g =
     record {
       mode = g.mode;
@@ -1193,13 +1183,13 @@ unfoldable pub keeping_parents : Lowering
 keeping_parents file lent out = writing_as old_parents file lent out
 
 -- a Block in a Block, the row of the inner one first
-abbrev inside_out : List ℕ
+abbrev pub inside_out : List ℕ
 inside_out = bytes "40:1,0 41:0,16 41:3,0 41:1,0 1:1,1 2:3,1 2:2,0"
 
-abbrev inside_out_kept : List ℕ
+abbrev pub inside_out_kept : List ℕ
 inside_out_kept = bytes "40:1,0 41:0,16 41:1,0 41:3,0 1:1,1 2:2,1 2:3,0"
 
-abbrev kept_written : Written
+abbrev pub kept_written : Written
 kept_written = record { file = inside_out_kept; figures = figures 3 3 0 0 49 }
 
 kept_first : keeping_parents inside_out (lend 3 3 0) 49 ≡ accepted kept_written
@@ -1237,7 +1227,7 @@ no_old_parents agrees =
 
 -- ---- symbols that keep the old numbers of their scopes (excluded by `lowering_is_01`)
 
-abbrev old_symbols : File → File
+abbrev pub old_symbols : File → File
 old_symbols g =
     record {
       mode = g.mode;
@@ -1251,7 +1241,7 @@ unfoldable pub keeping_symbols : Lowering
 keeping_symbols file lent out = writing_as old_symbols file lent out
 
 -- a symbol in the inner of two Blocks, whose row stands first
-abbrev inner_symbol : List ℕ
+abbrev pub inner_symbol : List ℕ
 inner_symbol = bytes "40:1,0 41:0,16 41:3,0 41:1,0 42:10,6,2,0,0 1:1,1 2:3,1 2:2,0"
 
 -- the number of its scope, of which the low byte is behind 36 others, is 2 still, and 3 by 02
@@ -1268,16 +1258,16 @@ no_old_symbols e = omega (arith, symbol_kept, symbol_follows, ap (λ (l : Loweri
 
 -- ---- figures that grow otherwise with one word (excluded by `one_word`)
 
-abbrev Telling : Type 0
+abbrev pub Telling : Type 0
 Telling = List ℕ → Outcome Figures
 
 -- the figures told of a file that is checked
-abbrev telling : (File → Figures) → Telling
+abbrev pub telling : (File → Figures) → Telling
 telling count file = do
   f ← check_file file
   accepted (count f)
 
-abbrev rows_told : Outcome Figures → ℕ
+abbrev pub rows_told : Outcome Figures → ℕ
 rows_told (accepted g) = g.records
 rows_told (refused c p) = 0
 

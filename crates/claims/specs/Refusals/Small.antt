@@ -8,8 +8,7 @@ use Rattle.meaning.specs.File.{File, written}
 use Rattle.meaning.specs.Reading.{Outcome, accepted, refused, ◌>>=◌, ◌>>◌, ensure}
 use Rattle.meaning.specs.Charges.{Figures, final_figures}
 use Rattle.meaning.specs.Lowering.{Lent, check_rows, check_output, check_file, admit, admit_output, lowered_file, Written, lower}
-use Rattle.claims.specs.Refusals.Outcomes.{one_of_two, refused_by, taken_refused, first_refused}
-use Rattle.claims.specs.Refusals.Numbers.{check_numbers}
+use Rattle.claims.specs.Refusals.Outcomes.{one_of_two, taken_refused}
 
 -- a final figure is above the rows lent
 abbrev pub Short : Lent → Figures → Type 0
@@ -34,7 +33,7 @@ leb_not x y = go (ltb y x) refl
     go false e = le-leb x y (ltb-false y x e)
 
 -- three tests in order, by what is short
-abbrev three : Bool → Bool → Bool → Outcome (Unit {0})
+abbrev pub three : Bool → Bool → Bool → Outcome (Unit {0})
 three r s y = ensure (not r) 9 0 >> (ensure (not s) 9 1 >> ensure (not y) 9 2)
 
 rows_three : (lent : Lent) (g : Figures)
@@ -48,7 +47,7 @@ rows_three lent g =
     )
 
 -- something is short
-abbrev Any : Bool → Bool → Bool → Type 0
+abbrev pub Any : Bool → Bool → Bool → Type 0
 Any r s y = (r ≡ true) ⊎ ((s ≡ true) ⊎ (y ≡ true))
 
 -- the first that is short is refused, and nothing else
@@ -66,68 +65,34 @@ refused_three false false true c p e = (inr (inr refl), cc)
 refused_three false false false c p e = absurd (taken_refused tt c p e)
 
 -- short rows are refused with 9 and the first short
-rows_refused : (lent : Lent) (g : Figures) → Short lent g → check_rows lent g ≡ refused 9 (first_short lent g)
+pub rows_refused : (lent : Lent) (g : Figures) → Short lent g → check_rows lent g ≡ refused 9 (first_short lent g)
 unfolding first_short
 rows_refused lent g h =
     rows_three lent g ∙ three_refused _ _ _ (⊎_map (lt-ltb _ _) (⊎_map (lt-ltb _ _) (lt-ltb _ _)) h)
 
 -- and no others
-refused_rows : (lent : Lent) (g : Figures) (c p : ℕ) → check_rows lent g ≡ refused c p → Short lent g × (p ≡ first_short lent g)
+pub refused_rows : (lent : Lent) (g : Figures) (c p : ℕ) → check_rows lent g ≡ refused c p → Short lent g × (p ≡ first_short lent g)
 unfolding first_short
 refused_rows lent g c p e =
     let k = refused_three _ _ _ c p (sym (rows_three lent g) ∙ e) in
     (⊎_map (ltb-true _ _) (⊎_map (ltb-true _ _) (ltb-true _ _)) k.0, k.1)
-
--- ---- REFUSAL 9
-
--- A checked file with a final figure above the rows lent is not admitted, for the first that is short.
-pub small_not_admitted : (b : List ℕ) (lent : Lent) (f : File) → check_file b ≡ accepted f → Short lent (final_figures f)
-    → admit b lent ≡ refused 9 (first_short lent (final_figures f))
-unfolding admit
-small_not_admitted b lent f e h = rw (e, rows_refused lent (final_figures f) h)
 
 -- With enough it is admitted.
 pub enough_admitted : (b : List ℕ) (lent : Lent) (f : File) → check_file b ≡ accepted f → Enough lent (final_figures f) → admit b lent ≡ accepted f
 unfolding admit check_rows
 enough_admitted b lent f e h = rw (e, le-leb _ _ h.0, le-leb _ _ h.1, le-leb _ _ h.2)
 
--- No other file is refused so.
-pub not_admitted_small : (b : List ℕ) (lent : Lent) (p : ℕ) → admit b lent ≡ refused 9 p
-    → (f : File) × (check_file b ≡ accepted f) × Short lent (final_figures f) × (p ≡ first_short lent (final_figures f))
-unfolding admit
-not_admitted_small b lent p e =
-    ⊎_elim
-    (λ d. absurd (omega (arith, check_numbers b 9 p d)))
-    (λ (f, d, k).
-    let r = refused_rows lent (final_figures f) 9 p (first_refused (check_rows lent (final_figures f)) f 9 p k) in
-    (f, d, r.0, r.1))
-    (refused_by (check_file b) _ 9 p e)
-
 -- a short output is refused with another number
-never_nine : (b : Bool) (out p : ℕ) → ensure b 10 out ≡ refused 9 p → ⊥
+pub never_nine : (b : Bool) (out p : ℕ) → ensure b 10 out ≡ refused 9 p → ⊥
 never_nine true out p e = taken_refused tt 9 p e
 never_nine false out p e = let z : ◌≡◌ {A = ℕ} 10 9 = cc in omega arith
 
 -- a file that is admitted is written
-first_written : (a : Outcome File) (c p : ℕ)
+pub first_written : (a : Outcome File) (c p : ℕ)
     → ◌>>=◌ {B = Written} a (λ f. accepted (record { file = written (lowered_file f); figures = final_figures f })) ≡ refused c p
     → a ≡ refused c p
 first_written (accepted f) c p e = absurd (taken_refused _ c p e)
 first_written (refused c₀ p₀) c p e = cc
-
--- The same of lowering, since a short output is refused with 10.
-pub small_refused : (b : List ℕ) (lent : Lent) (out : ℕ) (f : File) → check_file b ≡ accepted f → Short lent (final_figures f)
-    → lower b lent out ≡ refused 9 (first_short lent (final_figures f))
-unfolding lower admit_output
-small_refused b lent out f e h = rw (small_not_admitted b lent f e h)
-
-pub refused_small : (b : List ℕ) (lent : Lent) (out p : ℕ) → lower b lent out ≡ refused 9 p
-    → (f : File) × (check_file b ≡ accepted f) × Short lent (final_figures f) × (p ≡ first_short lent (final_figures f))
-unfolding lower admit_output check_output
-refused_small b lent out p e =
-    ⊎_elim (not_admitted_small b lent p)
-    (λ (f, d, k). absurd (never_nine (leb (final_figures f).bytes out) out p (first_refused (check_output out (final_figures f)) _ 9 p k)))
-    (refused_by (admit b lent) _ 9 p (first_written (admit_output b lent out) 9 p e))
 
 -- ---- REFUSAL 10
 

@@ -1,0 +1,4 @@
+pub mod Twice
+pub mod Refusals
+pub mod Claims
+pub mod ShutOut
