@@ -1,9 +1,9 @@
-//! Links the static library that `rt staticlib desk` writes.
+//! Links the static library that `rt lib` writes in crates/desk.
 use std::{env, path::PathBuf};
 
 fn main() {
     let here = PathBuf::from(env::var_os("CARGO_MANIFEST_DIR").expect("set by cargo"));
-    let folder = here.join("../../target/staticlib");
+    let folder = here.join("../../crates/desk/out");
     println!("cargo:rustc-link-search=native={}", folder.display());
     println!("cargo:rustc-link-lib=static=desk");
     println!(
