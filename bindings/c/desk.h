@@ -1,5 +1,5 @@
 /*
- * Lowering `using` and `await using` in tree files, for C. Link with libdesk.a, which `rt staticlib desk` writes.
+ * Lowering `using` and `await using` in tree files, for C. Link with libdesk.a, which `rt lib` writes in crates/desk/out.
  *
  * Every call is proved to end, to stay inside the memory that it is lent, and to keep the promise that stands above it, for every content of
  * that memory (crates/desk; the proofs are about the library's source, not about this header). What the caller owes:
