@@ -1,7 +1,7 @@
 -- Lowering twice (02, request 14): what lowering writes, where it can be read, comes out of a second lowering unchanged.
 -- Assumes nothing.
-use Rattle.std.specs.Prelude.{◌≡◌, ℕ, ◌≤◌, ◌<◌, eqb, length, take, drop}
-use Rattle.std.proofs.Common.{sym, subst, ◌∙◌, ⊎_elim, arith, take_at}
+use Rattle.std.specs.Prelude.{◌≡◌, ℕ, ◌≤◌, ◌<◌, eqb, length}
+use Rattle.std.proofs.Common.{sym, subst, ◌∙◌, ⊎_elim, arith}
 use Rattle.std.proofs.Math.Path.{ap, ap₂}
 use mathlib.Core.List.{List}
 use Rattle.meaning.specs.Numbers.Mode
@@ -9,21 +9,20 @@ use Rattle.meaning.specs.File.{File, written}
 use Rattle.meaning.specs.Reading.{Outcome, accepted, refused, ◌>>◌, read_file}
 use Rattle.meaning.specs.Charges.{Figures, final_figures}
 use Rattle.meaning.specs.Lowering.{Lent, check_mode, check_file, admit, lowered_file, Written, lower}
-use Rattle.spec_laws.specs.Tags.{clash}
 use Rattle.spec_laws.specs.Bools.{and-false}
 use Rattle.spec_laws.specs.Trees.{Bytes}
 use Rattle.figures.specs.Figures.{shown_figures}
 use Rattle.start.specs.Start.{lent_in}
 use Rattle.start.specs.Filled.{admitted}
 use Rattle.lowering.specs.declared.Lowered.TheVariants.{Written as WrittenIn}
-use Rattle.lowering.specs.Lower.{Finished, finished, zeros_for, written_over, lower_of, lower_f}
+use Rattle.lowering.specs.Lower.{finished, zeros_for, written_over, lower_of, lower_f}
 use Rattle.renumbering_laws.specs.Final.{lowered_length}
 use Rattle.idempotence_laws.specs.Fields.{field_figures}
 use Rattle.idempotence_laws.proofs.Again.{again_written, again_figures}
 use Rattle.claims.specs.Calls.{file_shows}
-use Rattle.claims.specs.Refusals.Small.{Enough, Short, first_short, enough_admitted, short_output_lem, enough_output, lower_total}
 use Rattle.claims.proofs.Refusals.Small.{small_refused}
-use Rattle.claims.specs.Twice.{Wrote, ToItself, LowersTwice, is_written, length_said, Suffices}
+use Rattle.claims.specs.Refusals.Small.{Enough, Short, first_short, enough_admitted, short_output_lem, enough_output, lower_total}
+use Rattle.claims.specs.Twice.{Wrote, ToItself, LowersTwice, wrote_file, never_wrote, wrote_lowered, Suffices}
 
 -- ---- the second lowering
 
@@ -68,36 +67,6 @@ module _ (b : List ℕ) (f : File) (bytes : Bytes b) (read : read_file b ≡ acc
         few_rows = λ r s y o short. ap (λ (a : Outcome Written). lower_of a r s y o) (itself_few (lent_in r s y) (length o) short);
         short_output = λ r s y o rows short. ap (λ (a : Outcome Written). lower_of a r s y o) (itself_short (lent_in r s y) (length o) rows short);
       }
-
--- what it wrote
-wrote_file : (b r s y o file : List ℕ) (f : File) → Bytes b → admit b (lent_in r s y) ≡ accepted f
-    → lower b (lent_in r s y) (length o) ≡ accepted (record { file = written (lowered_file f); figures = final_figures f })
-    → Wrote lower_f b r s y o file → file ≡ written (lowered_file f)
-unfolding lower_f
-wrote_file b r s y o file f bytes e w (x, answer, front) =
-    let lowered = written (lowered_file f) in
-    let left : lower_f b r s y o ≡ lower_of (accepted (record { file = lowered; figures = final_figures f })) r s y o =
-    ap (λ (a : Outcome Written). lower_of a r s y o) w in
-    let said : x.bytes ≡ (final_figures f).bytes =
-    sym (ap length_said answer) ∙ ap (λ (l : Finished). length_said l.answer) left in
-    front
-    ∙ ap (λ (n : ℕ). take n (lower_f b r s y o).out) said
-    ∙ ap (λ (l : Finished). take (final_figures f).bytes l.out) left
-    ∙ take_at lowered (drop (length lowered) o) (final_figures f).bytes (lowered_length b f (admitted b r s y f e).0 bytes)
-
-never_wrote : (b r s y o file : List ℕ) (c p : ℕ) → lower b (lent_in r s y) (length o) ≡ refused c p → Wrote lower_f b r s y o file → ⊥
-unfolding lower_f
-never_wrote b r s y o file c p e (x, answer, front) =
-    clash (ap (λ (a : Outcome Written). is_written (lower_of a r s y o).answer) e) (ap is_written answer)
-
--- WHAT IT WROTE is the lowered file.
-pub wrote_lowered : (b r s y o file : List ℕ) → Bytes b → Wrote lower_f b r s y o file
-    → (f : File) × (read_file b ≡ accepted f) × (file ≡ written (lowered_file f))
-wrote_lowered b r s y o file bytes wrote =
-    ⊎_elim
-    (λ (f, e, long, w). (f, (admitted b r s y f e).0, wrote_file b r s y o file f bytes e w wrote))
-    (λ (c, p, e). absurd (never_wrote b r s y o file c p e wrote))
-    (lower_total b (lent_in r s y) (length o))
 
 -- LOWERING TWICE.
 pub lowering_twice : LowersTwice lower_f

@@ -30,7 +30,7 @@ use Rattle.renumbering_laws.specs.Agree.{tells, names_told, renumbered_agrees}
 use Rattle.renumbering_laws.specs.Final.{final_agrees, final_scopes, lowered_figures, lowered_tagged, lowered_childless, lowered_order}
 use Rattle.lowering.specs.Lower.{lower_f}
 use Rattle.claims.specs.Twice.{Run, Wrote}
-use Rattle.claims.proofs.Twice.{wrote_lowered}
+use Rattle.claims.specs.Twice.{wrote_lowered}
 
 -- ---- what is claimed
 

@@ -1,19 +1,26 @@
 -- Lowering twice (02, request 14): what lowering writes, where it can be read, comes out of a second lowering unchanged.
 -- Assumes nothing.
-use Rattle.std.specs.Prelude.{◌≡◌, Bool, true, false, ℕ, ◌≤◌, ◌<◌, length, take}
+use Rattle.std.specs.Prelude.{◌≡◌, Bool, true, false, ℕ, ◌≤◌, ◌<◌, length, take, drop}
+use Rattle.std.proofs.Common.{sym, ◌∙◌, ⊎_elim, take_at}
+use Rattle.std.proofs.Math.Path.{ap}
 use mathlib.Core.List.{List}
 use Rattle.meaning.specs.Numbers.Mode
 use Rattle.meaning.specs.File.{File, written}
-use Rattle.meaning.specs.Reading.{accepted, refused, read_file}
+use Rattle.meaning.specs.Reading.{Outcome, accepted, refused, read_file}
+use Rattle.meaning.specs.Charges.{final_figures}
+use Rattle.meaning.specs.Lowering.{admit, lowered_file, Written, lower}
+use Rattle.spec_laws.specs.Tags.{clash}
 use Rattle.spec_laws.specs.Trees.{Bytes}
 use Rattle.figures.specs.Figures.{shown_figures}
 use Rattle.figures.specs.declared.FinalFigures.{FinalFigures}
 use Rattle.start.specs.Start.{lent_in}
+use Rattle.start.specs.Filled.{admitted}
 use Rattle.lowering.specs.declared.Lowered.{Lowered}
 use Rattle.lowering.specs.declared.Lowered.TheVariants.{Written as WrittenIn, Refused}
-use Rattle.lowering.specs.Lower.{Finished, finished, zeros_for, written_over}
+use Rattle.lowering.specs.Lower.{Finished, finished, zeros_for, written_over, lower_of, lower_f}
+use Rattle.renumbering_laws.specs.Final.{lowered_length}
 use Rattle.idempotence_laws.specs.Fields.{field_figures}
-use Rattle.claims.specs.Refusals.Small.{Enough, Short, first_short}
+use Rattle.claims.specs.Refusals.Small.{Enough, Short, first_short, lower_total}
 
 -- ---- what is claimed
 
@@ -55,6 +62,36 @@ is_written (Refused c p) = false
 abbrev pub length_said : Lowered → ℕ
 length_said (WrittenIn x) = x.bytes
 length_said (Refused c p) = 0
+
+-- what it wrote
+pub wrote_file : (b r s y o file : List ℕ) (f : File) → Bytes b → admit b (lent_in r s y) ≡ accepted f
+    → lower b (lent_in r s y) (length o) ≡ accepted (record { file = written (lowered_file f); figures = final_figures f })
+    → Wrote lower_f b r s y o file → file ≡ written (lowered_file f)
+unfolding lower_f
+wrote_file b r s y o file f bytes e w (x, answer, front) =
+    let lowered = written (lowered_file f) in
+    let left : lower_f b r s y o ≡ lower_of (accepted (record { file = lowered; figures = final_figures f })) r s y o =
+    ap (λ (a : Outcome Written). lower_of a r s y o) w in
+    let said : x.bytes ≡ (final_figures f).bytes =
+    sym (ap length_said answer) ∙ ap (λ (l : Finished). length_said l.answer) left in
+    front
+    ∙ ap (λ (n : ℕ). take n (lower_f b r s y o).out) said
+    ∙ ap (λ (l : Finished). take (final_figures f).bytes l.out) left
+    ∙ take_at lowered (drop (length lowered) o) (final_figures f).bytes (lowered_length b f (admitted b r s y f e).0 bytes)
+
+pub never_wrote : (b r s y o file : List ℕ) (c p : ℕ) → lower b (lent_in r s y) (length o) ≡ refused c p → Wrote lower_f b r s y o file → ⊥
+unfolding lower_f
+never_wrote b r s y o file c p e (x, answer, front) =
+    clash (ap (λ (a : Outcome Written). is_written (lower_of a r s y o).answer) e) (ap is_written answer)
+
+-- WHAT IT WROTE is the lowered file.
+pub wrote_lowered : (b r s y o file : List ℕ) → Bytes b → Wrote lower_f b r s y o file
+    → (f : File) × (read_file b ≡ accepted f) × (file ≡ written (lowered_file f))
+wrote_lowered b r s y o file bytes wrote =
+    ⊎_elim
+    (λ (f, e, long, w). (f, (admitted b r s y f e).0, wrote_file b r s y o file f bytes e w wrote))
+    (λ (c, p, e). absurd (never_wrote b r s y o file c p e wrote))
+    (lower_total b (lent_in r s y) (length o))
 
 -- ---- with the memory of the first
 
