@@ -6,6 +6,4 @@ pub mod Held
 pub mod Classes
 pub mod Declarations
 pub mod Kinds
-pub mod Items
-pub mod Program
 pub mod Split

@@ -38,8 +38,8 @@ use Rattle.simulation.proofs.Rewritten.ForOf.{insert_law, wrap_law}
 use Rattle.simulation.proofs.Tried.Passing.{new_scopes, new_symbols}
 use Rattle.simulation.proofs.Tried.Children.{children_law}
 use Rattle.simulation.proofs.Tried.Try.{try_plan, try_law}
-use Rattle.scoping_laws.specs.Itemized.Items.{items_rows, items_symbols}
-use Rattle.scoping_laws.specs.Itemized.Program.{items_store}
+use Rattle.scoping_laws.proofs.Itemized.Items.{items_rows, items_symbols}
+use Rattle.scoping_laws.proofs.Itemized.Program.{items_store}
 use Rattle.spec_laws.specs.SameScopes.{items_scopes}
 use Rattle.simulation.proofs.Arranged.Program.{program_law}
 use Rattle.walk.specs.Visit.{plan_next_f, rewrite_program_f, rewrite_try_f, rewrite_for_of_f}

@@ -58,7 +58,7 @@ use Rattle.walk.specs.Visit.{visit_f}
 use Rattle.simulation.proofs.Rewrite.{new_records}
 use Rattle.simulation.proofs.Visit.{visit_grows, visit_kept, visit_law}
 use Rattle.spec_laws.specs.Trees.{visits_last}
-use Rattle.scoping_laws.specs.Itemized.Program.{free_more as symbols_more}
+use Rattle.scoping_laws.proofs.Itemized.Program.{free_more as symbols_more}
 
 -- ---- tables of so many rows
 

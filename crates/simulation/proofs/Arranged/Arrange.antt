@@ -19,7 +19,7 @@ use Rattle.rewrite_program.specs.Placing.{number_rows_f}
 use Rattle.table_laws.proofs.Placed.Numbers.{cons, numbered, all_append, rows_closed, number_law}
 use Rattle.table_laws.proofs.Placed.Merge.{Merge, nil, left, right, numbered_append}
 use Rattle.table_laws.proofs.Placed.Place.{place_clear_law}
-use Rattle.scoping_laws.specs.Itemized.Program.{mixed}
+use Rattle.scoping_laws.proofs.Itemized.Program.{mixed}
 use Rattle.scoping_laws.specs.Itemized.Split.{Stay, item_parted}
 use Rattle.rewrite_program.specs.Arrange.{kept_rows_f, numbering_f, number_items_f, arrange_f}
 use Rattle.simulation.proofs.Arranged.Mix.{Mix, nothing, stay, move, mix_length, places, places_merge, places_length, kept_mix, number_mix}

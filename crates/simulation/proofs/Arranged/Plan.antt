@@ -36,8 +36,8 @@ use Rattle.table_laws.specs.Lists.TakeUp.{length_line}
 use Rattle.table_laws.specs.Lists.Plan.{cap_sum, parted, row_here, end_here}
 use Rattle.rewrite_items.specs.Kinds.{item_f}
 use Rattle.rewrite_items.specs.declared.Item.{Item}
-use Rattle.scoping_laws.specs.Itemized.Items.{items_rows}
-use Rattle.scoping_laws.specs.Itemized.Program.{items_more}
+use Rattle.scoping_laws.proofs.Itemized.Items.{items_rows}
+use Rattle.scoping_laws.proofs.Itemized.Program.{items_more}
 use Rattle.scoping_laws.specs.Itemized.Kinds.{kind_of, ChildRow, kind_is}
 use Rattle.scoping_laws.specs.Itemized.Names.{count_names_law}
 use Rattle.rewrite_program.specs.Plan.{child_names_f, exported_names_f, added_f, kept_f, moved_f, plan, plan_item_f, plan_program_f}

@@ -30,8 +30,8 @@ use Rattle.creation.specs.Scopes.{insert_scope_below_f}
 use Rattle.scoping_laws.specs.Created.Held.{free_scopes, free_symbols, Room}
 use Rattle.scoping_laws.specs.Created.Scopes.{below_symbols, insert_below_law}
 use Rattle.table_laws.specs.Streamed.Places.{one_row}
-use Rattle.scoping_laws.specs.Itemized.Items.{items_rows, items_symbols}
-use Rattle.scoping_laws.specs.Itemized.Program.{items_store}
+use Rattle.scoping_laws.proofs.Itemized.Items.{items_rows, items_symbols}
+use Rattle.scoping_laws.proofs.Itemized.Program.{items_store}
 use Rattle.rewrite_program.specs.Plan.{plan, plan_program_f}
 use Rattle.rewrite_program.specs.Program.{enter_program_f}
 use Rattle.simulation.proofs.Rewritten.Standing.{before, behind, to_list, row_is, list_here}

@@ -18,8 +18,8 @@ use Rattle.table_laws.specs.Lists.Plan.{cap_sum}
 use Rattle.scoping_laws.specs.Created.Held.{free_symbols}
 use Rattle.rewrite_items.specs.Items.{PassingF}
 use Rattle.scoping_laws.specs.Itemized.Held.{held}
-use Rattle.scoping_laws.specs.Itemized.Items.{items_rows, items_symbols}
-use Rattle.scoping_laws.specs.Itemized.Program.{mixed, items_law}
+use Rattle.scoping_laws.proofs.Itemized.Items.{items_rows, items_symbols}
+use Rattle.scoping_laws.proofs.Itemized.Program.{mixed, items_law}
 use Rattle.rewrite_program.specs.Plan.{plan}
 use Rattle.rewrite_program.specs.Arrange.{kept_rows_f, arrange_f}
 use Rattle.rewrite_program.specs.Program.{transform_items_f, rewrite_items_f}

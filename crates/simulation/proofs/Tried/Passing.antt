@@ -11,7 +11,7 @@ use Rattle.representation.specs.Store.Held.{scope_cells, symbol_cells, ctx_of}
 use Rattle.representation.proofs.Store.Agreed.{Agreed}
 use Rattle.scoping_laws.specs.Created.Held.{free_scopes, free_symbols, Room}
 use Rattle.rewrite_contexts.specs.Tries.{PartingF, parting_f}
-use Rattle.scoping_laws.specs.Itemized.Program.{free_more as symbols_more}
+use Rattle.scoping_laws.proofs.Itemized.Program.{free_more as symbols_more}
 
 -- the rows of a store, and a table with a gap: the rows before it, g free ones, and those behind it
 abbrev pub beside : List ℕ → List ℕ → Store → Buf → PartingF

@@ -21,7 +21,7 @@ use Rattle.representation.proofs.Store.Agreed.{Agreed}
 use Rattle.scoping_laws.specs.Created.Held.{free_symbols}
 use Rattle.rewrite_items.specs.Items.{PassingF, transform_item_f}
 use Rattle.scoping_laws.specs.Itemized.Held.{held}
-use Rattle.scoping_laws.specs.Itemized.Items.{items_rows, items_symbols, item_rows, item_symbols, item_law}
+use Rattle.scoping_laws.proofs.Itemized.Items.{items_rows, items_symbols, item_rows, item_symbols, item_law}
 
 -- what they come to: of each item what stays, and then what moves
 unfoldable pub mixed : Forest → Store → List Row

@@ -51,7 +51,7 @@ use Rattle.scoping_laws.specs.Itemized.Classes.{
   value_agreed,
   value_symbols,
 }
-use Rattle.scoping_laws.specs.Itemized.Declarations.{declared_law, exported_declaration_law, flags_symbols}
+use Rattle.scoping_laws.proofs.Itemized.Declarations.{declared_law, exported_declaration_law, flags_symbols}
 
 -- the rows and the symbols that items add, by their lines
 abbrev pub items_rows : Forest → ℕ
