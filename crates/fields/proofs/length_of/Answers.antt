@@ -3,9 +3,9 @@ use mathlib.Core.Path.{refl, sym, ◌∙◌}
 use borrow.Author.Rules.{rules}
 use Rattle.fields.specs.Lengths.{lengths}
 use Rattle.fields.proofs.Lengths.{lengths_right, lengths_behind}
--- an answer that is the table's entry is 01's length
 use Rattle.fields.proofs.length_of.Goals as goal
 
+-- the table in the code is the table
 pub returns-then-t-lt43 : goal.returns-then-t-lt43
 unfolding lengths
 returns-then-t-lt43 c = record { entry = refl; rule = lengths_right c.args.tag }

@@ -4,7 +4,6 @@ use Prim.Native.Nat.{◌+◌, ◌*◌, ◌-◌}
 use native.Mathlib.Omega.{arith}
 use Rattle.scoping.proofs.Skips.{next_here, next_turn, next_out}
 use borrow.Author.Rules.{rules}
--- the row after j of the eight
 use Rattle.scoping.proofs.next_of_eight.Goals as goal
 
 pub loop-j-init : goal.loop-j-init
