@@ -1,1 +1,2 @@
 pub mod TryParts
+pub mod Figures

@@ -17,7 +17,7 @@ use Rattle.spec_laws.specs.Figures.{figures_same, total_++}
 use Rattle.spec_laws.specs.Trees.{Bytes}
 use Rattle.spec_laws.specs.Calls.{completed_over, calls_are}
 use Rattle.charge_laws.specs.VisitCharges.{visit_charges}
-use Rattle.charge_laws.proofs.Counts.Figures.{joined}
+use Rattle.charge_laws.specs.Counts.Figures.{joined}
 use Rattle.charge_laws.proofs.Fit.Ends.{walk_ends}
 use Rattle.charge_laws.proofs.Fit.Final.{charges_final}
 use Rattle.charge_laws.proofs.Fit.Import.{calls_charged, calls_above}

@@ -43,7 +43,7 @@ use Rattle.cases.specs.TableCounts.{count_table, counts_hold}
 use Rattle.cases.specs.TableDepth.{depth_table, depth_holds}
 use Rattle.cases.specs.TableOrder.{order_table, orders_hold}
 use Rattle.cases.specs.TableWord.{const_in_body, using_in_body, const_after_using, using_after_using, word_table, words_hold}
-use Rattle.charge_laws.proofs.Counts.Figures.{joined}
+use Rattle.charge_laws.specs.Counts.Figures.{joined}
 use Rattle.charge_laws.proofs.Fit.Accepted.{accepted_dues}
 use Rattle.charge_laws.proofs.Fit.Import.{imports_are}
 use Rattle.spec_laws.specs.Trees.{Bytes}
@@ -68,7 +68,7 @@ use Rattle.fields.specs.Lengths.{lengths, no_tags, lengths_count, lengths_none}
 use Rattle.fields.proofs.Lengths.{lengths_right}
 use Rattle.readback_laws.specs.Decoded.{tree_of, tree_in}
 use Rattle.readback_laws.proofs.Written.{file_written}
-use Rattle.readback_laws.proofs.Loads.Written.{is_load}
+use Rattle.readback_laws.specs.Loads.Written.{is_load}
 use Rattle.agreement_laws.specs.Agreed.{read_agrees}
 use Rattle.renumbering_laws.specs.Final.{lowered_length, loads_written, lowered_gives}
 use Rattle.parsing.specs.Counted.{read_uncounted, symbol_offset, CountsRight, LowestWrong, CountRefused, count_refused, counts_right, count_wrong, counts_accepted, count_lowest}

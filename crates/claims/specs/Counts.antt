@@ -24,7 +24,8 @@ use Rattle.simulation.proofs.Counted.{counts_shown}
 use Rattle.simulation.proofs.Started.{zeros_before, placed, calls_after_start}
 use Rattle.readback_laws.specs.ReadBack.{fields_of, field_count}
 use Rattle.readback_laws.proofs.ReadBack.{counts_back}
-use Rattle.readback_laws.proofs.Counted.{mentions_in, counts_said, counts_said_lem}
+use Rattle.readback_laws.specs.Counted.{mentions_in, counts_said}
+use Rattle.readback_laws.proofs.Counted.{counts_said_lem}
 use Rattle.renumbering_laws.specs.Final.{lowered_tagged}
 use Rattle.claims.specs.Calls.{after_calls}
 

@@ -41,9 +41,9 @@ use Rattle.walk.specs.Over.{is_over_in}
 use Rattle.simulation.proofs.Visit.{over_told_lem}
 use Rattle.hint_laws.specs.Hints.{sum_over, names_of, of_initializer, over_declarators, shown, as_in_source, usings_in, asks_for, asked, called, calls_in, given}
 use Rattle.readback_laws.specs.ReadBack.{numbers_in, fields_in, fields_of, field_count}
-use Rattle.readback_laws.proofs.Counted.{names_in, often, mentions_in, counts_said}
+use Rattle.readback_laws.specs.Counted.{names_in, often, mentions_in, counts_said}
 use Rattle.readback_laws.specs.Decoded.{records_of, row_of, trees_from, tree_in}
-use Rattle.readback_laws.proofs.Loads.Written.{is_load}
+use Rattle.readback_laws.specs.Loads.Written.{is_load}
 use Rattle.idempotence_laws.specs.Fields.{field_figures}
 use Rattle.claims.specs.Depth.{forest_with, read_deep, depth_first, read_before}
 use Rattle.claims.specs.Letters.{take_up_before, take_up_cases_before, switch_by, switch_before, unlettered, ButLetters}

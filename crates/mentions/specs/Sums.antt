@@ -21,17 +21,17 @@ heads_of none = []
 heads_of (more h k r) = h ∷ (heads_of k ++ heads_of r)
 
 -- how often they name a symbol
-unfoldable pub named_by_lem : ℕ → List Head → ℕ
-named_by_lem y [] = 0
-named_by_lem y (h ∷ hs) = named y h + named_by_lem y hs
+unfoldable pub named_by : ℕ → List Head → ℕ
+named_by y [] = 0
+named_by y (h ∷ hs) = named y h + named_by y hs
 
-pub named_++ : (y : ℕ) (xs ys : List Head) → named_by_lem y (xs ++ ys) ≡ named_by_lem y xs + named_by_lem y ys
-unfolding named_by_lem
+pub named_++ : (y : ℕ) (xs ys : List Head) → named_by y (xs ++ ys) ≡ named_by y xs + named_by y ys
+unfolding named_by
 named_++ y [] ys = omega arith
 named_++ y (x ∷ xs) ys = omega (arith, named_++ y xs ys)
 
-pub named_heads : (y : ℕ) (f : Forest) → named_by_lem y (heads_of f) ≡ mentions y f
-unfolding heads_of named_by_lem mentions
+pub named_heads : (y : ℕ) (f : Forest) → named_by y (heads_of f) ≡ mentions y f
+unfolding heads_of named_by mentions
 named_heads y none = refl
 named_heads y (more h k r) = omega (arith, named_++ y (heads_of k) (heads_of r), named_heads y k, named_heads y r)
 
@@ -135,8 +135,8 @@ module _ (y : ℕ) (some : 1 ≤ y) where
 
   -- RECORDS ADDED: the counter of a symbol row counts their mentions of it, up to the largest number.
   pub added_at : (t : List ℕ) (hs : List Head) → y ≤ length t → counter t y ≤ largest
-      → counter (all add_record_f t hs) y ≡ capped (counter t y) (named_by_lem y hs)
-  unfolding all named_by_lem
+      → counter (all add_record_f t hs) y ≡ capped (counter t y) (named_by y hs)
+  unfolding all named_by
   added_at t [] in_table fits = cap_none (counter t y) fits
   added_at t (h ∷ hs) in_table fits =
       let own = record_added_at t h in_table fits in
@@ -168,8 +168,8 @@ module _ (y : ℕ) (some : 1 ≤ y) where
       omega (arith, first, second)
 
   -- RECORDS TAKEN OFF: it is less by their mentions.
-  pub taken_at : (t : List ℕ) (hs : List Head) → y ≤ length t → counter (all take_record_f t hs) y ≡ counter t y - named_by_lem y hs
-  unfolding all named_by_lem
+  pub taken_at : (t : List ℕ) (hs : List Head) → y ≤ length t → counter (all take_record_f t hs) y ≡ counter t y - named_by y hs
+  unfolding all named_by
   taken_at t [] in_table = omega arith
   taken_at t (h ∷ hs) in_table =
       omega (arith, record_taken_at t h in_table, taken_at (take_record_f t h) hs (omega (arith, record_taken t h)))

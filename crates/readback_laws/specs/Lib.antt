@@ -4,3 +4,4 @@ pub mod Decoded
 pub mod Written
 -- The Loads written are those read and one for each context.
 pub mod Loads
+pub mod Counted

@@ -1,2 +1,3 @@
 -- The Loads written are those read and one for each context.
 pub mod Contexts
+pub mod Written

@@ -24,7 +24,8 @@ use Rattle.readback_laws.proofs.Childless.{calls_childless}
 use Rattle.readback_laws.proofs.Written.{file_written}
 use Rattle.readback_laws.proofs.Accepted.{calls_tagged}
 use Rattle.readback_laws.proofs.InBytes.{Small, small_bytes, calls_small}
-use Rattle.readback_laws.proofs.Loads.Written.{is_load, final_loads, loads_back}
+use Rattle.readback_laws.specs.Loads.Written.{is_load}
+use Rattle.readback_laws.proofs.Loads.Written.{final_loads, loads_back}
 use Rattle.agreement_laws.specs.Agreed.{calls_scopes_agree}
 use Rattle.renumbering_laws.specs.Order.{up_from}
 use Rattle.renumbering_laws.specs.Trees.{plain_named, renumbered_tagged, renumbered_childless, renumbered_loads, renumbered_gives}

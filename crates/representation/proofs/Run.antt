@@ -5,16 +5,12 @@ use Rattle.std.proofs.Math.Path.{refl}
 use Rattle.std.proofs.Common.{arith}
 use Rattle.meaning.specs.Tree.{Head, Forest, count}
 use Rattle.meaning.specs.File.{field_bytes}
-use Rattle.meaning.specs.Grammar.{field_of, head_of, children_of}
+use Rattle.meaning.specs.Grammar.{field_of}
 use Rattle.meaning.specs.declared.Place.{Place}
-use Rattle.meaning.specs.declared.Field.{Field}
 use Rattle.parsing.specs.Parsed.{RecordAt, Parsed, parsed_none, parsed_more}
 use Rattle.tables.specs.declared.Row.{Row}
 use Rattle.representation.specs.Gap.Cells.{line, rows_of}
-
--- the row of a record that is not open
-unfoldable pub record_row : Field → Row
-record_row x = line (head_of x) (children_of x)
+use Rattle.representation.specs.Run.{record_row}
 
 -- the rows of the records from an offset on, up to another
 abbrev pub Run : List ℕ → ℕ → List Row → ℕ → Type 0

@@ -3,3 +3,4 @@ pub mod Gap
 pub mod Store
 pub mod Spots
 pub mod Shown
+pub mod Run

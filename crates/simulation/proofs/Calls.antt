@@ -32,7 +32,7 @@ use Rattle.tables.specs.Table.{capped, cap_one, column_f, set_column_f}
 use Rattle.tables.specs.Stream.{Buf, emit_f, take_back_f}
 use Rattle.tables.specs.declared.Row.{Row}
 use Rattle.mentions.specs.Counters.{add_record_f, add_rows_f}
-use Rattle.mentions.specs.Sums.{heads_of, named_by_lem, all, all_length, record_added, added_at, whole_sum, counts_from, known_counts, count_at, counts_length}
+use Rattle.mentions.specs.Sums.{heads_of, named_by, all, all_length, record_added, added_at, whole_sum, counts_from, known_counts, count_at, counts_length}
 use Rattle.path.specs.Path.{Tables, tables, on_records, with_cursor_f}
 use Rattle.import_line.specs.Import.{import_due_f, count_child_f, write_import_f, add_import_f, complete_f, complete_in}
 use Rattle.representation.specs.Gap.Cells.{table, free, line, rows_of, gapped, length_rows}
@@ -176,8 +176,8 @@ module _ (h : Head) (k r : Forest) (y : ℕ) where
   unfolding heads_of with_import ◌&◌
   line_heads_lem = refl
 
-  line_mentions : (n : ℕ) → mentions n (with_import y (more h k r)) ≡ mentions n (more h k r) + named_by_lem n line_heads
-  unfolding mentions with_import ◌&◌ named_by_lem
+  line_mentions : (n : ℕ) → mentions n (with_import y (more h k r)) ≡ mentions n (more h k r) + named_by n line_heads
+  unfolding mentions with_import ◌&◌ named_by
   line_mentions n = omega arith
 
 module _ (x : Figures) (z : Rest) (n : ℕ) (small : x.records ≤ 65535) (placed : Placed x z n) where

@@ -13,7 +13,7 @@ use Rattle.tables.specs.Columns.SymbolTable
 use Rattle.tables.specs.Table.{counts_at}
 use Rattle.mentions.specs.Counters.{add_record_f, take_record_f, add_rows_f, take_rows_f, on_counts}
 use Rattle.mentions.specs.Sums.{
-  named_by_lem,
+  named_by,
   named_++,
   all,
   all_length,
@@ -231,9 +231,9 @@ module _ (x : Figures) (z : Rest) (n : ℕ) where
     new_length = all_length add_record_f record_added taken part.new ∙ taken_length
 
     -- what is left when the part is taken off
-    left : (y : ℕ) → 1 ≤ y → y ≤ n → counter taken y ≡ named_by_lem y part.kept + named_by_lem y part.behind
+    left : (y : ℕ) → 1 ≤ y → y ≤ n → counter taken y ≡ named_by y part.kept + named_by y part.behind
     left y some in_table =
-        let m = named_by_lem y in
+        let m = named_by y in
         let l₀ = counts_length (λ y. mentions y (tree_at s)) n 1 in
         let l₁ = all_length take_record_f record_taken counts part.old in
         let c₀ = count_at (λ y. mentions y (tree_at s)) n y some in_table in
@@ -245,9 +245,9 @@ module _ (x : Figures) (z : Rest) (n : ℕ) where
 
     -- and the mentions of the tree after the visit
     after_mentions : (y : ℕ)
-        → mentions y (tree_at (visit s)) ≡ named_by_lem y part.kept + named_by_lem y part.behind + named_by_lem y part.new + named_by_lem y part.new_rest
+        → mentions y (tree_at (visit s)) ≡ named_by y part.kept + named_by y part.behind + named_by y part.new + named_by y part.new_rest
     after_mentions y =
-        let m = named_by_lem y in
+        let m = named_by y in
         let v : m (heads (visited_at (visit s))) ≡ m part.kept + m part.new = ap m part.visited_after ∙ named_++ y part.kept part.new in
         let r : m (heads (rest_at (visit s))) ≡ m part.new_rest + m part.behind = ap m part.rest_after ∙ named_++ y part.new_rest part.behind in
         omega (arith, spot_mentions y (visit s), v, r)

@@ -40,7 +40,8 @@ use Rattle.meaning.specs.Charges.{
 }
 use Rattle.charge_laws.specs.VisitCharges.{visit_charges}
 use Rattle.charge_laws.proofs.Totals.Fits.{accepted_fits}
-use Rattle.charge_laws.proofs.Counts.Figures.{whole_at, joined}
+use Rattle.charge_laws.specs.Counts.Figures.{joined}
+use Rattle.charge_laws.proofs.Counts.Figures.{whole_at}
 use Rattle.charge_laws.proofs.Counts.Pending.{Pending, spot_fits}
 use Rattle.charge_laws.proofs.Fit.Accepted.{accepted_fit, accepted_after}
 use Rattle.charge_laws.proofs.Fit.Final.{never_above}

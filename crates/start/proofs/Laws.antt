@@ -15,7 +15,7 @@ use Rattle.tables.specs.Table.{set_row_f}
 use Rattle.tables.specs.declared.Row.{Row}
 use Rattle.spec_laws.specs.Trees.{numbers_most}
 use Rattle.start.specs.Flat.{Filling, filling, next_record}
-use Rattle.representation.proofs.Run.{record_row}
+use Rattle.representation.specs.Run.{record_row}
 
 -- ---- clearing
 

@@ -12,7 +12,7 @@ use Rattle.tables.specs.Columns.ScopeTable
 use Rattle.tables.specs.Columns.SymbolTable
 use Rattle.tables.specs.Loops.{turns}
 use Rattle.tables.specs.Table.{set_row_f}
-use Rattle.representation.proofs.Run.{record_row}
+use Rattle.representation.specs.Run.{record_row}
 use Rattle.mentions.specs.Counters.{add_rows_f, on_counts}
 use Rattle.path.specs.declared.Walk.{Walk}
 use Rattle.path.specs.Path.{Tables, tables}

@@ -9,7 +9,7 @@ ghost use Rattle.path.specs.Path.{tables};
 ghost use Rattle.meaning.specs.Lowering as lowering;
 ghost use Rattle.checking.specs.Survey.{surveyed_of};
 ghost use Rattle.start.specs.Flat.{scope_into_f, scopes_f, symbol_into_f, symbols_f, records_f, walk_f, fill_f};
-ghost use Rattle.representation.proofs.Run.{record_row};
+ghost use Rattle.representation.specs.Run.{record_row};
 ghost use Rattle.start.specs.Start.{begun, lent_in, start_f};
 
 use checking::{Layout, Surveyed};

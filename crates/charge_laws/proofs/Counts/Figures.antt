@@ -5,31 +5,7 @@ use Rattle.std.proofs.Common.{sym, ap, ap₂, subst, ◌∙◌, arith}
 use Rattle.meaning.specs.Tree.{Head, Forest, none, more, one, Node, single, size, ◌&◌}
 use Rattle.meaning.specs.File.{settings_bytes, scope_bytes, symbol_bytes, File}
 use Rattle.meaning.specs.Scoping.{Store}
-use Rattle.meaning.specs.Walk.{
-  is_static_block,
-  enter,
-  leave,
-  Crumb,
-  crumb,
-  Spot,
-  at,
-  leaving,
-  over,
-  is_over,
-  current_scope,
-  hoist_scope,
-  settle,
-  opened,
-  closed,
-  visit,
-  visits,
-  store_of,
-  start,
-  plug,
-  tree_at,
-  store_at,
-  file_at,
-}
+use Rattle.meaning.specs.Walk.{is_static_block, enter, leave, Crumb, crumb, Spot, at, leaving, over, is_over, current_scope, hoist_scope, settle, opened, closed, visit, visits, store_of, start, plug, tree_at, store_at, file_at}
 use Rattle.meaning.specs.Charges.{Line, helper, Figures, figures, ◌⊕◌, total, record_bytes, figures_in, figures_at}
 use Rattle.meaning.specs.Due.{any_context, missing, rewrite_lines, due, dues}
 use Rattle.charge_laws.specs.VisitCharges.{standing, add_helper, visits_in, visit_charges}
@@ -43,6 +19,7 @@ use Rattle.charge_laws.proofs.Counts.Fits.{Fits}
 use Rattle.charge_laws.proofs.Counts.Pending.{Pending, ready, pending_start, pending_visit}
 use Rattle.charge_laws.proofs.Counts.Left.{rest, left, left_settle, Ready, visit_left, over_left, over_stays_lem}
 use Rattle.spec_laws.specs.Bools.{and-true}
+use Rattle.charge_laws.specs.Counts.Figures.{joined}
 
 -- ---- the tree and the store at a spot
 
@@ -172,13 +149,6 @@ unfolding visit
 visit_charged (over tree st) ready = over_charged tree st
 visit_charged (at d h k r p st) ready = enter_charged (current_scope p) (hoist_scope p) d h k r p st ready
 visit_charged (leaving k h d r p st) ready = leave_charged d h k r p st ready
-
--- ---- all visits
-
--- charges one after another
-unfoldable pub joined : List (List Line) → List Line
-joined [] = []
-joined (x ∷ xs) = x ++ joined xs
 
 with_helper_lem : (b : Bool) (ls : List Line) → Same (total (if b then helper ∷ ls else ls)) (total ls ⊕ total (if b then helper ∷ [] else []))
 unfolding total

@@ -29,7 +29,8 @@ use Rattle.charge_laws.proofs.Counts.TakenUp.{Labelled}
 use Rattle.charge_laws.proofs.Counts.Program.{Kinds}
 use Rattle.charge_laws.proofs.Counts.Enter.{Begins, Body, Left}
 use Rattle.charge_laws.proofs.Counts.Fits.{FitsIn, Fits}
-use Rattle.charge_laws.proofs.Counts.Figures.{joined, dues_are, after}
+use Rattle.charge_laws.specs.Counts.Figures.{joined}
+use Rattle.charge_laws.proofs.Counts.Figures.{dues_are, after}
 use Rattle.charge_laws.proofs.Fit.Placed.{ReadAs, same_tag, Placed, accepted_placed}
 use Rattle.parsing.specs.Places.{Bars, body_bars_5, below_bars_10}
 use Rattle.charge_laws.proofs.Fit.Barred.{barred, no_catch}

@@ -46,7 +46,7 @@ use Rattle.meaning.specs.Charges.{
 use Rattle.meaning.specs.Due.{is_context, any_context}
 use Rattle.charge_laws.specs.VisitCharges.{standing, visits_in, add_helper, visit_charges}
 use Rattle.spec_laws.specs.Figures.{Same, figures_same}
-use Rattle.charge_laws.proofs.Counts.Figures.{joined}
+use Rattle.charge_laws.specs.Counts.Figures.{joined}
 use Rattle.charge_laws.proofs.Fit.Accepted.{accepted_after}
 use Rattle.charge_laws.proofs.Fit.Ends.{walk_ends}
 use Rattle.charge_laws.proofs.Fit.Modes.{Linear, cost, costs, cost_++}

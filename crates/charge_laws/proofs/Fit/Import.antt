@@ -57,7 +57,8 @@ use Rattle.charge_laws.proofs.Growth.Charged.{counts, helper_line, Visited}
 use Rattle.charge_laws.proofs.Growth.Enter.{entered, left}
 use Rattle.charge_laws.proofs.Counts.Enter.{proper}
 use Rattle.charge_laws.proofs.Counts.Pending.{Pending, pending_start, pending_visit}
-use Rattle.charge_laws.proofs.Counts.Figures.{settled, whole_at, joined}
+use Rattle.charge_laws.specs.Counts.Figures.{joined}
+use Rattle.charge_laws.proofs.Counts.Figures.{settled, whole_at}
 use Rattle.charge_laws.proofs.Totals.Total.{helper_contexts}
 use Rattle.charge_laws.proofs.Fit.Accepted.{accepted_fit, accepted_charged}
 use Rattle.charge_laws.proofs.Fit.Ends.{walk_ends}

@@ -1,9 +1,9 @@
 -- The Loads in the written bytes are those in the bytes read, and one for each context.
 -- Assumes nothing.
-use Rattle.std.specs.Prelude.{◌≡◌, refl, Bool, false, List, [], ◌∷◌, ℕ, zero, suc, ◌+◌, ◌*◌, eqb}
+use Rattle.std.specs.Prelude.{◌≡◌, refl, false, List, [], ◌∷◌, ℕ, zero, suc, ◌+◌, ◌*◌}
 use Rattle.std.proofs.Common.{ap, arith}
 use Rattle.meaning.specs.Numbers.Tag
-use Rattle.meaning.specs.Tree.{Forest, none, more, one, single, flatten, ◌&◌}
+use Rattle.meaning.specs.Tree.{Forest, none, more, single, flatten, ◌&◌}
 use Rattle.meaning.specs.Mentions.{mentions}
 use Rattle.meaning.specs.File.{File, written}
 use Rattle.meaning.specs.Scoping.{Store}
@@ -23,6 +23,7 @@ use Rattle.charge_laws.proofs.Counts.Figures.{settled, whole_at}
 use Rattle.readback_laws.specs.Loads.Contexts.{load_of, loads}
 use Rattle.readback_laws.proofs.Loads.Contexts.{loads_&}
 use Rattle.readback_laws.proofs.Loads.Entered.{enter_loads, leave_loads}
+use Rattle.readback_laws.specs.Loads.Written.{is_load}
 
 -- ---- visits
 
@@ -104,11 +105,6 @@ final_loads bytes f e =
       whole_at (final_spot f),
       ap (λ (x : Figures). x.contexts) (final_figures_lem bytes f e),
     )
-
--- ---- the bytes
-
-abbrev pub is_load : ℕ → Bool
-is_load t = eqb t Tag.Load
 
 records_loads : (f : Forest) → field_count is_load (record_reads (flatten f)) ≡ loads f
 unfolding field_count record_reads flatten loads load_of

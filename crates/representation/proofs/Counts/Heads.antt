@@ -6,7 +6,7 @@ use Rattle.meaning.specs.Tree.{Head, Forest, none, more, one, ◌&◌}
 use Rattle.meaning.specs.Mentions.{mentions}
 use Rattle.meaning.specs.Scoping.{Store}
 use Rattle.meaning.specs.Walk.{is_static_block, Crumb, crumb, Spot, at, leaving, over, settle, plug, tree_at}
-use Rattle.mentions.specs.Sums.{heads_of, named_by_lem, named_++, named_heads}
+use Rattle.mentions.specs.Sums.{heads_of, named_by, named_++, named_heads}
 use Rattle.representation.specs.Gap.Cells.{rows_of}
 use Rattle.representation.specs.Spots.Spots.{open_line, open_rows_of, after_rows_of, opens_at, visited_at, rest_at}
 use Rattle.representation.proofs.Counts.Rows.{heads, heads_++, heads_rows, heads_&}
@@ -99,8 +99,8 @@ mentions_& y none g = omega arith
 mentions_& y (more h k r) g = omega (arith, mentions_& y r g)
 
 plug_mentions : (y : ℕ) (path : List Crumb) (f : Forest)
-    → mentions y (plug f path) ≡ named_by_lem y (open_heads path) + (mentions y f + named_by_lem y (after_heads path))
-unfolding plug open_heads after_heads named_by_lem mentions
+    → mentions y (plug f path) ≡ named_by y (open_heads path) + (mentions y f + named_by y (after_heads path))
+unfolding plug open_heads after_heads named_by mentions
 plug_mentions y [] f = omega arith
 plug_mentions y (crumb h before after ∷ path) f =
     omega (
@@ -116,7 +116,7 @@ plug_mentions y (crumb h before after ∷ path) f =
 
 stands_mentions : (y : ℕ) {done f : Forest} {path : List Crumb} {s : Spot} (g : Forest) → Stands done f path s
     → mentions y g ≡ mentions y done + mentions y f
-    → mentions y (plug g path) ≡ named_by_lem y (heads (visited_at s)) + named_by_lem y (heads (rest_at s))
+    → mentions y (plug g path) ≡ named_by y (heads (visited_at s)) + named_by y (heads (rest_at s))
 stands_mentions y {done} {f} {path} g i e =
     rw (i.visited, i.rest)
     (omega (
@@ -129,7 +129,7 @@ stands_mentions y {done} {f} {path} g i e =
     ))
 
 -- THE MENTIONS OF A SPOT'S TREE are those of its rows.
-pub spot_mentions : (y : ℕ) (s : Spot) → mentions y (tree_at s) ≡ named_by_lem y (heads (visited_at s)) + named_by_lem y (heads (rest_at s))
+pub spot_mentions : (y : ℕ) (s : Spot) → mentions y (tree_at s) ≡ named_by y (heads (visited_at s)) + named_by y (heads (rest_at s))
 unfolding tree_at plug mentions
 spot_mentions y (at done h k r path st) =
     stands_mentions y (done & more h k r) (at_stands done h k r path st) (mentions_& y done (more h k r))

@@ -1,6 +1,6 @@
 -- `start::row_of` meets its contract. Assumes nothing.
 use Rattle.meaning.specs.Grammar.{head_of}
-use Rattle.representation.proofs.Run.{record_row}
+use Rattle.representation.specs.Run.{record_row}
 use Rattle.start.proofs.row_of.Goals as goal
 
 pub returns : goal.returns

@@ -1,0 +1,13 @@
+-- After any number of visits the figures are those before and the charges so far.
+-- Assumes nothing.
+use Rattle.std.specs.Prelude.{List, [], ◌∷◌, ◌++◌, ◌+◌}
+use Rattle.meaning.specs.Tree.{one}
+use Rattle.meaning.specs.Walk.{visits}
+use Rattle.meaning.specs.Charges.{Line}
+
+-- ---- all visits
+
+-- charges one after another
+unfoldable pub joined : List (List Line) → List Line
+joined [] = []
+joined (x ∷ xs) = x ++ joined xs
