@@ -1,4 +1,4 @@
--- How often the records in some bytes name a symbol, counted by a reader of the bytes; and that a written file says so in its symbol rows.
+-- How often the records in some bytes name a symbol, counted by a reader of the bytes.
 -- Assumes nothing.
 use Rattle.std.specs.Prelude.{if◌then◌else◌, get_or, eqb}
 use mathlib.Core.List.{List, [], ◌∷◌}
@@ -7,8 +7,6 @@ use Rattle.meaning.specs.Numbers.Tag
 use Rattle.meaning.specs.Tree.{one_of}
 use Rattle.meaning.specs.File.{Symbol}
 use Rattle.readback_laws.specs.ReadBack.{Read}
-
--- ---- a reader of the bytes
 
 -- the fields' own numbers, counted from 0
 abbrev pub number_in : Read → ℕ → ℕ

@@ -1,7 +1,6 @@
+-- What a reader finds in the bytes of a file: fields, the tree, numbers, Loads, counts.
 pub mod ReadBack
 pub mod Decoded
--- An accepted file is written as it was read.
 pub mod Written
--- The Loads written are those read and one for each context.
 pub mod Loads
 pub mod Counted

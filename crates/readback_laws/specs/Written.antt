@@ -1,4 +1,4 @@
--- An accepted file is written as it was read: its bytes are those that writing makes of what is read.
+-- The numbers that stand in some bytes from an offset on.
 -- Assumes nothing.
 use mathlib.Core.List.{List, [], ◌∷◌}
 use Prim.Native.Nat.{ℕ, zero, suc, ◌+◌}

@@ -1,4 +1,4 @@
--- BYTES AND ROWS: the records that stand one after the other in a file are the rows of the tree that is read from it.
+-- The row of a record that is read from a file.
 -- Assumes nothing.
 use Rattle.meaning.specs.Grammar.{head_of, children_of}
 use Rattle.meaning.specs.declared.Field.{Field}

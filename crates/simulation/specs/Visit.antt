@@ -1,4 +1,4 @@
--- One visit on the tables is 01's visit.
+-- Before a record the walk leaves nothing and goes on. That one visit on the tables is 01's is in proofs/Visit.antt.
 -- Assumes nothing.
 use Rattle.std.specs.Prelude.{◌≡◌, true, false, List, [], ◌∷◌, ◌++◌, ℕ, suc, ◌+◌, ltb, length}
 use Rattle.std.proofs.Math.Path.{refl}

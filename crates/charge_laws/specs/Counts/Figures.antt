@@ -1,11 +1,9 @@
--- After any number of visits the figures are those before and the charges so far.
+-- Charges one after another.
 -- Assumes nothing.
 use Rattle.std.specs.Prelude.{List, [], ◌∷◌, ◌++◌, ◌+◌}
 use Rattle.meaning.specs.Tree.{one}
 use Rattle.meaning.specs.Walk.{visits}
 use Rattle.meaning.specs.Charges.{Line}
-
--- ---- all visits
 
 -- charges one after another
 unfoldable pub joined : List (List Line) → List Line

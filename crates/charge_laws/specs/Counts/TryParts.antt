@@ -1,12 +1,10 @@
--- A Block directly below a Try, or below a Catch of one, has no using when the walk comes to it: the visit to the Try took them up.
+-- That no part of a Try around has a using, at a spot of the walk. That it is so is in proofs/Counts/TryParts.antt.
 -- Assumes nothing.
 use Rattle.std.specs.Prelude.{◌≡◌, Bool, true, false, ◌||◌, ◌&&◌, List, [], ◌∷◌, eqb}
 use Rattle.meaning.specs.Numbers.Tag
 use Rattle.meaning.specs.Tree.{Forest, more, one, ◌&◌}
 use Rattle.meaning.specs.Contexts.{any_part_using}
 use Rattle.meaning.specs.Walk.{Crumb, crumb, Spot, at, leaving, over}
-
--- ---- what is said
 
 -- the innermost open record is a Try, or a Catch of one
 unfoldable pub in_try : List Crumb → Bool

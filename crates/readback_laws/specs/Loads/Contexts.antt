@@ -1,4 +1,4 @@
--- The Loads of a tree: each context that is made brings one, and taking up usings makes and drops none.
+-- The Loads of a tree, and the contexts that lines charge.
 -- Assumes nothing.
 use Rattle.std.specs.Prelude.{if◌then◌else◌, List, ℕ, ◌+◌, eqb}
 use Rattle.meaning.specs.Numbers.Tag

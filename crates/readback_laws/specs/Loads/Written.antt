@@ -1,9 +1,7 @@
--- The Loads in the written bytes are those in the bytes read, and one for each context.
+-- The tag of a Load, told of a field.
 -- Assumes nothing.
 use Rattle.std.specs.Prelude.{Bool, ℕ, eqb}
 use Rattle.meaning.specs.Numbers.Tag
-
--- ---- the bytes
 
 abbrev pub is_load : ℕ → Bool
 is_load t = eqb t Tag.Load

@@ -1,4 +1,4 @@
--- Declarations that become var, exported or not: their rows, and the symbols of the store.
+-- The row of a Declaration that becomes var.
 -- Assumes nothing.
 use Rattle.std.specs.Prelude.{if◌then◌else◌, ◌≡◌, refl, Bool, true, false, ℕ}
 use Rattle.meaning.specs.Numbers.Tag
@@ -8,8 +8,6 @@ use Rattle.meaning.specs.Statements.{is_using}
 use Rattle.tables.specs.Table.{closed_row_f}
 use Rattle.representation.specs.Gap.Cells.{line}
 use Rattle.rewrite_items.specs.Items.{recorded_f}
-
--- ---- rows
 
 pub recorded_row : (h : Head) (n : ℕ) → recorded_f (line h n) ≡ line (hd Tag.Declaration Kind.Var (if is_using h then h.a else 0) 0) n
 unfolding recorded_f

@@ -1,4 +1,4 @@
--- A StaticBlock with a using gets its context; any other stays.
+-- The tables when a StaticBlock is left: what it has to take up, its rows taken back, and another record in its place.
 -- Assumes nothing.
 use Rattle.std.specs.Prelude.{if◌then◌else◌, ◌≡◌, Bool, not, eqb}
 use Rattle.std.proofs.Math.Path.{refl, ap}

@@ -1,4 +1,4 @@
--- The rows of a Try around a list.
+-- What stands in a Try around a list: the declaration of its context, its Catch and its last Block.
 -- Assumes nothing.
 use Rattle.std.specs.Prelude.{◌+◌}
 use Rattle.meaning.specs.Numbers.Tag

@@ -1,4 +1,4 @@
--- Block, function body and static block: the rows of a Try around a list.
+-- The rows of a Try around a list.
 -- Assumes nothing.
 use Rattle.std.specs.Prelude.{◌≡◌, ℕ, ◌+◌}
 use mathlib.Core.List.{◌∷◌, ◌++◌}

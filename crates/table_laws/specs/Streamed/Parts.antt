@@ -1,4 +1,4 @@
--- Try parts: how many rows they get, and the scope of the last Block.
+-- How many rows the parts of a Try get.
 -- Assumes nothing.
 use Rattle.std.specs.Prelude.{if◌then◌else◌, ◌&&◌, ℕ, ◌+◌, eqb}
 use Rattle.meaning.specs.Numbers.Tag
