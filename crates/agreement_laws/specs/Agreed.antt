@@ -1,6 +1,6 @@
 -- IN AN ACCEPTED FILE, AND BETWEEN ANY TWO CALLS FOR A VISIT, THE SCOPE ROWS AGREE WITH THE TREE.
 -- Assumes nothing.
-use Rattle.std.specs.Prelude.{if◌then◌else◌, ◌≡◌, refl, Bool, true, false, ◌&&◌, ℕ, zero, suc, ◌+◌, ◌≤◌, ◌<◌, length, get_or, eqb, leb}
+use Rattle.std.specs.Prelude.{Ok, if◌then◌else◌, ◌≡◌, refl, Bool, true, false, ◌&&◌, ℕ, zero, suc, ◌+◌, ◌≤◌, ◌<◌, length, get_or, eqb, leb}
 use Rattle.std.proofs.Common.{sym, ap, subst, ◌∙◌, arith, leb-true, leb-false, eq-eqb, ne_eqb, le-leb}
 use mathlib.Core.List.{List, [], ◌∷◌, ◌++◌}
 use Rattle.meaning.specs.Numbers.Tag
@@ -9,7 +9,7 @@ use Rattle.meaning.specs.File.{Scope, File}
 use Rattle.meaning.specs.Grammar.{is_row, scope_of, below}
 use Rattle.meaning.specs.Agreement.{names_scope, enclosing_scopes, ScopesAgree}
 use Rattle.meaning.specs.Scoping.{row_at, no_scope}
-use Rattle.meaning.specs.Reading.{accepted, read_file}
+use Rattle.meaning.specs.Reading.{read_file}
 use Rattle.meaning.specs.Walk.{visits, start, store_of, plug, tree_at, store_at}
 use Rattle.meaning.specs.ImportLine.{with_import, completed}
 use Rattle.spec_laws.specs.Calls.{completed_keeps}
@@ -139,7 +139,7 @@ offers_agree ss tree o root =
 -- ---- a file
 
 -- JUST READ,
-pub read_agrees : (b : List ℕ) (f : File) → read_file b ≡ accepted f → ScopesAgree f.scopes f.tree
+pub read_agrees : (b : List ℕ) (f : File) → read_file b ≡ Ok f → ScopesAgree f.scopes f.tree
 unfolding visits start store_of plug ◌&◌
 read_agrees b f e =
     let just_read = (settled [] none f.tree (store_of f)).0 in
@@ -149,7 +149,7 @@ import_rooted : (y : ℕ) (tree : Forest) → Rooted tree → Rooted (with_impor
 unfolding with_import
 import_rooted y tree (items, r) = (_, ap (with_import y) r)
 
-module _ (b : List ℕ) (f : File) (k : ℕ) (e : read_file b ≡ accepted f) where
+module _ (b : List ℕ) (f : File) (k : ℕ) (e : read_file b ≡ Ok f) where
   spot_offers : AgreeAt (visits k (start f))
   unfolding start store_of plug ◌&◌
   spot_offers =

@@ -1,6 +1,6 @@
 -- The scope rows of an accepted file offer what its tree demands: reading marks the rows that are named, and at the end all are.
 -- Assumes nothing.
-use Rattle.std.specs.Prelude.{if◌then◌else◌, ◌≡◌, Bool, true, false, ◌||◌, ◌&&◌, length, get_or, set, replicate, eqb}
+use Rattle.std.specs.Prelude.{Ok, if◌then◌else◌, ◌≡◌, Bool, true, false, ◌||◌, ◌&&◌, length, get_or, set, replicate, eqb}
 use Rattle.std.proofs.Math.Path.{refl}
 use Rattle.std.proofs.Common.{◌∙◌, length-set}
 use mathlib.Core.List.{List, [], ◌∷◌}
@@ -27,7 +27,7 @@ use Rattle.meaning.specs.Grammar.{
   unnamed,
 }
 use Rattle.meaning.specs.Agreement.{names_scope}
-use Rattle.meaning.specs.Reading.{accepted, scopes_in, read_file}
+use Rattle.meaning.specs.Reading.{scopes_in, read_file}
 use Rattle.meaning.specs.declared.Place.{Place}
 use Rattle.meaning.specs.declared.Place.TheVariants.{DefaultExport}
 use Rattle.meaning.specs.declared.Field.{Field}
@@ -153,7 +153,7 @@ module _ (f : List ℕ) (syms : ℕ) where
       ((λ w. omega (arith, record_marks y w, k.0 w, r.0 w)), r.1 ∙ k.1 ∙ name_length m (scope_of h))
 
 -- THE ROWS OF AN ACCEPTED FILE OFFER WHAT ITS TREE DEMANDS.
-pub read_offers : (b : List ℕ) (f : File) → read_file b ≡ accepted f → Offers f.scopes (λ w. demanded w 0 f.tree)
+pub read_offers : (b : List ℕ) (f : File) → read_file b ≡ Ok f → Offers f.scopes (λ w. demanded w 0 f.tree)
 read_offers b f e =
     let q = file_parsed b f e in
     let n = q.scope_number_lem in

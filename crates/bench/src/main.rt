@@ -1,9 +1,6 @@
 // Checks the file on standard input, takes its figures and lowers it, a hundred times each, and prints what came of it. For measuring.
 #![tactic(auto)]
 
-use checking::Checked;
-use figures::Figured;
-use lowering::Lowered;
 use std::io;
 use std::io::Read;
 
@@ -19,17 +16,14 @@ fn show(rt: &impl Print, text: &[u8], n: u64) -> io::Result<()> {
 
 // 1 if the file is fine.
 fn check_once(file: &[u8]) -> u64 {
-    match checking::check(file) {
-        Checked::Fine => 1,
-        Checked::Refused(_, _) => 0,
-    }
+    u64::from(checking::check(file).is_ok())
 }
 
 // The final number of records, or 0.
 fn figures_once(file: &[u8]) -> u64 {
     match checking::figures(file) {
-        Figured::Fine(g) => g.records,
-        Figured::Refused(_, _) => 0,
+        Ok(figures) => figures.records,
+        Err(_) => 0,
     }
 }
 
@@ -42,8 +36,8 @@ fn lower_once(
     out: &mut [u8],
 ) -> u64 {
     match lowering::lower(file, records, scopes, symbols, out) {
-        Lowered::Written(g) => g.bytes,
-        Lowered::Refused(_, _) => 0,
+        Ok(figures) => figures.bytes,
+        Err(_) => 0,
     }
 }
 

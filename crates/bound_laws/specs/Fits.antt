@@ -1,13 +1,13 @@
 -- The tree, the scope rows and the symbol rows fit 16 bits all along the walk, and so does what records mention: the bytes of an accepted file
 -- pay for what they weigh.
 -- Assumes nothing.
-use Rattle.std.specs.Prelude.{if◌then◌else◌, ◌≡◌, refl, Bool, true, false, ◌||◌, ◌&&◌, List, [], ◌∷◌, ◌++◌, ℕ, ◌+◌, ◌*◌, ◌≤◌, length, eqb}
+use Rattle.std.specs.Prelude.{Ok, if◌then◌else◌, ◌≡◌, refl, Bool, true, false, ◌||◌, ◌&&◌, List, [], ◌∷◌, ◌++◌, ℕ, ◌+◌, ◌*◌, ◌≤◌, length, eqb}
 use Rattle.std.proofs.Common.{arith}
 use Rattle.meaning.specs.Numbers.Tag
 use Rattle.meaning.specs.Numbers.Kind
 use Rattle.meaning.specs.Tree.{one_of, Head, Forest, none, more, size, Row, flatten}
 use Rattle.meaning.specs.File.{settings_bytes, File, field_bytes, numbers_of}
-use Rattle.meaning.specs.Reading.{accepted, read_file}
+use Rattle.meaning.specs.Reading.{read_file}
 use Rattle.meaning.specs.Statements.{is_using}
 use Rattle.meaning.specs.Walk.{store_of, start, visits, tree_at, store_at}
 use Rattle.meaning.specs.Charges.{record_bytes}
@@ -197,7 +197,7 @@ size_most r none = omega arith
 size_most r (more h k f) = omega (arith, size_most (below r h.tag (is_using h)) k, size_most (next r) f)
 
 -- THE ROOM. After any number of visits of an accepted file's walk, the tree, the scope rows and the symbol rows fit 16 bits.
-pub walk_fits : (b : List ℕ) (f : File) (k : ℕ) → read_file b ≡ accepted f
+pub walk_fits : (b : List ℕ) (f : File) (k : ℕ) → read_file b ≡ Ok f
     → let s = visits k (start f) in
     (size (tree_at s) ≤ 65535) × (length (store_at s).scopes ≤ 65535) × (length (store_at s).symbols ≤ 65535)
 unfolding rows store_of debt
@@ -217,7 +217,7 @@ walk_fits b f k e =
     )
 
 -- What records mention weighs less than the file's bytes, by those of the settings.
-pub mentioned_room : (b : List ℕ) (f : File) (k : ℕ) → read_file b ≡ accepted f
+pub mentioned_room : (b : List ℕ) (f : File) (k : ℕ) → read_file b ≡ Ok f
     → settings_bytes + weigh mentioned plain (tree_at (visits k (start f))) ≤ 65535
 unfolding rows debt
 mentioned_room b f k e =
@@ -242,5 +242,5 @@ rows_most_n b (more h k r) e = (
   most_++ b (flatten k) (flatten r) (rows_most_n b k (omega arith)) (rows_most_n b r (omega arith)),
 )
 
-pub n_fits : (b : List ℕ) (f : File) (k : ℕ) → read_file b ≡ accepted f → AtMost 65535 (flatten (tree_at (visits k (start f))))
+pub n_fits : (b : List ℕ) (f : File) (k : ℕ) → read_file b ≡ Ok f → AtMost 65535 (flatten (tree_at (visits k (start f))))
 n_fits b f k e = rows_most_n 65535 (tree_at (visits k (start f))) (walk_fits b f k e).0

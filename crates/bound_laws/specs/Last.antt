@@ -1,11 +1,11 @@
 -- The walk of an accepted file is over after twice as many visits as there are records in the end.
 -- Assumes nothing.
-use Rattle.std.specs.Prelude.{if◌then◌else◌, ◌≡◌, refl, Bool, true, false, List, [], ◌∷◌, ℕ, zero, suc, ◌+◌, ◌*◌, ◌≤◌, ◌<◌, leb}
+use Rattle.std.specs.Prelude.{Ok, if◌then◌else◌, ◌≡◌, refl, Bool, true, false, List, [], ◌∷◌, ℕ, zero, suc, ◌+◌, ◌*◌, ◌≤◌, ◌<◌, leb}
 use Rattle.std.proofs.Common.{sym, ap, ◌∙◌, arith, leb-true, leb-false}
 use Rattle.meaning.specs.Tree.{Head, Forest, none, more, one, size, ◌&◌}
 use Rattle.meaning.specs.File.{File}
 use Rattle.meaning.specs.Scoping.{Store}
-use Rattle.meaning.specs.Reading.{accepted, read_file}
+use Rattle.meaning.specs.Reading.{read_file}
 use Rattle.meaning.specs.Walk.{
   is_static_block,
   enter,
@@ -116,7 +116,7 @@ tree_used (leaving k h d r p st) o = omega (arith, plug_used p (d & more h k r),
 
 -- ---- a file
 
-enough : (b : List ℕ) (f : File) → read_file b ≡ accepted f → is_over (visits (2 * (final_figures f).records) (start f)) ≡ true
+enough : (b : List ℕ) (f : File) → read_file b ≡ Ok f → is_over (visits (2 * (final_figures f).records) (start f)) ≡ true
 enough b f e = go (is_over s) refl
   where
     s : Spot
@@ -135,7 +135,7 @@ enough b f e = go (is_over s) refl
         ))
 
 -- The walk of an accepted file is over at its last spot.
-pub last_over : (b : List ℕ) (f : File) → read_file b ≡ accepted f → is_over (last_spot f) ≡ true
+pub last_over : (b : List ℕ) (f : File) → read_file b ≡ Ok f → is_over (last_spot f) ≡ true
 last_over b f e = ap is_over (last_spot_lem f) ∙ enough b f e
 
 -- a walk that is over after m visits stands there after more
@@ -146,7 +146,7 @@ more_stays (suc m) zero s l o = absurd (omega arith)
 more_stays (suc m) (suc k) s l o = more_stays m k (visit s) (omega arith) o
 
 -- Wherever the walk is over is its last spot.
-pub last_is : (b : List ℕ) (f : File) (k : ℕ) → read_file b ≡ accepted f → is_over (visits k (start f)) ≡ true → visits k (start f) ≡ last_spot f
+pub last_is : (b : List ℕ) (f : File) (k : ℕ) → read_file b ≡ Ok f → is_over (visits k (start f)) ≡ true → visits k (start f) ≡ last_spot f
 last_is b f k e o = go (leb n k) refl ∙ sym (last_spot_lem f)
   where
     n : ℕ
@@ -159,18 +159,18 @@ last_is b f k e o = go (leb n k) refl ∙ sym (last_spot_lem f)
 -- ---- with the import line
 
 -- Where the last call leaves the walk it is over,
-pub final_over : (b : List ℕ) (f : File) → read_file b ≡ accepted f → is_over (final_spot f) ≡ true
+pub final_over : (b : List ℕ) (f : File) → read_file b ≡ Ok f → is_over (final_spot f) ≡ true
 unfolding final_spot
 final_over b f e = completed_over (last_spot f) ∙ last_over b f e
 
 -- it has the final figures,
-pub final_figures_lem : (b : List ℕ) (f : File) → read_file b ≡ accepted f → figures_at (final_spot f) ≡ final_figures f
+pub final_figures_lem : (b : List ℕ) (f : File) → read_file b ≡ Ok f → figures_at (final_spot f) ≡ final_figures f
 unfolding final_spot
 final_figures_lem b f e =
     ap (λ (s : Spot). figures_at (completed s)) (last_spot_lem f) ∙ calls_final b f e (2 * (final_figures f).records) (enough b f e)
 
 -- and wherever calls for visits find it over is that spot.
-pub final_is : (b : List ℕ) (f : File) (k : ℕ) → read_file b ≡ accepted f → is_over (visits k (start f)) ≡ true
+pub final_is : (b : List ℕ) (f : File) (k : ℕ) → read_file b ≡ Ok f → is_over (visits k (start f)) ≡ true
     → visit_calls k (start f) ≡ final_spot f
 unfolding final_spot
 final_is b f k e o = calls_are k f ∙ ap completed (last_is b f k e o)

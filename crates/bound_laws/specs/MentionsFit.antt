@@ -1,12 +1,12 @@
 -- The mentions of a symbol, and those of all symbols together, fit 16 bits all along the walk of an accepted file, with the import line, too.
 -- Assumes nothing.
-use Rattle.std.specs.Prelude.{◌≡◌, refl, Bool, true, false, List, [], ◌∷◌, ℕ, ◌+◌, ◌≤◌, eqb}
+use Rattle.std.specs.Prelude.{Ok, ◌≡◌, refl, Bool, true, false, List, [], ◌∷◌, ℕ, ◌+◌, ◌≤◌, eqb}
 use native.Mathlib.Omega.{arith}
 use Rattle.std.proofs.Common.{ne_eqb}
 use Rattle.meaning.specs.Numbers.Tag
 use Rattle.meaning.specs.Tree.{Head, hd, Forest, none, more, ◌&◌}
 use Rattle.meaning.specs.File.{File}
-use Rattle.meaning.specs.Reading.{accepted, read_file}
+use Rattle.meaning.specs.Reading.{read_file}
 use Rattle.meaning.specs.Statements.{is_using}
 use Rattle.meaning.specs.Walk.{start, visits, tree_at, store_at}
 use Rattle.meaning.specs.ImportLine.{with_import, completed}
@@ -85,7 +85,7 @@ import_most y none = omega arith
 import_most y (more h k r) = omega arith
 
 -- ALL MENTIONS. After any number of visits of an accepted file's walk, with the import line once it is put, they fit 16 bits together.
-pub namings_fit : (b : List ℕ) (f : File) (k : ℕ) → read_file b ≡ accepted f → namings (tree_at (completed (visits k (start f)))) ≤ 65535
+pub namings_fit : (b : List ℕ) (f : File) (k : ℕ) → read_file b ≡ Ok f → namings (tree_at (completed (visits k (start f)))) ≤ 65535
 namings_fit b f k e =
     let s = visits k (start f) in
     let w = weight_most plain (tree_at s) in
@@ -94,12 +94,12 @@ namings_fit b f k e =
     (omega (arith, w, m, import_most (store_at s).helper (tree_at s)))
 
 -- THE MENTIONS. So do those of each symbol, before the line is put, too.
-pub visits_mentions_fit : (b : List ℕ) (f : File) (k y : ℕ) → read_file b ≡ accepted f → 1 ≤ y → mentions y (tree_at (visits k (start f))) ≤ 65535
+pub visits_mentions_fit : (b : List ℕ) (f : File) (k y : ℕ) → read_file b ≡ Ok f → 1 ≤ y → mentions y (tree_at (visits k (start f))) ≤ 65535
 visits_mentions_fit b f k y e l =
     let t = tree_at (visits k (start f)) in
     omega (arith, mentions_most y t l, weight_most plain t, mentioned_room b f k e)
 
-pub mentions_fit : (b : List ℕ) (f : File) (k y : ℕ) → read_file b ≡ accepted f → 1 ≤ y
+pub mentions_fit : (b : List ℕ) (f : File) (k y : ℕ) → read_file b ≡ Ok f → 1 ≤ y
     → mentions y (tree_at (completed (visits k (start f)))) ≤ 65535
 mentions_fit b f k y e l =
     let t = tree_at (completed (visits k (start f))) in

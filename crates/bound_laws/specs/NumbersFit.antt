@@ -1,13 +1,13 @@
 -- The numbers of an accepted file fit 16 bits, as read and all along the walk.
 -- Assumes nothing.
-use Rattle.std.specs.Prelude.{◌≡◌, refl, Bool, true, false, List, [], get_or, eqb, leb, ltb}
+use Rattle.std.specs.Prelude.{Ok, ◌≡◌, refl, Bool, true, false, List, [], get_or, eqb, leb, ltb}
 use Prim.Native.Nat.{ℕ, zero, suc, ◌+◌, ◌*◌, ◌≤◌, ◌<◌}
 use Rattle.std.proofs.Common.{arith, leb-true, leb-false, ne_eqb}
 use Rattle.meaning.specs.Numbers.Tag
 use Rattle.meaning.specs.Tree.{Forest, none}
 use Rattle.meaning.specs.File.{scope_bytes, symbol_bytes, File, numbers_of, own_numbers}
 use Rattle.meaning.specs.Grammar.{two, number, field_of, right, head_of, parent_in}
-use Rattle.meaning.specs.Reading.{accepted, scopes_in, symbols_in, read_file}
+use Rattle.meaning.specs.Reading.{scopes_in, symbols_in, read_file}
 use Rattle.meaning.specs.declared.Place.{Place}
 use Rattle.meaning.specs.declared.Field.{Field}
 use Rattle.meaning.specs.Walk.{store_of, start, visits, tree_at, store_at}
@@ -91,7 +91,7 @@ module _ (f : List ℕ) (bytes : Bytes f) where
   abbrev FileWithin : File → Type 0
   FileWithin g = TreeWithin 65535 g.tree × StoreWithin 65535 (store_of g)
 
-  file_within : (g : File) → read_file f ≡ accepted g → FileWithin g
+  file_within : (g : File) → read_file f ≡ Ok g → FileWithin g
   unfolding store_of
   file_within g e =
       let q = file_parsed f g e in (
@@ -105,7 +105,7 @@ module _ (f : List ℕ) (bytes : Bytes f) where
 
 -- THE NUMBERS. After any number of visits of an accepted file's walk, every tag is at most 29, and every number of a record or a row,
 -- and the helper's symbol, fits 16 bits.
-pub numbers_fit : (b : List ℕ) (f : File) (k : ℕ) → Bytes b → read_file b ≡ accepted f
+pub numbers_fit : (b : List ℕ) (f : File) (k : ℕ) → Bytes b → read_file b ≡ Ok f
     → let s = visits k (start f) in TreeWithin 65535 (tree_at s) × StoreWithin 65535 (store_at s)
 unfolding start
 numbers_fit b f k bytes e =

@@ -1,6 +1,6 @@
 -- The walk through some records in one go: enter the first, go through its children, leave it, then go through those beside it.
 -- Assumes nothing.
-use Rattle.std.specs.Prelude.{if◌then◌else◌, ◌≡◌, refl, Bool, true, false, List, [], ◌∷◌, ℕ, zero, suc}
+use Rattle.std.specs.Prelude.{Ok, if◌then◌else◌, ◌≡◌, refl, Bool, true, false, List, [], ◌∷◌, ℕ, zero, suc}
 use Rattle.std.proofs.Common.{sym, ap, subst, ◌∙◌}
 use Rattle.meaning.specs.Numbers.Tag
 use Rattle.meaning.specs.Tree.{one_of, Head, Forest, none, more, one, Node, node, ◌&◌}
@@ -8,7 +8,7 @@ use Rattle.meaning.specs.File.{File}
 use Rattle.meaning.specs.Grammar.{scope_of, below}
 use Rattle.meaning.specs.Scoping.{Store, Change, return}
 use Rattle.meaning.specs.Walk.{is_static_block, enter, leave, Crumb, crumb, Spot, at, leaving, over, is_over, current_scope, hoist_scope, settle, visit, visits, opened, store_of, start}
-use Rattle.meaning.specs.Reading.{accepted, read_file}
+use Rattle.meaning.specs.Reading.{read_file}
 use Rattle.meaning.specs.Lowering.{last_spot}
 use Rattle.bound_laws.specs.Last.{last_is}
 use Rattle.charge_laws.proofs.Counts.Visits.{&-none, &-assoc}
@@ -96,7 +96,7 @@ file_reaches f {f'} {st'} t =
     (through_reaches t none none [] refl refl)
 
 -- and where its last visit leaves the walk
-pub last_through : (b : List ℕ) (f : File) {f' : Forest} {st' : Store} → read_file b ≡ accepted f → Through 0 0 f.tree (store_of f) f' st'
+pub last_through : (b : List ℕ) (f : File) {f' : Forest} {st' : Store} → read_file b ≡ Ok f → Through 0 0 f.tree (store_of f) f' st'
     → last_spot f ≡ over f' st'
 unfolding is_over
 last_through b f {f'} {st'} e t =

@@ -1,9 +1,10 @@
 -- The cases that 01 marks as proved, and more: one table, one theorem.
 -- Assumes nothing.
-use Rattle.std.specs.Prelude.{◌≡◌, refl, List, [], ◌∷◌, ◌++◌, map, ℕ, length, take}
+use Rattle.meaning.specs.Refusals.{Outcome, refused}
+use Rattle.meaning.specs.declared.Reason.TheVariants as Reason
+use Rattle.std.specs.Prelude.{Ok, ◌≡◌, refl, List, [], ◌∷◌, ◌++◌, map, ℕ, length, take}
 use Prim.Native.String.{String}
 use Rattle.meaning.specs.Notation.{bytes}
-use Rattle.meaning.specs.Reading.{Outcome, accepted, refused}
 use Rattle.meaning.specs.Charges.{figures}
 use Rattle.meaning.specs.Lowering.{Lent, Written, lower}
 use Rattle.meaning.specs.Computing.{computing}
@@ -28,10 +29,10 @@ desk = lend 4096 1024 1024
 
 -- records, scopes, symbols, contexts and length, and the file written
 abbrev pub gives : ℕ → ℕ → ℕ → ℕ → ℕ → String → Outcome Written
-gives r s y c b output = accepted (record { file = bytes output; figures = figures r s y c b })
+gives r s y c b output = Ok (record { file = bytes output; figures = figures r s y c b })
 
 abbrev pub unchanged : List ℕ → ℕ → ℕ → ℕ → Outcome Written
-unchanged input r s y = accepted (record { file = input; figures = figures r s y 0 (length input) })
+unchanged input r s y = Ok (record { file = input; figures = figures r s y 0 (length input) })
 
 abbrev whole_case : List ℕ
 whole_case = bytes "40:1,0 41:0,16 41:1,0 42:10,6,2,0,1 1:1,1 2:2,1 5:3,1 6:0,1,2 26:1 24:7,0"
@@ -47,22 +48,22 @@ table =
     -- with 17
     case (lend 17 5 3) 215
     whole_case
-    (refused 9 0) ∷
+    (refused Reason.FewRows 0) ∷
     -- too few scope rows, and symbol rows
     case (lend 18 4 3) 215
     whole_case
-    (refused 9 1) ∷
+    (refused Reason.FewRows 1) ∷
     case (lend 18 5 2) 215
     whole_case
-    (refused 9 2) ∷
+    (refused Reason.FewRows 2) ∷
     -- one byte of output too few
     case (lend 18 5 3) 214
     whole_case
-    (refused 10 214) ∷
+    (refused Reason.ShortOutput 214) ∷
     -- 9 goes before 10, and records before scopes before symbols
     case (lend 17 4 2) 214
     whole_case
-    (refused 9 0) ∷
+    (refused Reason.FewRows 0) ∷
     -- ---- `helper_load`.
     -- two contexts, one helper symbol and one import: runtime, module
     case desk 65536
@@ -97,7 +98,7 @@ table =
     -- inline with a context; 8 goes before 9
     case (lend 0 0 0) 0
     (bytes "40:2,0 41:0,16 41:1,0 42:10,6,2,0,1 1:1,1 2:2,1 5:3,1 6:0,1,2 26:1 24:7,0")
-    (refused 8 0) ∷
+    (refused Reason.InlineContext 0) ∷
     -- inline with nothing to lower is accepted unchanged
     case desk 65536
     (bytes "40:2,0 41:0,16 41:1,0 42:10,2,2,0,1 1:1,1 2:2,1 5:1,1 6:0,1,2 26:1 24:7,0")
@@ -265,35 +266,35 @@ table =
     -- 2: the file ends where a field should begin
     case desk 65536
     (bytes "40:1,0 41:0,16 41:1,0 42:10,6,2,0,1 1:1,1 2:2,1 5:3,1 6:0,1,2 26:1")
-    (refused 2 69) ∷
+    (refused Reason.Cut 69) ∷
     -- 2: a cut payload
     case desk 65536
     (take 75 whole_case)
-    (refused 2 69) ∷
+    (refused Reason.Cut 69) ∷
     -- 3: a tag not allowed there, which goes before 4
     case desk 65536
     (bytes "40:1,0 41:0,16 2:1")
-    (refused 3 14) ∷
+    (refused Reason.WrongTag 14) ∷
     -- 4: a length not its tag's
     case desk 65536
     (bytes "40:1,0 41:0,16 1:1")
-    (refused 4 14) ∷
+    (refused Reason.WrongLength 14) ∷
     -- 4 goes before a cut payload
     case desk 65536
     (take 20 (bytes "40:1,0 41:0,16 1:1,1,1"))
-    (refused 4 14) ∷
+    (refused Reason.WrongLength 14) ∷
     -- 5: a scope row named twice
     case desk 65536
     (bytes "40:1,0 41:0,16 41:1,0 1:1,2 2:2,0 2:2,0")
-    (refused 5 35) ∷
+    (refused Reason.WrongNumber 35) ∷
     -- 5: a function expression in a Switch's expression
     case desk 65536
     (bytes "40:1,0 41:0,16 41:1,0 41:1,8 1:1,1 9:2,1 24:1,1 13:1,3,0,2 24:1,0 14:0")
-    (refused 5 49) ∷
+    (refused Reason.WrongNumber 49) ∷
     -- 5: the lowest unnamed row
     case desk 65536
     (bytes "40:1,0 41:0,16 41:1,0 41:1,0 41:1,0 1:1,1 2:3,0")
-    (refused 5 14) ∷
+    (refused Reason.WrongNumber 14) ∷
     -- 64 levels are fine
     case desk 65536
     (deep 61 ++ bytes "24:1,0")
@@ -301,11 +302,11 @@ table =
     -- 6: deeper than 64
     case desk 65536
     (deep 62 ++ bytes "24:1,0")
-    (refused 6 464) ∷
+    (refused Reason.TooDeep 464) ∷
     -- 7: bytes after the tree, which goes before an unnamed row
     case desk 65536
     (bytes "40:1,0 41:0,16 41:1,0 1:1,0 3:0,0,0")
-    (refused 7 28) ∷
+    (refused Reason.BytesBehind 28) ∷
     []
 
 -- each answer is the table's

@@ -1,8 +1,9 @@
 -- The cases of request 7 of document 02: how often a symbol is named. One table, one theorem.
 -- Assumes nothing.
+use Rattle.meaning.specs.Refusals.{refused}
+use Rattle.meaning.specs.declared.Reason.TheVariants as Reason
 use Rattle.std.specs.Prelude.{◌≡◌, refl, List, [], ◌∷◌, map, ℕ}
 use Rattle.meaning.specs.Notation.{bytes}
-use Rattle.meaning.specs.Reading.{refused}
 use Rattle.meaning.specs.Lowering.{lower}
 use Rattle.meaning.specs.Computing.{computing}
 use Rattle.cases.specs.Table.{Case, case, lend, desk, unchanged}
@@ -32,29 +33,29 @@ count_table =
     -- the lowest row with a wrong count, one too many, is 5; the last row is wrong too
     case desk 65536
     (bytes "40:1,0 41:0,16 42:10,6,1,0,0 42:11,6,1,0,2 42:12,6,1,0,7 1:1,1 3:0,0,1 25:2")
-    (refused 5 27) ∷
+    (refused Reason.WrongNumber 27) ∷
     -- one too few
     case desk 65536
     (bytes "40:1,0 41:0,16 42:10,6,1,0,0 1:1,1 3:0,0,1 25:1")
-    (refused 5 14) ∷
+    (refused Reason.WrongNumber 14) ∷
     -- a scope row that no record names goes first, and so do bytes behind the tree
     case desk 65536
     (bytes "40:1,0 41:0,16 42:10,6,1,0,1 1:1,0 3:0,0,0")
-    (refused 7 34) ∷
+    (refused Reason.BytesBehind 34) ∷
     case desk 65536
     (bytes "40:1,0 41:0,16 41:1,0 42:10,6,1,0,1 1:1,0")
-    (refused 5 14) ∷
+    (refused Reason.WrongNumber 14) ∷
     -- a wrong count goes before 8, 9 and 10
     case (lend 0 0 0) 0
     (bytes "40:2,0 41:0,16 41:1,0 42:10,6,2,0,2 1:1,1 2:2,1 5:3,1 6:0,1,2 26:1 24:7,0")
-    (refused 5 21) ∷
+    (refused Reason.WrongNumber 21) ∷
     -- a symbol row of four numbers, and of six
     case desk 65536
     (bytes "40:1,0 41:0,16 42:10,6,1,0 1:1,0")
-    (refused 4 14) ∷
+    (refused Reason.WrongLength 14) ∷
     case desk 65536
     (bytes "40:1,0 41:0,16 42:10,6,1,0,0,0 1:1,0")
-    (refused 4 14) ∷
+    (refused Reason.WrongLength 14) ∷
     []
 
 -- each answer is the table's

@@ -1,8 +1,9 @@
 -- The cases of request 1 of document 02: the import line. One table, one theorem.
 -- Assumes nothing.
+use Rattle.meaning.specs.Refusals.{refused}
+use Rattle.meaning.specs.declared.Reason.TheVariants as Reason
 use Rattle.std.specs.Prelude.{◌≡◌, refl, List, [], ◌∷◌, map, ℕ}
 use Rattle.meaning.specs.Notation.{bytes}
-use Rattle.meaning.specs.Reading.{refused}
 use Rattle.meaning.specs.Lowering.{lower}
 use Rattle.meaning.specs.Computing.{computing}
 use Rattle.cases.specs.Table.{Case, case, lend, desk, gives, unchanged}
@@ -25,11 +26,11 @@ import_table =
     -- one record row too few
     case (lend 19 5 4) 244
     as_module
-    (refused 9 0) ∷
+    (refused Reason.FewRows 0) ∷
     -- one byte too few
     case (lend 20 5 4) 243
     as_module
-    (refused 10 243) ∷
+    (refused Reason.ShortOutput 243) ∷
     -- a script has none
     case desk 65536
     (bytes "40:0,0 41:0,16 41:1,0 42:10,6,2,0,1 1:1,1 2:2,1 5:3,1 6:0,1,2 26:1 24:7,0")
@@ -66,14 +67,14 @@ import_table =
     -- it has one Specifier: with none it is 5, and with two
     case desk 65536
     (bytes "40:0,1 41:0,16 1:1,1 17:4,0,0")
-    (refused 5 21) ∷
+    (refused Reason.WrongNumber 21) ∷
     case desk 65536
     (bytes "40:0,1 41:0,16 42:10,1,1,0,2 1:1,1 17:4,0,2 20:1,3 20:1,3")
-    (refused 5 34) ∷
+    (refused Reason.WrongNumber 34) ∷
     -- there is no further form
     case desk 65536
     (bytes "40:0,1 41:0,16 42:10,1,1,0,1 1:1,1 17:5,0,1 20:1,3")
-    (refused 5 34) ∷
+    (refused Reason.WrongNumber 34) ∷
     []
 
 -- each answer is the table's

@@ -1,8 +1,9 @@
 -- The cases of request 9 of document 02: scope rows in tree order. One table, one theorem.
 -- Assumes nothing.
+use Rattle.meaning.specs.Refusals.{refused}
+use Rattle.meaning.specs.declared.Reason.TheVariants as Reason
 use Rattle.std.specs.Prelude.{◌≡◌, refl, List, [], ◌∷◌, map}
 use Rattle.meaning.specs.Notation.{bytes}
-use Rattle.meaning.specs.Reading.{refused}
 use Rattle.meaning.specs.Lowering.{lower}
 use Rattle.meaning.specs.Computing.{computing}
 use Rattle.cases.specs.Table.{Case, case, lend, desk, gives}
@@ -22,10 +23,10 @@ order_table =
     -- one scope row too few, and one byte
     case (lend 3 2 1) 62
     (bytes "40:1,0 41:0,16 41:3,0 41:1,2 42:10,6,2,0,0 1:1,1 2:3,1 2:2,0")
-    (refused 9 1) ∷
+    (refused Reason.FewRows 1) ∷
     case (lend 3 3 1) 61
     (bytes "40:1,0 41:0,16 41:3,0 41:1,2 42:10,6,2,0,0 1:1,1 2:3,1 2:2,0")
-    (refused 10 61) ∷
+    (refused Reason.ShortOutput 61) ∷
     -- lowered: a module in runtime mode, with the import line
     case desk 65536
     (bytes "40:0,1 41:0,0 41:3,8 41:1,5 42:10,8,3,0,2 1:1,1 8:3,1,3 5:4,1 6:0,1,1 26:1 25:1 2:2,0")

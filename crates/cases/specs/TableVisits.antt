@@ -1,8 +1,9 @@
 -- The charge of each call for a visit, on the files of the tables.
 -- Assumes nothing.
-use Rattle.std.specs.Prelude.{◌≡◌, refl, List, [], ◌∷◌, ◌++◌, map, ℕ, zero, suc, ◌*◌, length}
+use Rattle.meaning.specs.Refusals.{Outcome, refused}
+use Rattle.std.specs.Prelude.{Ok, Err, ◌≡◌, refl, List, [], ◌∷◌, ◌++◌, map, ℕ, zero, suc, ◌*◌, length}
 use Rattle.meaning.specs.File.{File}
-use Rattle.meaning.specs.Reading.{Outcome, accepted, refused, read_file}
+use Rattle.meaning.specs.Reading.{read_file}
 use Rattle.meaning.specs.Walk.{Spot, visit, start}
 use Rattle.meaning.specs.ImportLine.{visit_call}
 use Rattle.meaning.specs.Charges.{Figures, ◌⊕◌, total, figures_in, figures_at, final_figures}
@@ -31,12 +32,12 @@ visits_of f = length (dues (2 * (final_figures f).records) (start f))
 
 -- the same for a whole walk, and at its end
 abbrev pub walk_counted : Outcome File → List Figures
-walk_counted (refused c p) = []
-walk_counted (accepted f) = figures_at (final_spot f) ∷ counted (visits_of f) (start f)
+walk_counted (Err r) = []
+walk_counted (Ok f) = figures_at (final_spot f) ∷ counted (visits_of f) (start f)
 
 abbrev pub walk_charged : Outcome File → List Figures
-walk_charged (refused c p) = []
-walk_charged (accepted f) = final_figures f ∷ charged (visits_of f) (start f) (figures_in f)
+walk_charged (Err r) = []
+walk_charged (Ok f) = final_figures f ∷ charged (visits_of f) (start f) (figures_in f)
 
 -- each call adds its charge, and the last leaves the final figures
 pub visits_hold

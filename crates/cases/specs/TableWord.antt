@@ -1,8 +1,7 @@
 -- The cases of request 13 of document 02: one word changed, from const to `using` or `await using`. One table, one theorem.
 -- Assumes nothing.
-use Rattle.std.specs.Prelude.{◌≡◌, refl, List, [], ◌∷◌, map, ℕ}
+use Rattle.std.specs.Prelude.{Ok, ◌≡◌, refl, List, [], ◌∷◌, map, ℕ}
 use Rattle.meaning.specs.Notation.{bytes}
-use Rattle.meaning.specs.Reading.{accepted}
 use Rattle.meaning.specs.Charges.{Figures, figures, ◌⊕◌}
 use Rattle.meaning.specs.Lowering.{figures_of}
 use Rattle.meaning.specs.Computing.{computing}
@@ -89,7 +88,7 @@ word_table =
 
 -- the figures are the table's, before and after
 pub words_hold
-    : (map (λ c. figures_of c.before) word_table ≡ map (λ c. accepted c.said) word_table)
-    × (map (λ c. figures_of c.after) word_table ≡ map (λ c. accepted (c.said ⊕ c.growth)) word_table)
+    : (map (λ c. figures_of c.before) word_table ≡ map (λ c. Ok c.said) word_table)
+    × (map (λ c. figures_of c.after) word_table ≡ map (λ c. Ok (c.said ⊕ c.growth)) word_table)
 unfolding word_table figures_of computing
 words_hold = (refl, refl)

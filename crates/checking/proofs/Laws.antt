@@ -1,6 +1,9 @@
 -- Laws of the definitions, for the proofs of the code.
 -- Assumes nothing.
-use Rattle.std.specs.Prelude.{if◌then◌else◌}
+use Rattle.meaning.specs.declared.Reason.TheVariants as Reason
+use Rattle.meaning.specs.declared.Reason.{Reason}
+use Rattle.meaning.specs.Refusals.{Outcome, refused}
+use Rattle.std.specs.Prelude.{Err, Ok, if◌then◌else◌}
 use mathlib.Core.Path.{◌≡◌, refl, sym, ap, subst, ◌∙◌}
 use mathlib.Core.Logic.{inl, inr}
 use mathlib.Core.Bool.{Bool, true, false, not}
@@ -15,16 +18,13 @@ use borrow.Author.Tests.{ne_eqb, le-leb, lt-leb, lt-ltb, le-ltb}
 use Rattle.meaning.specs.Tree.{hd}
 use Rattle.meaning.specs.File.{numbers_of, field_bytes}
 use Rattle.meaning.specs.Grammar.{allowed, two, field_of, field_at, right, scope_of, head_of, below, children_of, place_of, may_name, naming, unnamed}
-use Rattle.meaning.specs.Reading.{Outcome, accepted, refused, ◌>>=◌, ◌>>◌, ensure, field, too_deep, judged, symbols_in, read_rows, and_rows}
+use Rattle.meaning.specs.Reading.{◌>>=◌, ◌>>◌, ensure, too_deep, judged, symbols_in, rows_read, read_rows}
 use Rattle.meaning.specs.declared.Place.{Place}
 use Rattle.meaning.specs.declared.Place.TheVariants.{Program}
 use Rattle.meaning.specs.declared.Field.{Field}
-use Rattle.meaning.specs.declared.Reading.{Reading}
-use Rattle.meaning.specs.declared.Reading.TheVariants.{Whole, Refused as RefusedField}
 use Rattle.meaning.specs.declared.Rows.{Rows}
-use Rattle.meaning.specs.declared.Rows.TheVariants.{Read, Refused as RefusedRows}
-use Rattle.checking.specs.declared.Answer.{Answer}
-use Rattle.checking.specs.declared.Answer.TheVariants.{Next, Refused as RefusedAnswer}
+use Rattle.meaning.specs.declared.Refusal.{Refusal}
+use Rattle.checking.specs.declared.Progress.{Progress}
 use Rattle.figures.specs.Tally.{inserts_in, no_tally, ◌⊞◌, cap, own}
 use Rattle.figures.specs.declared.tally.Tally.{Tally}
 use Rattle.figures.specs.declared.tally.Role.{Role}
@@ -35,6 +35,7 @@ use Rattle.checking.specs.Flat.{
   entered,
   past,
   right_at,
+  next_f,
   enter_f,
   add_f,
   list_f,
@@ -54,22 +55,22 @@ use Rattle.checking.specs.Flat.{
 -- the scope row of a field named
 abbrev named_f : List ℕ → ℕ → ℕ → List ℕ → Field → Outcome Entered
 named_f f cur at m x = do
-  ensure (may_name f cur m (scope_of (head_of x))) 5 at
-  accepted (record { field = x; marks = naming m (scope_of (head_of x)) })
+  ensure (may_name f cur m (scope_of (head_of x))) Reason.WrongNumber at
+  Ok (record { field = x; marks = naming m (scope_of (head_of x)) })
 
 judging : (b : Bool) (x : Field) (at : ℕ) (g : Field → Outcome Entered)
-    → (ensure b 5 at >> g x) ≡ (field (if b then Whole x else RefusedField 5 at) >>= g)
+    → (ensure b Reason.WrongNumber at >> g x) ≡ ((if b then Ok x else refused Reason.WrongNumber at) >>= g)
 judging true x at g = refl
 judging false x at g = refl
 
-entering : (d : Reading) (test : Field → Bool) (at : ℕ) (g : Field → Outcome Entered)
-    → (field d >>= (λ x. ensure (test x) 5 at >> g x)) ≡ (field (judged test at d) >>= g)
-entering (Whole x) test at g = judging (test x) x at g
-entering (RefusedField c q) test at g = refl
+entering : (d : Outcome Field) (test : Field → Bool) (at : ℕ) (g : Field → Outcome Entered)
+    → (d >>= (λ x. ensure (test x) Reason.WrongNumber at >> g x)) ≡ (judged test at d >>= g)
+entering (Ok x) test at g = judging (test x) x at g
+entering (Err r) test at g = refl
 
 -- its scope row is named after the checks of its field
 enter_is : (f : List ℕ) (syms : ℕ) (p : Place) (cur at : ℕ) (m : List ℕ)
-    → enter_f f syms p cur at m ≡ (field (right_at f syms p at) >>= named_f f cur at m)
+    → enter_f f syms p cur at m ≡ (right_at f syms p at >>= named_f f cur at m)
 unfolding enter_f right_at
 enter_is f syms p cur at m = entering (field_at f p at) (right p syms) at (named_f f cur at m)
 
@@ -78,24 +79,24 @@ if_all P true x y h k = h
 if_all P false x y h k = k
 
 -- what is read is a refusal, or the field that stands there
-field_all : (f : List ℕ) (p : Place) (at : ℕ) (P : Reading → Type 0) → ((c q : ℕ) → P (RefusedField c q)) → P (Whole (field_of f at))
+field_all : (f : List ℕ) (p : Place) (at : ℕ) (P : Outcome Field → Type 0) → ((r : Refusal) → P (Err r)) → P (Ok (field_of f at))
     → P (field_at f p at)
 unfolding field_at
 field_all f p at P h k =
     let t = get_or f at 0 in
-    if_all P (ltb (length f) (at + 3)) _ _ (h _ _)
-    (if_all P (not (allowed p t)) _ _ (h _ _)
-    (if_all P (not (eqb (two f (at + 1)) (2 * numbers_of t))) _ _ (h _ _)
-    (if_all P (ltb (length f) (at + field_bytes t)) _ _ (h _ _) k)))
+    if_all P (ltb (length f) (at + 3)) _ _ (h _)
+    (if_all P (not (allowed p t)) _ _ (h _)
+    (if_all P (not (eqb (two f (at + 1)) (2 * numbers_of t))) _ _ (h _)
+    (if_all P (ltb (length f) (at + field_bytes t)) _ _ (h _) k)))
 
 -- where the field that stands there names no scope, there is nothing to name
 enter_unscoped : (f : List ℕ) (syms : ℕ) (p : Place) (cur at : ℕ) (m : List ℕ) → scope_of (head_of (field_of f at)) ≡ 0
     → entered (right_at f syms p at) m ≡ enter_f f syms p cur at m
 unfolding right_at may_name naming
 enter_unscoped f syms p cur at m none =
-    field_all f p at (λ d. entered (judged (right p syms) at d) m ≡ (field (judged (right p syms) at d) >>= named_f f cur at m))
-    (λ c q. refl)
-    (if_all (λ (d : Reading). entered d m ≡ (field d >>= named_f f cur at m)) (right p syms (field_of f at)) _ _ (rw none) refl)
+    field_all f p at (λ d. entered (judged (right p syms) at d) m ≡ (judged (right p syms) at d >>= named_f f cur at m))
+    (λ r. refl)
+    (if_all (λ (d : Outcome Field). entered d m ≡ (d >>= named_f f cur at m)) (right p syms (field_of f at)) _ _ (rw none) refl)
     ∙ sym (enter_is f syms p cur at m)
 
 -- two functions agree at a key of an arm if they agree at all of them
@@ -134,38 +135,38 @@ record_first l f scopes syms p u cur t at m o e none = e ∙ ap (λ (s : Tally).
 
 -- or refused at once
 pub record_refused : (l : ℕ) (f : List ℕ) (scopes syms : ℕ) (p : Place) (u : Role) (cur : ℕ) (t : Tally) (at : ℕ) (m m₁ : List ℕ)
-    (d : Reading) (c q : ℕ) → entered d m₁ ≡ enter_f f syms p cur at m → d ≡ RefusedField c q
-    → refused c q ≡ record_f (suc l) f scopes syms p u cur t at m
+    (d : Outcome Field) (r : Refusal) → entered d m₁ ≡ enter_f f syms p cur at m → d ≡ Err r
+    → Err r ≡ record_f (suc l) f scopes syms p u cur t at m
 unfolding after_f
-record_refused l f scopes syms p u cur t at m m₁ d c q enters e =
+record_refused l f scopes syms p u cur t at m m₁ d r enters e =
     rw (record_is l f scopes syms p u cur t at m, ← enters, e)
 
 module _ (l : ℕ) (f : List ℕ) (scopes syms : ℕ) (p : Place) (u : Role) (cur : ℕ) (t : Tally) (m₁ : List ℕ)
-    (x : Field) (a : Answer) (m₂ : List ℕ)
+    (x : Field) (a : Outcome Progress) (m₂ : List ℕ)
     (inside : past a m₂ ≡ children_f l f scopes syms p u x (below cur (scope_of (head_of x))) m₁) where
-  after_inside : after_f l f scopes syms p u cur t (entered (Whole x) m₁) ≡ past a m₂ >>= added_f f scopes syms u t x
+  after_inside : after_f l f scopes syms p u cur t (entered (Ok x) m₁) ≡ past a m₂ >>= added_f f scopes syms u t x
   unfolding after_f
   after_inside = rw (← inside)
 
-  pub after_stop : (c q : ℕ) → a ≡ RefusedAnswer c q
-      → past a m₂ ≡ after_f l f scopes syms p u cur t (entered (Whole x) m₁)
-  after_stop c q e = rw (after_inside, e)
+  pub after_stop : (r : Refusal) → a ≡ Err r
+      → Err r ≡ after_f l f scopes syms p u cur t (entered (Ok x) m₁)
+  after_stop r e = rw (after_inside, e)
 
-  pub after_fine : (q : ℕ) (kids : Tally) (inserted : Bool) (sum : Tally) → a ≡ Next q kids
+  pub after_fine : (q : ℕ) (kids : Tally) (inserted : Bool) (sum : Tally) → a ≡ next_f q kids
       → inserted ≡ inserts_in (symbols_in f syms (7 + 7 * scopes)) u (head_of x)
       → sum ≡ cap (t ⊞ cap (own u inserted (head_of x) (children_of x) kids))
-      → past (Next q sum) m₂ ≡ after_f l f scopes syms p u cur t (entered (Whole x) m₁)
+      → past (next_f q sum) m₂ ≡ after_f l f scopes syms p u cur t (entered (Ok x) m₁)
   after_fine q kids inserted sum e i r =
       let w : sum ≡ add_f f scopes syms u x t kids =
       r ∙ ap (λ (b : Bool). cap (t ⊞ cap (own u b (head_of x) (children_of x) kids))) i in
-      ap (λ (s : Tally). past (Next q s) m₂) w
-      ∙ sym (after_inside ∙ ap (λ (b : Answer). past b m₂ >>= added_f f scopes syms u t x) e)
+      ap (λ (s : Tally). past (next_f q s) m₂) w
+      ∙ sym (after_inside ∙ ap (λ (b : Outcome Progress). past b m₂ >>= added_f f scopes syms u t x) e)
 
 -- ---- children and levels
 
 -- below the last level: no children, or the first is cut or too deep
 module _ (f : List ℕ) (n at : ℕ) where
-  pub below_none : (t : Tally) → n ≡ 0 → t ≡ no_tally → Next at t ≡ below_last f n at
+  pub below_none : (t : Tally) → n ≡ 0 → t ≡ no_tally → next_f at t ≡ below_last f n at
   below_none t none empty = rw (none, empty)
 
   some_below : (n ≡ 0 → ⊥) → answer_of (too_deep f at) ≡ below_last f n at
@@ -173,10 +174,10 @@ module _ (f : List ℕ) (n at : ℕ) where
       let s : n ≡ suc (n - 1) = omega arith in
       rw s
 
-  pub below_cut : (n ≡ 0 → ⊥) → length f < at + 3 → RefusedAnswer 2 at ≡ below_last f n at
+  pub below_cut : (n ≡ 0 → ⊥) → length f < at + 3 → refused Reason.Cut at ≡ below_last f n at
   below_cut some cut = rw (lt-ltb (length f) (at + 3) cut) at (some_below some)
 
-  pub below_deep : (n ≡ 0 → ⊥) → at + 3 ≤ length f → RefusedAnswer 6 at ≡ below_last f n at
+  pub below_deep : (n ≡ 0 → ⊥) → at + 3 ≤ length f → refused Reason.TooDeep at ≡ below_last f n at
   below_deep some whole = rw (le-ltb (length f) (at + 3) whole) at (some_below some)
 
 below_past : (f : List ℕ) (scopes syms : ℕ) (place : ℕ → Place) (up : ℕ → Role) (cur n at : ℕ) (m : List ℕ)
@@ -185,7 +186,7 @@ unfolding list_f record_f
 below_past f scopes syms place up cur zero at m = refl
 below_past f scopes syms place up cur (suc n) at m = refl
 
-pub children_deep : (l : ℕ) (f : List ℕ) (scopes syms : ℕ) (p : Place) (u : Role) (x : Field) (cur n : ℕ) (m : List ℕ) (a : Answer)
+pub children_deep : (l : ℕ) (f : List ℕ) (scopes syms : ℕ) (p : Place) (u : Role) (x : Field) (cur n : ℕ) (m : List ℕ) (a : Outcome Progress)
     → l ≡ 0 → n ≡ children_of x → a ≡ below_last f n x.next → past a m ≡ children_f l f scopes syms p u x cur m
 unfolding children_f
 children_deep l f scopes syms p u x cur n m a none counted answered =
@@ -206,69 +207,69 @@ One = ℕ → Tally → ℕ → List ℕ → Outcome Past
 
 module _ (one : One) (n k : ℕ) (t : Tally) (p : ℕ) (m : List ℕ) (r : Outcome Past)
     (so_far : r ≡ list_f one (n - k) k t p m) where
-  pub list_step : (q : ℕ) (s : Tally) (m₁ : List ℕ) (a : Answer) → k < n → past a m₁ ≡ one k t p m → a ≡ Next q s
+  pub list_step : (q : ℕ) (s : Tally) (m₁ : List ℕ) (a : Outcome Progress) → k < n → past a m₁ ≡ one k t p m → a ≡ next_f q s
       → r ≡ list_f one (n - (k + 1)) (k + 1) s q m₁
   unfolding list_f
   list_step q s m₁ a h i j =
       let e : n - k ≡ suc (n - (k + 1)) = omega arith in
       rw (e, ← i, j) at so_far
 
-  pub list_stop : (c d : ℕ) (m₁ : List ℕ) (a : Answer) → k < n → past a m₁ ≡ one k t p m → a ≡ RefusedAnswer c d
-      → past a m₁ ≡ r
+  pub list_stop : (e : Refusal) (m₁ : List ℕ) (a : Outcome Progress) → k < n → past a m₁ ≡ one k t p m → a ≡ Err e
+      → Err e ≡ r
   unfolding list_f
-  list_stop c d m₁ a h i j =
-      let e : n - k ≡ suc (n - (k + 1)) = omega arith in
-      let w : r ≡ refused c d = rw (e, ← i, j) at so_far in
-      rw (j, w)
+  list_stop e m₁ a h i j =
+      let s : n - k ≡ suc (n - (k + 1)) = omega arith in
+      let w : r ≡ Err e = rw (s, ← i, j) at so_far in
+      sym w
 
-  pub list_end : n ≤ k → past (Next p t) m ≡ r
+  pub list_end : n ≤ k → past (next_f p t) m ≡ r
   unfolding list_f
   list_end h = let e : n - k ≡ 0 = omega arith in rw e at (sym so_far)
 
 -- ---- the rows before the tree
 
-module _ (again : ℕ → ℕ → Bool) (one : ℕ → ℕ → Reading) (n k at : ℕ) (r : Rows)
+module _ (again : ℕ → ℕ → Bool) (one : ℕ → ℕ → Outcome Field) (n k at : ℕ) (r : Outcome Rows)
     (so_far : r ≡ read_rows again one (n - k) k at) where
-  pub rows_stop : (b : Bool) → k < n → b ≡ again k at → b ≡ false → Read k at ≡ r
+  pub rows_stop : (b : Bool) → k < n → b ≡ again k at → b ≡ false → Ok (rows_read k at) ≡ r
   unfolding read_rows
   rows_stop b h eb bf =
       let s : n - k ≡ suc (n - (k + 1)) = omega arith in
-      let w : r ≡ Read k at = rw (s, ← eb, bf) at so_far in
+      let w : r ≡ Ok (rows_read k at) = rw (s, ← eb, bf) at so_far in
       sym w
 
-  pub rows_step : (b : Bool) (d : Reading) (x : Field) → k < n → b ≡ again k at → b ≡ true → d ≡ one k at → d ≡ Whole x
+  pub rows_step : (b : Bool) (d : Outcome Field) (x : Field) → k < n → b ≡ again k at → b ≡ true → d ≡ one k at → d ≡ Ok x
       → r ≡ read_rows again one (n - (k + 1)) (k + 1) x.next
   unfolding read_rows
   rows_step b d x h eb bt ed dw =
       let s : n - k ≡ suc (n - (k + 1)) = omega arith in
       rw (s, ← eb, bt, ← ed, dw) at so_far
 
-  pub rows_bad : (b : Bool) (d : Reading) (c p : ℕ) → k < n → b ≡ again k at → b ≡ true → d ≡ one k at → d ≡ RefusedField c p
-      → RefusedRows c p ≡ r
+  pub rows_bad : (b : Bool) (d : Outcome Field) (e : Refusal) → k < n → b ≡ again k at → b ≡ true → d ≡ one k at → d ≡ Err e
+      → Err e ≡ r
   unfolding read_rows
-  rows_bad b d c p h eb bt ed dw =
+  rows_bad b d e h eb bt ed dw =
       let s : n - k ≡ suc (n - (k + 1)) = omega arith in
-      let w : r ≡ RefusedRows c p = rw (s, ← eb, bt, ← ed, dw) at so_far in
+      let w : r ≡ Err e = rw (s, ← eb, bt, ← ed, dw) at so_far in
       sym w
 
-  pub rows_end : n ≤ k → Read k at ≡ r
+  pub rows_end : n ≤ k → Ok (rows_read k at) ≡ r
   unfolding read_rows
   rows_end h = let s : n - k ≡ 0 = omega arith in rw s at (sym so_far)
 
 -- no more than the most rows
-abbrev Few : ℕ → Rows → Type 0
-Few b (Read k at) = k ≤ b
-Few b (RefusedRows c p) = Unit {0}
+abbrev Few : ℕ → Outcome Rows → Type 0
+Few b (Ok q) = q.count ≤ b
+Few b (Err r) = Unit {0}
 
-few_if : (b : Bool) (n : ℕ) (x y : Rows) → Few n x → Few n y → Few n (if b then x else y)
+few_if : (b : Bool) (n : ℕ) (x y : Outcome Rows) → Few n x → Few n y → Few n (if b then x else y)
 few_if true n x y hx hy = hx
 few_if false n x y hx hy = hy
 
-few_field : (d : Reading) (n : ℕ) (g : Field → Rows) → ((x : Field) → Few n (g x)) → Few n (and_rows d g)
-few_field (Whole x) n g h = h x
-few_field (RefusedField c p) n g h = tt
+few_field : (d : Outcome Field) (n : ℕ) (g : Field → Outcome Rows) → ((x : Field) → Few n (g x)) → Few n (d >>= g)
+few_field (Ok x) n g h = h x
+few_field (Err r) n g h = tt
 
-rows_few : (again : ℕ → ℕ → Bool) (one : ℕ → ℕ → Reading) (n k b at : ℕ) → k + n ≤ b → Few b (read_rows again one n k at)
+rows_few : (again : ℕ → ℕ → Bool) (one : ℕ → ℕ → Outcome Field) (n k b at : ℕ) → k + n ≤ b → Few b (read_rows again one n k at)
 unfolding read_rows
 rows_few again one zero k b at h = omega arith
 rows_few again one (suc n) k b at h =
@@ -276,8 +277,8 @@ rows_few again one (suc n) k b at h =
     (few_field (one k at) b _ (λ x. rows_few again one n (k + 1) b x.next (omega arith)))
     (omega arith)
 
-pub few : (again : ℕ → ℕ → Bool) (one : ℕ → ℕ → Reading) (most at : ℕ) (d : Rows) (k p : ℕ)
-    → d ≡ read_rows again one most 0 at → d ≡ Read k p → k ≤ most
+pub few : (again : ℕ → ℕ → Bool) (one : ℕ → ℕ → Outcome Field) (most at : ℕ) (d : Outcome Rows) (k p : ℕ)
+    → d ≡ read_rows again one most 0 at → d ≡ Ok (rows_read k p) → k ≤ most
 few again one most at d k p e w = subst (Few most) (sym e ∙ w) (rows_few again one most 0 most at (omega arith))
 
 -- ---- the lowest unnamed row
@@ -309,27 +310,27 @@ module _ (m : List ℕ) (i u : ℕ) (so_far : u ≡ i + unnamed (drop i m)) wher
 
 -- ---- behind the tree
 
-module _ (f : List ℕ) (scopes syms at : ℕ) (m₀ m : List ℕ) (a : Answer)
+module _ (f : List ℕ) (scopes syms at : ℕ) (m₀ m : List ℕ) (a : Outcome Progress)
     (answered : past a m ≡ record_f 64 f scopes syms Program Plain 0 no_tally at m₀) where
   ends : tree_f f scopes syms at m₀ ≡ answer_of (end_f f (length m₀) (past a m))
   unfolding tree_f
   ends = sym (ap (λ (o : Outcome Past). answer_of (end_f f (length m₀) o)) answered)
 
-  pub tree_refused : (c p : ℕ) → a ≡ RefusedAnswer c p → a ≡ tree_f f scopes syms at m₀
+  pub tree_refused : (r : Refusal) → a ≡ Err r → Err r ≡ tree_f f scopes syms at m₀
   unfolding end_f
-  tree_refused c p e = rw (ends, e)
+  tree_refused r e = rw (ends, e)
 
-  module _ (q : ℕ) (t : Tally) (next : a ≡ Next q t) where
-    pub tree_more : q < length f → RefusedAnswer 7 q ≡ tree_f f scopes syms at m₀
+  module _ (q : ℕ) (t : Tally) (next : a ≡ next_f q t) where
+    pub tree_more : q < length f → refused Reason.BytesBehind q ≡ tree_f f scopes syms at m₀
     unfolding end_f
     tree_more h = rw (ends, next, lt-leb _ _ h)
 
     module _ (u : ℕ) (whole : length f ≤ q) (lowest : u ≡ unnamed m) (marks : length m ≡ length m₀) where
-      pub tree_unnamed : u < length m → RefusedAnswer 5 (7 + 7 * u) ≡ tree_f f scopes syms at m₀
+      pub tree_unnamed : u < length m → refused Reason.WrongNumber (7 + 7 * u) ≡ tree_f f scopes syms at m₀
       unfolding end_f
       tree_unnamed h = rw (ends, next, le-leb _ _ whole, ← lowest, ← marks, lt-leb _ _ h)
 
-      pub tree_fine : length m ≤ u → Next q t ≡ tree_f f scopes syms at m₀
+      pub tree_fine : length m ≤ u → next_f q t ≡ tree_f f scopes syms at m₀
       unfolding end_f
       tree_fine h = rw (ends, next, le-leb _ _ whole, ← lowest, ← marks, le-leb _ _ h)
 

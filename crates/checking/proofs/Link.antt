@@ -1,5 +1,8 @@
 -- What the check computes is what the reader answers, with the tally of its tree in place of the tree.
 -- Assumes nothing.
+use Rattle.meaning.specs.declared.Reason.TheVariants as Reason
+use Rattle.meaning.specs.Refusals.{Outcome, refused}
+use Rattle.std.specs.Prelude.{Ok, Err}
 use mathlib.Core.Path.{◌≡◌, refl, sym, ap, ◌∙◌}
 use mathlib.Core.Bool.{Bool, true, false, ◌&&◌}
 use mathlib.Core.List.{List}
@@ -21,13 +24,9 @@ use Rattle.meaning.specs.Grammar.{
   naming,
 }
 use Rattle.meaning.specs.Reading.{
-  Outcome,
-  accepted,
-  refused,
   ◌>>=◌,
   ◌>>◌,
   ensure,
-  field,
   Records,
   symbols_in,
   read_list,
@@ -37,8 +36,6 @@ use Rattle.meaning.specs.Statements.{is_using}
 use Rattle.meaning.specs.declared.Place.{Place}
 use Rattle.meaning.specs.declared.Place.TheVariants.{ForOfLeft}
 use Rattle.meaning.specs.declared.Field.{Field}
-use Rattle.meaning.specs.declared.Reading.{Reading}
-use Rattle.meaning.specs.declared.Reading.TheVariants.{Whole, Refused as RefusedField}
 use Rattle.parsing.specs.Parsed.{Parsed}
 use Rattle.parsing.specs.Records.{forest_parsed}
 use Rattle.figures.specs.Tally.{role_of, body_of, body_role, inserts_in, no_tally, ◌⊞◌, cap, own, tally_of}
@@ -80,8 +77,8 @@ ups_are f syms p u x {t = t} r n k =
 -- ---- answers
 
 abbrev pub forget : List Symbol → (ℕ → Role) → ℕ → Tally → Outcome Records → Outcome Past
-forget ys ups k t (accepted r) = accepted (record { next = r.next; marks = r.marks; tally = cap (t ⊞ tally_of ys ups k r.forest) })
-forget ys ups k t (refused c p) = refused c p
+forget ys ups k t (Ok r) = Ok (record { next = r.next; marks = r.marks; tally = cap (t ⊞ tally_of ys ups k r.forest) })
+forget ys ups k t (Err r) = Err r
 
 abbrev join : Head → Records → Records → Records
 join h k b = record { forest = more h k.forest b.forest; next = b.next; marks = b.marks }
@@ -92,43 +89,43 @@ own_in ys u h kids = own u (inserts_in ys u h) h (count kids) (tally_of ys (role
 
 module _ (ys : List Symbol) (ups : ℕ → Role) (k : ℕ) (t : Tally) where
   joined : (h : Head) (kids : Records) (o : Outcome Records)
-      → forget ys ups k t (o >>= (λ b. accepted (join h kids b))) ≡ forget ys ups (suc k) (t ⊞ own_in ys (ups k) h kids.forest) o
+      → forget ys ups k t (o >>= (λ b. Ok (join h kids b))) ≡ forget ys ups (suc k) (t ⊞ own_in ys (ups k) h kids.forest) o
   unfolding tally_of
-  joined h kids (accepted b) =
-      ap (λ (s : Tally). accepted (record { next = b.next; marks = b.marks; tally = cap s }))
+  joined h kids (Ok b) =
+      ap (λ (s : Tally). Ok (record { next = b.next; marks = b.marks; tally = cap s }))
       (sym (⊞-assoc t (own_in ys (ups k) h kids.forest) (tally_of ys ups (suc k) b.forest)))
-  joined h kids (refused c p) = refl
+  joined h kids (Err r) = refl
 
   -- `added` adds the record to the tally before it, from the tally of its children
   after_kids : (h : Head) (ups_in : ℕ → Role) (o : Outcome Records) (o_f : Outcome Past) (added : Tally → Tally)
       (rest : Records → Outcome Records) (rest_f : Past → Outcome Past)
       → forget ys ups_in 0 no_tally o ≡ o_f
-      → ((kids : Records) → o ≡ accepted kids → cap (t ⊞ own_in ys (ups k) h kids.forest) ≡ added (cap (no_tally ⊞ tally_of ys ups_in 0 kids.forest)))
+      → ((kids : Records) → o ≡ Ok kids → cap (t ⊞ own_in ys (ups k) h kids.forest) ≡ added (cap (no_tally ⊞ tally_of ys ups_in 0 kids.forest)))
       → ((kids : Records) → forget ys ups (suc k) (t ⊞ own_in ys (ups k) h kids.forest) (rest kids)
       ≡ rest_f (record { next = kids.next; marks = kids.marks; tally = cap (t ⊞ own_in ys (ups k) h kids.forest) }))
-      → forget ys ups k t (o >>= (λ kids. rest kids >>= (λ b. accepted (join h kids b))))
-      ≡ o_f >>= (λ q. accepted (record { next = q.next; marks = q.marks; tally = added q.tally })) >>= rest_f
-  after_kids h ups_in (accepted kids) o_f added rest rest_f e a i =
+      → forget ys ups k t (o >>= (λ kids. rest kids >>= (λ b. Ok (join h kids b))))
+      ≡ o_f >>= (λ q. Ok (record { next = q.next; marks = q.marks; tally = added q.tally })) >>= rest_f
+  after_kids h ups_in (Ok kids) o_f added rest rest_f e a i =
       joined h kids (rest kids)
       ∙ i kids
       ∙ ap (λ (s : Tally). rest_f (record { next = kids.next; marks = kids.marks; tally = s })) (a kids refl)
-      ∙ ap (λ (q : Outcome Past). q >>= (λ q. accepted (record { next = q.next; marks = q.marks; tally = added q.tally })) >>= rest_f) e
-  after_kids h ups_in (refused c p) o_f added rest rest_f e a i =
-      ap (λ (q : Outcome Past). q >>= (λ q. accepted (record { next = q.next; marks = q.marks; tally = added q.tally })) >>= rest_f) e
+      ∙ ap (λ (q : Outcome Past). q >>= (λ q. Ok (record { next = q.next; marks = q.marks; tally = added q.tally })) >>= rest_f) e
+  after_kids h ups_in (Err r) o_f added rest rest_f e a i =
+      ap (λ (q : Outcome Past). q >>= (λ q. Ok (record { next = q.next; marks = q.marks; tally = added q.tally })) >>= rest_f) e
 
   after_tests : (b₁ b₂ : Bool) (at : ℕ) (e : Entered) (o : Outcome Records) (kids_f : Entered → Outcome Past) (rest_f : Past → Outcome Past)
       → (b₁ ≡ true → forget ys ups k t o ≡ kids_f e >>= rest_f)
-      → forget ys ups k t (ensure b₁ 5 at >> (ensure b₂ 5 at >> o))
-      ≡ (ensure b₁ 5 at >> (ensure b₂ 5 at >> accepted e)) >>= kids_f >>= rest_f
+      → forget ys ups k t (ensure b₁ Reason.WrongNumber at >> (ensure b₂ Reason.WrongNumber at >> o))
+      ≡ (ensure b₁ Reason.WrongNumber at >> (ensure b₂ Reason.WrongNumber at >> Ok e)) >>= kids_f >>= rest_f
   after_tests true true at e o kids_f rest_f h = h refl
   after_tests true false at e o kids_f rest_f h = refl
   after_tests false b₂ at e o kids_f rest_f h = refl
 
-  after_field : (r : Reading) (g : Field → Outcome Records) (g_f : Field → Outcome Entered) (kids_f : Entered → Outcome Past) (rest_f : Past → Outcome Past)
+  after_field : (r : Outcome Field) (g : Field → Outcome Records) (g_f : Field → Outcome Entered) (kids_f : Entered → Outcome Past) (rest_f : Past → Outcome Past)
       → ((x : Field) → forget ys ups k t (g x) ≡ g_f x >>= kids_f >>= rest_f)
-      → forget ys ups k t (field r >>= g) ≡ field r >>= g_f >>= kids_f >>= rest_f
-  after_field (Whole x) g g_f kids_f rest_f h = h x
-  after_field (RefusedField c p) g g_f kids_f rest_f h = refl
+      → forget ys ups k t (r >>= g) ≡ r >>= g_f >>= kids_f >>= rest_f
+  after_field (Ok x) g g_f kids_f rest_f h = h x
+  after_field (Err r) g g_f kids_f rest_f h = refl
 
 -- ---- lists
 
@@ -147,14 +144,14 @@ module _ (f : List ℕ) (scopes syms : ℕ) where
   one_f inside_f p u cur t at m =
       enter_f f syms p cur at m >>= (λ e.
       inside_f p u cur e >>= (λ q.
-      accepted (record { next = q.next; marks = q.marks; tally = add_f f scopes syms u e.field t q.tally })))
+      Ok (record { next = q.next; marks = q.marks; tally = add_f f scopes syms u e.field t q.tally })))
 
   -- the record's own tally, from the tree and in the code
   Sums : Inside → Type 0
   Sums inside =
       (p : Place) (u : Role) (x : Field) (cur : ℕ) (m : List ℕ) (t : Tally) (kids : Records)
       → right p syms x ≡ true
-      → inside p x cur m ≡ accepted kids
+      → inside p x cur m ≡ Ok kids
       → cap (t ⊞ own_in as_read u (head_of x) kids.forest)
       ≡ add_f f scopes syms u x (cap t) (cap (no_tally ⊞ tally_of as_read (ups_f f u x) 0 kids.forest))
 
@@ -168,7 +165,7 @@ module _ (f : List ℕ) (scopes syms : ℕ) where
       ≡ list_f (λ j s a m₁. one_f inside_f (place j) (ups j) cur s a m₁) n k (cap t) at m
   unfolding read_list list_f enter_f Sums tally_of
   link_list inside inside_f hk hs place ups cur zero k t at m =
-      ap (λ (s : Tally). accepted (record { next = at; marks = m; tally = cap s })) (⊞-none t)
+      ap (λ (s : Tally). Ok (record { next = at; marks = m; tally = cap s })) (⊞-none t)
   link_list inside inside_f hk hs place ups cur (suc n) k t at m =
       after_field as_read ups k t (field_at f (place k) at) _ _ _ _ (λ x.
       after_tests as_read ups k t (right (place k) syms x) (may_name f cur m (scope_of (head_of x))) at _ _ _ _ (λ r.
@@ -205,7 +202,7 @@ module _ (f : List ℕ) (scopes syms : ℕ) where
       → forget as_read ups k t (read_forest l f syms place cur k n at m)
       ≡ list_f (λ j s a m₁. record_f l f scopes syms (place j) (ups j) cur s a m₁) n k (cap t) at m
   unfolding read_forest record_f list_f tally_of
-  link_forest zero place ups cur zero k t at m = ap (λ (s : Tally). accepted (record { next = at; marks = m; tally = cap s })) (⊞-none t)
+  link_forest zero place ups cur zero k t at m = ap (λ (s : Tally). Ok (record { next = at; marks = m; tally = cap s })) (⊞-none t)
   link_forest zero place ups cur (suc n) k t at m = refl
   link_forest (suc l) place ups cur n k t at m =
       link_list

@@ -1,14 +1,15 @@
 -- What the check computes: the reader's answers and marks, with no tree.
 -- Assumes nothing.
-use Rattle.std.specs.Prelude.{if◌then◌else◌, ℕ, zero, suc, ◌+◌, ◌*◌, ◌-◌, min, Bool, true, false, ◌&&◌, List, [], ◌∷◌, eqb, leb, get_or, length, replicate}
+use Rattle.meaning.specs.declared.Reason.TheVariants as Reason
+use Rattle.meaning.specs.Refusals.{Outcome, refused}
+use Rattle.std.specs.Prelude.{Ok, Err, Option, Some, None, if◌then◌else◌, ℕ, zero, suc, ◌+◌, ◌*◌, ◌-◌, min, Bool, true, false, ◌&&◌, List, [], ◌∷◌, eqb, leb, get_or, length, replicate}
 use Rattle.meaning.specs.Numbers.Tag
 use Rattle.meaning.specs.Numbers.Form
 use Rattle.meaning.specs.Numbers.Mode
-use Rattle.meaning.specs.Numbers.Refusal
 use Rattle.meaning.specs.Tree.{one_of, hd}
 use Rattle.meaning.specs.File.{symbol_bytes}
 use Rattle.meaning.specs.Grammar.{index, allowed, two, field_of, field_at, is_row, right, scope_of, below, children_of, place_of, head_of, may_name, naming, unnamed}
-use Rattle.meaning.specs.Reading.{Outcome, accepted, refused, ◌>>=◌, ◌>>◌, ensure, field, too_deep, judged, symbols_in, read_scopes, read_symbols, wrong_count, most_bytes}
+use Rattle.meaning.specs.Reading.{◌>>=◌, ◌>>◌, ensure, too_deep, judged, symbols_in, read_scopes, read_symbols, wrong_count, most_bytes}
 use Rattle.meaning.specs.declared.Place.{Place}
 use Rattle.meaning.specs.declared.Place.TheVariants.{
   Settings,
@@ -23,17 +24,10 @@ use Rattle.meaning.specs.declared.Place.TheVariants.{
   DefaultExport,
 }
 use Rattle.meaning.specs.declared.Field.{Field}
-use Rattle.meaning.specs.declared.Reading.{Reading}
-use Rattle.meaning.specs.declared.Reading.TheVariants.{Whole as WholeField, Refused as RefusedField}
 use Rattle.meaning.specs.declared.Rows.{Rows}
-use Rattle.meaning.specs.declared.Rows.TheVariants.{Read, Refused as RefusedRows}
-use Rattle.checking.specs.declared.Answer.{Answer}
-use Rattle.checking.specs.declared.Answer.TheVariants.{Next, Refused as RefusedAnswer}
-use Rattle.checking.specs.declared.Checked.{Checked}
-use Rattle.checking.specs.declared.Checked.TheVariants.{Fine, Refused as RefusedCheck}
 use Rattle.checking.specs.declared.Layout.{Layout}
+use Rattle.checking.specs.declared.Progress.{Progress}
 use Rattle.checking.specs.declared.Whole.{Whole}
-use Rattle.checking.specs.declared.Whole.TheVariants.{Accepted, Refused as RefusedFile}
 use Rattle.meaning.specs.Statements.{is_using}
 use Rattle.tables.specs.Loops.{turns}
 use Rattle.mentions.specs.Counters.{add_record_f}
@@ -54,17 +48,20 @@ pub record Past : Type 0 where
   pub marks : List ℕ
   pub tally : Tally
 
-abbrev pub entered : Reading → List ℕ → Outcome Entered
-entered (WholeField x) m = accepted (record { field = x; marks = m })
-entered (RefusedField c p) m = refused c p
+abbrev pub next_f : ℕ → Tally → Outcome Progress
+next_f at t = Ok (record { at = at; tally = t })
 
-abbrev pub past : Answer → List ℕ → Outcome Past
-past (Next at t) m = accepted (record { next = at; marks = m; tally = t })
-past (RefusedAnswer c p) m = refused c p
+abbrev pub entered : Outcome Field → List ℕ → Outcome Entered
+entered (Ok x) m = Ok (record { field = x; marks = m })
+entered (Err r) m = Err r
 
-abbrev pub answer_of : Outcome Past → Answer
-answer_of (accepted q) = Next q.next q.tally
-answer_of (refused c p) = RefusedAnswer c p
+abbrev pub past : Outcome Progress → List ℕ → Outcome Past
+past (Ok q) m = Ok (record { next = q.at; marks = m; tally = q.tally })
+past (Err r) m = Err r
+
+abbrev pub answer_of : Outcome Past → Outcome Progress
+answer_of (Ok q) = next_f q.next q.tally
+answer_of (Err r) = Err r
 
 -- ---- leaves: plain records without scope and children
 
@@ -72,24 +69,24 @@ answer_of (refused c p) = RefusedAnswer c p
 unfoldable pub is_whole : List ℕ → Place → ℕ → ℕ → ℕ → Bool
 is_whole f p tag len at = leb (at + (3 + len)) (length f) && allowed p tag && eqb (two f (at + 1)) len
 
--- the bytes of the 24 at an offset where it is right and has no children, or 0
-unfoldable pub expression_size : List ℕ → Place → ℕ → ℕ
-expression_size f p at = if is_whole f p 24 4 at && eqb (two f (at + 5)) 0 then 7 else 0
+-- the bytes of the 24 at an offset, where it is right and has no children
+unfoldable pub expression_size : List ℕ → Place → ℕ → Option ℕ
+expression_size f p at = if is_whole f p 24 4 at && eqb (two f (at + 5)) 0 then Some 7 else None
 
 -- the same of a 25 or 26
-unfoldable pub mention_size : List ℕ → Place → ℕ → ℕ → ℕ → ℕ
-mention_size f p syms tag at = if is_whole f p tag 2 at && is_row syms (two f (at + 3)) then 5 else 0
+unfoldable pub mention_size : List ℕ → Place → ℕ → ℕ → ℕ → Option ℕ
+mention_size f p syms tag at = if is_whole f p tag 2 at && is_row syms (two f (at + 3)) then Some 5 else None
 
--- the bytes of the leaf at an offset, or 0 where there is none
-unfoldable pub leaf_size : List ℕ → Place → Role → ℕ → ℕ → ℕ
+-- the bytes of the leaf at an offset, if there is one
+unfoldable pub leaf_size : List ℕ → Place → Role → ℕ → ℕ → Option ℕ
 leaf_size f p u syms at =
     let tag = get_or f at 0 in
     if eqb (role_index u) 0
     then (if eqb tag 24 then expression_size f p at
     else if eqb tag 25 then mention_size f p syms 25 at
     else if eqb tag 26 then mention_size f p syms 26 at
-    else 0)
-    else 0
+    else None)
+    else None
 
 -- ---- where an expression stands
 
@@ -112,16 +109,16 @@ expression_here f p at =
 -- ---- records
 
 -- the checks 2 to 5 of a record but for its scope row
-unfoldable pub right_at : List ℕ → ℕ → Place → ℕ → Reading
+unfoldable pub right_at : List ℕ → ℕ → Place → ℕ → Outcome Field
 right_at f syms p at = judged (right p syms) at (field_at f p at)
 
 -- the checks 2 to 5 of a record
 unfoldable pub enter_f : List ℕ → ℕ → Place → ℕ → ℕ → List ℕ → Outcome Entered
 enter_f f syms p cur at m = do
-  x ← field (field_at f p at)
-  ensure (right p syms x) 5 at
-  ensure (may_name f cur m (scope_of (head_of x))) 5 at
-  accepted (record { field = x; marks = naming m (scope_of (head_of x)) })
+  x ← field_at f p at
+  ensure (right p syms x) Reason.WrongNumber at
+  ensure (may_name f cur m (scope_of (head_of x))) Reason.WrongNumber at
+  Ok (record { field = x; marks = naming m (scope_of (head_of x)) })
 
 -- what child k is to a record
 abbrev pub ups_f : List ℕ → Role → Field → ℕ → Role
@@ -134,7 +131,7 @@ add_f f scopes syms u x t kids =
 
 -- n records in a row, from child k on
 unfoldable pub list_f : (ℕ → Tally → ℕ → List ℕ → Outcome Past) → ℕ → ℕ → Tally → ℕ → List ℕ → Outcome Past
-list_f one zero k t at m = accepted (record { next = at; marks = m; tally = t })
+list_f one zero k t at m = Ok (record { next = at; marks = m; tally = t })
 list_f one (suc n) k t at m = do
   q ← one k t at m
   list_f one n (k + 1) q.tally q.next q.marks
@@ -153,11 +150,11 @@ record_f (suc l) f scopes syms p u cur t at m = do
       no_tally
       e.field.next
       e.marks
-  accepted (record { next = q.next; marks = q.marks; tally = add_f f scopes syms u e.field t q.tally })
+  Ok (record { next = q.next; marks = q.marks; tally = add_f f scopes syms u e.field t q.tally })
 
 -- n records below the last level: none, or the first is too deep
-abbrev pub below_last : List ℕ → ℕ → ℕ → Answer
-below_last f zero at = Next at no_tally
+abbrev pub below_last : List ℕ → ℕ → ℕ → Outcome Progress
+below_last f zero at = next_f at no_tally
 below_last f (suc n) at = answer_of (too_deep f at)
 
 -- the children of a record at p
@@ -168,7 +165,7 @@ children_f l f scopes syms p u x cur m =
 -- a record behind its children
 abbrev pub added_f : List ℕ → ℕ → ℕ → Role → Tally → Field → Past → Outcome Past
 added_f f scopes syms u t x q =
-    accepted (record { next = q.next; marks = q.marks; tally = add_f f scopes syms u x t q.tally })
+    Ok (record { next = q.next; marks = q.marks; tally = add_f f scopes syms u x t q.tally })
 
 -- what is left of a record that was entered, with levels left for its children
 unfoldable pub after_f : ℕ → List ℕ → ℕ → ℕ → Place → Role → ℕ → Tally → Outcome Entered → Outcome Past
@@ -200,11 +197,11 @@ with_records l n =
 unfoldable pub end_f : List ℕ → ℕ → Outcome Past → Outcome Past
 end_f f n o = do
   q ← o
-  ensure (leb (length f) q.next) 7 q.next
-  ensure (leb n (unnamed q.marks)) 5 (7 + 7 * unnamed q.marks)
-  accepted q
+  ensure (leb (length f) q.next) Reason.BytesBehind q.next
+  ensure (leb n (unnamed q.marks)) Reason.WrongNumber (7 + 7 * unnamed q.marks)
+  Ok q
 
-unfoldable pub tree_f : List ℕ → ℕ → ℕ → ℕ → List ℕ → Answer
+unfoldable pub tree_f : List ℕ → ℕ → ℕ → ℕ → List ℕ → Outcome Progress
 tree_f f scopes syms at m = answer_of (end_f f (length m) (record_f 64 f scopes syms Program Plain 0 no_tally at m))
 
 -- ---- how often symbols are named
@@ -233,43 +230,40 @@ wrong_in f t first = wrong_count f (λ y. get_or t (y - 1) 0) (length t) 1 first
 unfoldable pub wrong_f : List ℕ → Layout → ℕ
 wrong_f f l = wrong_in f (count_f f l.records l.tree (replicate l.symbols 0)) l.first
 
+abbrev pub whole : Layout → Tally → Outcome Whole
+whole l t = Ok (record { layout = l; tally = t })
+
 -- a file with a right tree
-unfoldable pub counted_f : List ℕ → Layout → Tally → Whole
+unfoldable pub counted_f : List ℕ → Layout → Tally → Outcome Whole
 counted_f f l t =
     let wrong = wrong_f f l in
-    if leb l.symbols wrong then Accepted l t else RefusedFile Refusal.WrongNumber (l.first + symbol_bytes * wrong)
+    if leb l.symbols wrong then whole l t else refused Reason.WrongNumber (l.first + symbol_bytes * wrong)
 
 -- a file by the answer of its tree
-abbrev pub run_answer : List ℕ → Layout → Answer → Whole
-run_answer f l (Next at t) = counted_f f (with_records l t.records) t
-run_answer f l (RefusedAnswer c p) = RefusedFile c p
+abbrev pub run_answer : List ℕ → Layout → Outcome Progress → Outcome Whole
+run_answer f l a = a >>= (λ q. counted_f f (with_records l q.tally.records) q.tally)
 
 -- ---- the rows and the settings
 
-abbrev pub by_rows : Rows → (ℕ → ℕ → Whole) → Whole
-by_rows (Read k at) g = g k at
-by_rows (RefusedRows c p) g = RefusedFile c p
-
-abbrev pub by_field : Reading → (Field → Whole) → Whole
-by_field (WholeField x) g = g x
-by_field (RefusedField c p) g = RefusedFile c p
+abbrev pub by_rows : Outcome Rows → (ℕ → ℕ → Outcome Whole) → Outcome Whole
+by_rows d g = d >>= (λ q. g q.count q.next)
 
 -- the symbol rows and the tree behind so many scope rows; the rows behind the settings; the settings
-unfoldable pub symbols_f : List ℕ → Field → ℕ → ℕ → Whole
+unfoldable pub symbols_f : List ℕ → Field → ℕ → ℕ → Outcome Whole
 symbols_f f s n at = by_rows (read_symbols f n at) (λ syms at₂. run_answer f (layout s n syms at at₂) (tree_f f n syms at₂ (replicate n 0)))
 
-unfoldable pub rows_f : List ℕ → Field → Whole
+unfoldable pub rows_f : List ℕ → Field → Outcome Whole
 rows_f f s = by_rows (read_scopes f s.next) (symbols_f f s)
 
-unfoldable pub settings_f : List ℕ → Field → Whole
+unfoldable pub settings_f : List ℕ → Field → Outcome Whole
 settings_f f s =
-    if leb s.a Mode.Inline then (if leb s.b 1 then rows_f f s else RefusedFile Refusal.WrongNumber 0)
-    else RefusedFile Refusal.WrongNumber 0
+    if leb s.a Mode.Inline then (if leb s.b 1 then rows_f f s else refused Reason.WrongNumber 0)
+    else refused Reason.WrongNumber 0
 
-unfoldable pub file_f : List ℕ → Whole
-file_f f = if leb (length f) most_bytes then by_field (field_at f Settings 0) (settings_f f) else RefusedFile Refusal.TooLong most_bytes
+unfoldable pub file_f : List ℕ → Outcome Whole
+file_f f = if leb (length f) most_bytes then (field_at f Settings 0 >>= settings_f f) else refused Reason.TooLong most_bytes
 
--- 01's answer of a check
-abbrev pub checked_of : {A : Type 0} → Outcome A → Checked
-checked_of (accepted a) = Fine
-checked_of (refused c p) = RefusedCheck c p
+-- what a check answers
+abbrev pub checked_of : {A : Type 0} → Outcome A → Outcome (Unit {0})
+checked_of (Ok a) = Ok tt
+checked_of (Err r) = Err r

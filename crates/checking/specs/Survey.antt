@@ -1,16 +1,14 @@
 -- What a survey answers.
 -- Assumes nothing.
-use Rattle.std.specs.Prelude.{◌+◌, ◌*◌, length}
+use Rattle.meaning.specs.Refusals.{Outcome, refused}
+use Rattle.std.specs.Prelude.{Ok, Err, ◌+◌, ◌*◌, length}
 use Rattle.meaning.specs.Tree.{size}
 use Rattle.meaning.specs.File.{File, settings_bytes, scope_bytes, symbol_bytes}
-use Rattle.meaning.specs.Reading.{Outcome, accepted, refused}
 use Rattle.meaning.specs.Charges.{final_figures}
 use Rattle.figures.specs.Figures.{shown_figures}
-use Rattle.figures.specs.declared.Figured.{Figured}
-use Rattle.figures.specs.declared.Figured.TheVariants.{Fine as FineFigures, Refused as RefusedFigures}
+use Rattle.figures.specs.declared.FinalFigures.{FinalFigures}
 use Rattle.checking.specs.declared.Layout.{Layout}
 use Rattle.checking.specs.declared.Surveyed.{Surveyed}
-use Rattle.checking.specs.declared.Surveyed.TheVariants.{Fine, Refused}
 
 -- THE LAYOUT of a file: what it has, and where in its bytes
 abbrev pub layout_of : File → Layout
@@ -26,10 +24,13 @@ layout_of f =
     }
 
 -- a file that passes some checks, with its layout and its final figures
-abbrev pub surveyed_of : Outcome File → Surveyed
-surveyed_of (accepted f) = Fine (layout_of f) (shown_figures (final_figures f))
-surveyed_of (refused c p) = Refused c p
+abbrev pub fine : Layout → FinalFigures → Outcome Surveyed
+fine l g = Ok (record { layout = l; figures = g })
 
-abbrev pub with_figures : Layout → Figured → Surveyed
-with_figures l (FineFigures g) = Fine l g
-with_figures l (RefusedFigures c p) = Refused c p
+abbrev pub surveyed_of : Outcome File → Outcome Surveyed
+surveyed_of (Ok f) = fine (layout_of f) (shown_figures (final_figures f))
+surveyed_of (Err r) = Err r
+
+abbrev pub with_figures : Layout → Outcome FinalFigures → Outcome Surveyed
+with_figures l (Ok g) = fine l g
+with_figures l (Err r) = Err r

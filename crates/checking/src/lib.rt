@@ -7,7 +7,6 @@ ghost use Rattle.meaning.specs.Numbers.Tag;
 ghost use Rattle.meaning.specs.Reading.{scope_at, symbol_at, most_rows, most_symbols, read_scopes, read_symbols, read_file};
 ghost use Rattle.meaning.specs.Lowering.{check_file, figures_of};
 ghost use Rattle.figures.specs.Figures.{figured_of};
-ghost use Rattle.meaning.specs.declared.Reading.TheVariants.{Whole as WholeField};
 ghost use Rattle.meaning.specs.declared.Place.TheVariants.{Program as ProgramPlace};
 ghost use Rattle.figures.specs.declared.tally.Role.TheVariants.{Plain as PlainRole};
 ghost use Rattle.figures.specs.Tally.{no_tally};
@@ -19,8 +18,8 @@ use fields::{
     SCOPE_BYTES, SETTINGS_BYTES, SYMBOL_BYTES,
 };
 use figures::tally::{Role, Tally};
-use figures::{Figured, FinalFigures, tally};
-use meaning::{Field, Place, Reading, Rows, ScopeId, form, mode, refusal, tag};
+use figures::{FinalFigures, tally};
+use meaning::{Field, Place, Reason, Refusal, Rows, ScopeId, form, mode, tag};
 
 // A file holds so many bytes at most, and its records so many levels; more scope rows and symbol rows than such a file has.
 const MOST_BYTES: usize = 65535;
@@ -40,13 +39,6 @@ const MENTION_LENGTH: u16 = LENGTHS[tag::READ as usize] as u16;
 
 const MENTION_SIZE: u32 = MENTION_BYTES as u32;
 
-// The offset behind what was checked and the tally so far, or a refusal's number and place.
-#[derive(Clone, Copy)]
-enum Answer {
-    Next(usize, Tally),
-    Refused(u8, usize),
-}
-
 // Where a record stands: its place, what it is to the record around it, and the scope around it.
 #[derive(Clone, Copy)]
 struct Site {
@@ -63,7 +55,7 @@ struct Progress {
 }
 
 // How many scope and symbol rows a file has.
-#[derive(Clone, Copy)]
+#[derive(Clone, Copy, Debug, PartialEq, Eq)]
 pub struct RowCounts {
     pub scopes: u16,
     pub symbols: u16,
@@ -71,7 +63,7 @@ pub struct RowCounts {
 
 // What the check knows of a file: its settings, how many scope rows, symbol rows and records it has, and the offsets of the first symbol row
 // and of Program.
-#[derive(Clone, Copy)]
+#[derive(Clone, Copy, Debug, PartialEq, Eq)]
 pub struct Layout {
     pub mode: u16,
     pub esm: u16,
@@ -82,25 +74,18 @@ pub struct Layout {
     pub tree: u16,
 }
 
-// What a whole file comes to: its layout and the tally of its tree, or the refusal.
+// What a whole file comes to: its layout, and the tally of its tree.
 #[derive(Clone, Copy)]
-enum Whole {
-    Accepted(Layout, Tally),
-    Refused(u8, usize),
+struct Whole {
+    layout: Layout,
+    tally: Tally,
 }
 
-// What a survey answers: the layout of a file and the figures of the lowered one, or a refusal's number and place.
-#[derive(Clone, Copy)]
-pub enum Surveyed {
-    Fine(Layout, FinalFigures),
-    Refused(u8, usize),
-}
-
-// What a check answers: fine, or a refusal's number and place.
-#[derive(Clone, Copy)]
-pub enum Checked {
-    Fine,
-    Refused(u8, usize),
+// What a survey finds: the layout of a file, and the figures of the lowered one.
+#[derive(Clone, Copy, Debug, PartialEq, Eq)]
+pub struct Surveyed {
+    pub layout: Layout,
+    pub figures: FinalFigures,
 }
 
 // ---- one record
@@ -136,34 +121,37 @@ fn enter_record(
     place: Place,
     cur: ScopeId,
     at: usize,
-) -> Reading
+) -> Result<Field, Refusal>
     ensures { entered result marks.new ≡ enter_f file.now symbols place cur.0 at marks.old }
 {
-    let read = fields::read_field(file, place, at);
-    let Reading::Whole(x) = read else {
-        return read;
-    };
+    let x = fields::read_field(file, place, at)?;
     if !rules::is_right(place, symbols, x) {
-        return Reading::Refused(refusal::WRONG_NUMBER, at);
+        return Err(Refusal {
+            reason: Reason::WrongNumber,
+            place: at,
+        });
     }
     if !name_scope(file, marks, cur, rules::scope_in(x)) {
-        return Reading::Refused(refusal::WRONG_NUMBER, at);
+        return Err(Refusal {
+            reason: Reason::WrongNumber,
+            place: at,
+        });
     }
-    read
+    Ok(x)
 }
 
 // The same of a record that names no scope.
-fn read_right(file: &[u8], symbols: usize, place: Place, at: usize) -> Reading
+fn read_right(file: &[u8], symbols: usize, place: Place, at: usize) -> Result<Field, Refusal>
     ensures { result ≡ right_at file.now symbols place at }
 {
-    let read = fields::read_field(file, place, at);
-    let Reading::Whole(x) = read else {
-        return read;
-    };
+    let x = fields::read_field(file, place, at)?;
     if !rules::is_right(place, symbols, x) {
-        return Reading::Refused(refusal::WRONG_NUMBER, at);
+        return Err(Refusal {
+            reason: Reason::WrongNumber,
+            place: at,
+        });
     }
-    read
+    Ok(x)
 }
 
 // The same of an expression: Expression, Read, Call and Load name no scope, Function and Class do. What has another tag is a Name, or is
@@ -175,7 +163,7 @@ fn enter_expression(
     place: Place,
     cur: ScopeId,
     at: usize,
-) -> Reading
+) -> Result<Field, Refusal>
     ensures { entered result marks.new ≡ enter_f file.now symbols place cur.0 at marks.old }
 {
     let tag = fields::read_tag(file, at);
@@ -205,49 +193,49 @@ fn is_whole(file: &[u8], place: Place, tag: u16, len: u16, at: usize) -> bool
     fields::read_two(file, at + 1) == len
 }
 
-// The bytes of the Expression at an offset where it is right and has no children, or 0.
-fn expression_size(file: &[u8], place: Place, at: usize) -> u32
+// The bytes of the Expression at an offset, where it is right and has no children.
+fn expression_size(file: &[u8], place: Place, at: usize) -> Option<u32>
     ensures { result ≡ expression_size file.now place at }
 {
     if !is_whole(file, place, tag::EXPRESSION, EXPRESSION_LENGTH, at) {
-        return 0;
+        return None;
     }
     if fields::read_two(file, at + NUMBER_B) != 0 {
-        return 0;
+        return None;
     }
-    EXPRESSION_SIZE
+    Some(EXPRESSION_SIZE)
 }
 
-// The bytes of the Read or Name at an offset where it names a symbol row, or 0.
-fn mention_size(file: &[u8], place: Place, symbols: usize, tag: u16, at: usize) -> u32
+// The bytes of the Read or Name at an offset, where it names a symbol row.
+fn mention_size(file: &[u8], place: Place, symbols: usize, tag: u16, at: usize) -> Option<u32>
     ensures { result ≡ mention_size file.now place symbols tag at }
 {
     if !is_whole(file, place, tag, MENTION_LENGTH, at) {
-        return 0;
+        return None;
     }
     let row = fields::read_two(file, at + NUMBER_A) as usize;
     if row < 1 {
-        return 0;
+        return None;
     }
     if symbols < row {
-        return 0;
+        return None;
     }
-    MENTION_SIZE
+    Some(MENTION_SIZE)
 }
 
-// The bytes of the leaf at an offset, or 0 where there is none or its check could refuse it.
-fn leaf_size(file: &[u8], place: Place, up: Role, symbols: usize, at: usize) -> u32
+// The bytes of the leaf at an offset, or none where there is no leaf or its check could refuse it.
+fn leaf_size(file: &[u8], place: Place, up: Role, symbols: usize, at: usize) -> Option<u32>
     ensures { result ≡ leaf_size file.now place up symbols at }
 {
     if !tally::is_plain(up) {
-        return 0;
+        return None;
     }
     let tag = fields::read_tag(file, at);
     match tag {
         tag::EXPRESSION => expression_size(file, place, at),
         tag::READ => mention_size(file, place, symbols, tag::READ, at),
         tag::NAME => mention_size(file, place, symbols, tag::NAME, at),
-        _ => 0,
+        _ => None,
     }
 }
 
@@ -313,19 +301,25 @@ fn takes_expression(file: &[u8], place: Place, at: usize) -> bool
 // ---- the cycle: a record's children are statements, expressions and parts of them
 
 // So many children below the last level: none, or the first is refused whatever its head says, once that is there.
-fn below_last(file: &[u8], n: u16, at: usize) -> Answer
+fn below_last(file: &[u8], n: u16, at: usize) -> Result<Progress, Refusal>
     ensures { result ≡ below_last file.now n at }
 {
     if n == 0 {
-        return Answer::Next(at, tally::no_tally());
+        return Ok(Progress {
+            at,
+            tally: tally::no_tally(),
+        });
     }
-    if file.len() <= at {
-        return Answer::Refused(refusal::CUT, at);
+    if file.len().saturating_sub(at) < HEAD_BYTES {
+        return Err(Refusal {
+            reason: Reason::Cut,
+            place: at,
+        });
     }
-    if file.len() - at < HEAD_BYTES {
-        return Answer::Refused(refusal::CUT, at);
-    }
-    Answer::Refused(refusal::TOO_DEEP, at)
+    Err(Refusal {
+        reason: Reason::TooDeep,
+        place: at,
+    })
 }
 
 // What is left of a record when its field was entered: its children, with so many levels left for them, and its tally.
@@ -338,20 +332,20 @@ fn check_entered(
     before: Tally,
     levels: u16,
     x: Field,
-) -> Answer
+) -> Result<Progress, Refusal>
     ensures { past result marks.new
-        ≡ after_f levels file.now rows.scopes rows.symbols site.place site.role site.scope.0 before (entered (WholeField x) marks.old) }
+        ≡ after_f levels file.now rows.scopes rows.symbols site.place site.role site.scope.0 before (entered (Ok x) marks.old) }
 {
     let place = site.place;
     let role = site.role;
     let around = site.scope;
     let scope = rules::scope_below(around, rules::scope_in(x));
-    let inside = check_children(file, marks, rows, Site { place, role, scope }, x, levels);
-    let Answer::Next(next, kids) = inside else {
-        return inside;
-    };
+    let kids = check_children(file, marks, rows, Site { place, role, scope }, x, levels)?;
     let inserted = tally::inserts(file, rows.scopes, rows.symbols, role, x);
-    Answer::Next(next, tally::add_record(before, role, inserted, x, kids))
+    Ok(Progress {
+        at: kids.at,
+        tally: tally::add_record(before, role, inserted, x, kids.tally),
+    })
 }
 
 // A statement, what else stands in Program or a list, or a part of one: Declarators, Cases, Catches, Bodies, StaticBlocks, Specifiers. Most
@@ -364,17 +358,14 @@ fn check_statement(
     site: Site,
     done: Progress,
     levels: u16,
-) -> Answer
+) -> Result<Progress, Refusal>
     ensures { past result marks.new
         ≡ record_f (suc levels) file.now rows.scopes rows.symbols site.place site.role site.scope.0 done.tally done.at marks.old }
 {
     let place = site.place;
     let scope = site.scope;
-    let read = enter_record(file, marks, rows.symbols as usize, place, scope, done.at);
-    match read {
-        Reading::Whole(x) => check_entered(file, marks, rows, site, done.tally, levels, x),
-        Reading::Refused(c, p) => Answer::Refused(c, p),
-    }
+    let x = enter_record(file, marks, rows.symbols as usize, place, scope, done.at)?;
+    check_entered(file, marks, rows, site, done.tally, levels, x)
 }
 
 // An expression: an Expression, a Read, a Call, a Load, or a Function or Class of form 1. An Expression without children and a Read are
@@ -387,7 +378,7 @@ fn check_expression(
     site: Site,
     done: Progress,
     levels: u16,
-) -> Answer
+) -> Result<Progress, Refusal>
     ensures { past result marks.new
         ≡ record_f (suc levels) file.now rows.scopes rows.symbols site.place site.role site.scope.0 done.tally done.at marks.old }
 {
@@ -395,17 +386,14 @@ fn check_expression(
     let role = site.role;
     let scope = site.scope;
     let symbols = rows.symbols as usize;
-    let size = leaf_size(file, place, role, symbols, done.at);
-    if size != 0 {
-        let next = done.at + (size as usize);
-        let before = done.tally;
-        return Answer::Next(next, tally::add_leaf(before, size));
+    if let Some(size) = leaf_size(file, place, role, symbols, done.at) {
+        return Ok(Progress {
+            at: done.at + (size as usize),
+            tally: tally::add_leaf(done.tally, size),
+        });
     }
-    let read = enter_expression(file, marks, symbols, place, scope, done.at);
-    match read {
-        Reading::Whole(x) => check_entered(file, marks, rows, site, done.tally, levels, x),
-        Reading::Refused(c, p) => Answer::Refused(c, p),
-    }
+    let x = enter_expression(file, marks, symbols, place, scope, done.at)?;
+    check_entered(file, marks, rows, site, done.tally, levels, x)
 }
 
 // A child at its place: an expression, or a statement or a part of one. So many levels are left for its own children.
@@ -417,7 +405,7 @@ fn check_child(
     site: Site,
     done: Progress,
     levels: u16,
-) -> Answer
+) -> Result<Progress, Refusal>
     ensures { past result marks.new
         ≡ record_f (suc levels) file.now rows.scopes rows.symbols site.place site.role site.scope.0 done.tally done.at marks.old }
 {
@@ -437,7 +425,7 @@ fn check_children(
     site: Site,
     x: Field,
     levels: u16,
-) -> Answer
+) -> Result<Progress, Refusal>
     ensures { past result marks.new
         ≡ children_f levels file.now rows.scopes rows.symbols site.place site.role x site.scope.0 marks.old }
 {
@@ -448,61 +436,52 @@ fn check_children(
     let around = site.place;
     let role_around = site.role;
     let scope = site.scope;
-    let mut at = x.next;
-    let mut t = tally::no_tally();
-    let mut k: u16 = 0;
-    while k < n {
+    let mut done = Progress {
+        at: x.next,
+        tally: tally::no_tally(),
+    };
+    for k in 0..n {
         let place = rules::place_of(around, x, k);
         let role = tally::role_in(file, role_around, x, k);
         let here = Site { place, role, scope };
-        let done = Progress { at, tally: t };
-        let a = check_child(file, marks, rows, here, done, levels - 1);
-        let Answer::Next(next, sum) = a else {
-            return a;
-        };
-        at = next;
-        t = sum;
-        k += 1;
+        done = check_child(file, marks, rows, here, done, levels - 1)?;
     }
-    Answer::Next(at, t)
+    Ok(done)
 }
 
 // ---- the rows before the tree
 
 // Scope row k, counted from 0.
-fn read_scope(file: &[u8], k: usize, at: usize) -> Reading
+fn read_scope(file: &[u8], k: usize, at: usize) -> Result<Field, Refusal>
     ensures { result ≡ scope_at file.now k at }
 {
-    let read = fields::read_field(file, Place::ScopeRow, at);
-    let Reading::Whole(x) = read else {
-        return read;
-    };
+    let x = fields::read_field(file, Place::ScopeRow, at)?;
     if !rules::scope_right(k, x) {
-        return Reading::Refused(refusal::WRONG_NUMBER, at);
+        return Err(Refusal {
+            reason: Reason::WrongNumber,
+            place: at,
+        });
     }
-    read
+    Ok(x)
 }
 
-fn read_symbol(file: &[u8], scopes: usize, at: usize) -> Reading
+fn read_symbol(file: &[u8], scopes: usize, at: usize) -> Result<Field, Refusal>
     ensures { result ≡ symbol_at file.now scopes at }
 {
-    let read = fields::read_field(file, Place::SymbolRow, at);
-    let Reading::Whole(x) = read else {
-        return read;
-    };
+    let x = fields::read_field(file, Place::SymbolRow, at)?;
     if !rules::symbol_right(scopes, x) {
-        return Reading::Refused(refusal::WRONG_NUMBER, at);
+        return Err(Refusal {
+            reason: Reason::WrongNumber,
+            place: at,
+        });
     }
-    read
+    Ok(x)
 }
 
 fn more_scopes(file: &[u8], k: usize, at: usize) -> bool
     ensures { result ≡ (eqb k 0 || eqb (get_or file.now at 0) Tag.Scope) }
 {
-    if k == 0 {
-        return true;
-    }
-    fields::read_tag(file, at) == tag::SCOPE
+    k == 0 || fields::read_tag(file, at) == tag::SCOPE
 }
 
 fn more_symbols(file: &[u8], at: usize) -> bool
@@ -511,50 +490,38 @@ fn more_symbols(file: &[u8], at: usize) -> bool
     fields::read_tag(file, at) == tag::SYMBOL
 }
 
-pub fn read_scopes(file: &[u8], from: usize) -> Rows
+pub fn read_scopes(file: &[u8], from: usize) -> Result<Rows, Refusal>
     ensures { result ≡ read_scopes file.now from }
 {
-    let mut k: usize = 0;
     let mut at: usize = from;
-    while k < MOST_ROWS {
+    for k in 0..MOST_ROWS {
         if !more_scopes(file, k, at) {
-            return Rows::Read(k, at);
+            return Ok(Rows { count: k, next: at });
         }
-        let read = read_scope(file, k, at);
-        match read {
-            Reading::Whole(x) => {
-                at = x.next;
-                k += 1;
-            }
-            Reading::Refused(c, p) => {
-                return Rows::Refused(c, p);
-            }
-        }
+        let x = read_scope(file, k, at)?;
+        at = x.next;
     }
-    Rows::Read(k, at)
+    Ok(Rows {
+        count: MOST_ROWS,
+        next: at,
+    })
 }
 
-pub fn read_symbols(file: &[u8], scopes: usize, from: usize) -> Rows
+pub fn read_symbols(file: &[u8], scopes: usize, from: usize) -> Result<Rows, Refusal>
     ensures { result ≡ read_symbols file.now scopes from }
 {
-    let mut k: usize = 0;
     let mut at: usize = from;
-    while k < MOST_SYMBOLS {
+    for k in 0..MOST_SYMBOLS {
         if !more_symbols(file, at) {
-            return Rows::Read(k, at);
+            return Ok(Rows { count: k, next: at });
         }
-        let read = read_symbol(file, scopes, at);
-        match read {
-            Reading::Whole(x) => {
-                at = x.next;
-                k += 1;
-            }
-            Reading::Refused(c, p) => {
-                return Rows::Refused(c, p);
-            }
-        }
+        let x = read_symbol(file, scopes, at)?;
+        at = x.next;
     }
-    Rows::Read(k, at)
+    Ok(Rows {
+        count: MOST_SYMBOLS,
+        next: at,
+    })
 }
 
 // ---- the whole file
@@ -563,18 +530,21 @@ pub fn read_symbols(file: &[u8], scopes: usize, from: usize) -> Rows
 fn first_unnamed(marks: &[u8]) -> usize
     ensures { result ≡ unnamed marks.now }
 {
-    let mut i = 0;
-    while i < marks.len() {
+    for i in 0..marks.len() {
         if marks[i] == 0 {
             return i;
         }
-        i += 1;
     }
-    i
+    marks.len()
 }
 
 // Program and all in it, with all levels left.
-fn check_program(file: &[u8], marks: &mut [u8], rows: RowCounts, at: usize) -> Answer
+fn check_program(
+    file: &[u8],
+    marks: &mut [u8],
+    rows: RowCounts,
+    at: usize,
+) -> Result<Progress, Refusal>
     ensures { past result marks.new
         ≡ record_f 64 file.now rows.scopes rows.symbols ProgramPlace PlainRole 0 no_tally at marks.old }
 {
@@ -583,34 +553,39 @@ fn check_program(file: &[u8], marks: &mut [u8], rows: RowCounts, at: usize) -> A
     let scope = ScopeId(0);
     let tally = tally::no_tally();
     let site = Site { place, role, scope };
-    let read = enter_record(file, marks, rows.symbols as usize, place, scope, at);
-    match read {
-        Reading::Whole(x) => check_entered(file, marks, rows, site, tally, MOST_LEVELS - 1, x),
-        Reading::Refused(c, p) => Answer::Refused(c, p),
-    }
+    let x = enter_record(file, marks, rows.symbols as usize, place, scope, at)?;
+    check_entered(file, marks, rows, site, tally, MOST_LEVELS - 1, x)
 }
 
 // The tree, what stands behind it, and the lowest unnamed row.
-fn check_tree(file: &[u8], marks: &mut [u8], rows: RowCounts, at: usize) -> Answer
+fn check_tree(
+    file: &[u8],
+    marks: &mut [u8],
+    rows: RowCounts,
+    at: usize,
+) -> Result<Progress, Refusal>
     requires { length marks.old ≤ most_rows }
     ensures { result ≡ tree_f file.now rows.scopes rows.symbols at marks.old }
 {
-    let a = check_program(file, marks, rows, at);
-    let Answer::Next(next, t) = a else {
-        return a;
-    };
-    if next < file.len() {
-        return Answer::Refused(refusal::BYTES_BEHIND, next);
+    let end = check_program(file, marks, rows, at)?;
+    if end.at < file.len() {
+        return Err(Refusal {
+            reason: Reason::BytesBehind,
+            place: end.at,
+        });
     }
     let u = first_unnamed(marks);
     if u < marks.len() {
-        return Answer::Refused(refusal::WRONG_NUMBER, SETTINGS_BYTES + SCOPE_BYTES * u);
+        return Err(Refusal {
+            reason: Reason::WrongNumber,
+            place: SETTINGS_BYTES + SCOPE_BYTES * u,
+        });
     }
-    Answer::Next(next, t)
+    Ok(end)
 }
 
 // The same, with no row marked.
-fn check_unmarked(file: &[u8], rows: RowCounts, at: usize) -> Answer
+fn check_unmarked(file: &[u8], rows: RowCounts, at: usize) -> Result<Progress, Refusal>
     requires { rows.scopes ≤ most_rows }
     ensures { result ≡ tree_f file.now rows.scopes rows.symbols at (replicate rows.scopes 0) }
 {
@@ -626,12 +601,10 @@ fn count_fields(file: &[u8], counts: &mut [u16], tree: u16, records: u16)
     ensures { counts.new ≡ count_f file.now records tree counts.old }
 {
     let mut at = tree as usize;
-    let mut k: u16 = 0;
-    while k < records {
+    for k in 0..records {
         let x = fields::field_of(file, at as u32);
         mentions::add_record(counts, tables::closed_row(x.tag, x.a, x.b, x.c, 0));
         at = x.next;
-        k += 1;
     }
 }
 
@@ -640,15 +613,13 @@ fn first_wrong(file: &[u8], counts: &[u16], first: u16) -> usize
     requires { length counts.now ≤ most_symbols }
     ensures { result ≡ wrong_in file.now counts.now first }
 {
-    let mut k: usize = 0;
-    while k < counts.len() {
+    for k in 0..counts.len() {
         let at = (first as usize) + SYMBOL_BYTES * k;
         if fields::read_two(file, at + NUMBER_E) != counts[k] {
             return k;
         }
-        k += 1;
     }
-    k
+    counts.len()
 }
 
 // The same, once the records are counted.
@@ -673,163 +644,123 @@ fn wrong_row(file: &[u8], l: Layout) -> usize
 
 // ---- the answer
 
-// A number, or the largest that fits.
-fn capped(x: usize) -> u16
-    ensures { result ≡ min x 65535 }
-{
-    if x <= 65535 { x as u16 } else { 65535 }
-}
-
 // The layout with the records that were counted.
 fn with_records(l: Layout, records: u32) -> Layout
     ensures { result ≡ with_records l records }
 {
     Layout {
-        mode: l.mode,
-        esm: l.esm,
-        scopes: l.scopes,
-        symbols: l.symbols,
-        records: capped(records as usize),
-        first: l.first,
-        tree: l.tree,
+        records: records.min(MOST_BYTES as u32) as u16,
+        ..l
     }
 }
 
 // A file with a right tree: its counts are the last check.
-fn check_counts(file: &[u8], l: Layout, t: Tally) -> Whole
-    requires { l.symbols ≤ most_symbols }
-    ensures { result ≡ counted_f file.now l t }
+fn check_counts(file: &[u8], layout: Layout, tally: Tally) -> Result<Whole, Refusal>
+    requires { layout.symbols ≤ most_symbols }
+    ensures { result ≡ counted_f file.now layout tally }
 {
-    let wrong = wrong_row(file, l);
-    let symbols = l.symbols as usize;
-    if wrong < symbols {
-        return Whole::Refused(
-            refusal::WRONG_NUMBER,
-            (l.first as usize) + SYMBOL_BYTES * wrong,
-        );
+    let wrong = wrong_row(file, layout);
+    if wrong < (layout.symbols as usize) {
+        return Err(Refusal {
+            reason: Reason::WrongNumber,
+            place: (layout.first as usize) + SYMBOL_BYTES * wrong,
+        });
     }
-    Whole::Accepted(l, t)
-}
-
-// A whole file by the answer of its tree; the layout does not count records yet.
-fn run_answer(file: &[u8], l: Layout, a: Answer) -> Whole
-    requires { l.symbols ≤ most_symbols }
-    ensures { result ≡ run_answer file.now l a }
-{
-    match a {
-        Answer::Next(_, t) => check_counts(file, with_records(l, t.records), t),
-        Answer::Refused(c, p) => Whole::Refused(c, p),
-    }
+    Ok(Whole { layout, tally })
 }
 
 // The symbol rows from an offset on, and the tree, in a file with so many scope rows.
-fn check_symbols(file: &[u8], settings: Field, scopes: u16, first: usize) -> Whole
+fn check_symbols(file: &[u8], settings: Field, scopes: u16, first: usize) -> Result<Whole, Refusal>
     requires { scopes ≤ most_rows }
     ensures { result ≡ symbols_f file.now settings scopes first }
 {
-    match read_symbols(file, scopes as usize, first) {
-        Rows::Read(n, tree) => {
-            let rows = RowCounts {
-                scopes,
-                symbols: n as u16,
-            };
-            let l = Layout {
-                mode: settings.a,
-                esm: settings.b,
-                scopes,
-                symbols: rows.symbols,
-                records: 0,
-                first: capped(first),
-                tree: capped(tree),
-            };
-            run_answer(file, l, check_unmarked(file, rows, tree))
-        }
-        Rows::Refused(c, p) => Whole::Refused(c, p),
-    }
+    let symbol_rows = read_symbols(file, scopes as usize, first)?;
+    let rows = RowCounts {
+        scopes,
+        symbols: symbol_rows.count as u16,
+    };
+    let layout = Layout {
+        mode: settings.a,
+        esm: settings.b,
+        scopes,
+        symbols: rows.symbols,
+        records: 0,
+        first: first.min(MOST_BYTES) as u16,
+        tree: symbol_rows.next.min(MOST_BYTES) as u16,
+    };
+    let end = check_unmarked(file, rows, symbol_rows.next)?;
+    check_counts(file, with_records(layout, end.tally.records), end.tally)
 }
 
 // The rows behind the settings, and the tree.
-fn check_rows(file: &[u8], settings: Field) -> Whole
+fn check_rows(file: &[u8], settings: Field) -> Result<Whole, Refusal>
     ensures { result ≡ rows_f file.now settings }
 {
-    match read_scopes(file, settings.next) {
-        Rows::Read(n, at) => check_symbols(file, settings, n as u16, at),
-        Rows::Refused(c, p) => Whole::Refused(c, p),
-    }
+    let rows = read_scopes(file, settings.next)?;
+    check_symbols(file, settings, rows.count as u16, rows.next)
 }
 
 // The settings of a file, its rows and its tree.
-fn check_settings(file: &[u8], settings: Field) -> Whole
+fn check_settings(file: &[u8], settings: Field) -> Result<Whole, Refusal>
     ensures { result ≡ settings_f file.now settings }
 {
     if mode::INLINE < settings.a {
-        return Whole::Refused(refusal::WRONG_NUMBER, 0);
+        return Err(Refusal {
+            reason: Reason::WrongNumber,
+            place: 0,
+        });
     }
     if 1 < settings.b {
-        return Whole::Refused(refusal::WRONG_NUMBER, 0);
+        return Err(Refusal {
+            reason: Reason::WrongNumber,
+            place: 0,
+        });
     }
     check_rows(file, settings)
 }
 
 // Checks a whole file: its layout, and the tally of its tree.
-fn check_whole(file: &[u8]) -> Whole
+fn check_whole(file: &[u8]) -> Result<Whole, Refusal>
     ensures { result ≡ file_f file.now }
 {
     if MOST_BYTES < file.len() {
-        return Whole::Refused(refusal::TOO_LONG, MOST_BYTES);
+        return Err(Refusal {
+            reason: Reason::TooLong,
+            place: MOST_BYTES,
+        });
     }
-    match fields::read_field(file, Place::Settings, 0) {
-        Reading::Whole(s) => check_settings(file, s),
-        Reading::Refused(c, p) => Whole::Refused(c, p),
-    }
+    check_settings(file, fields::read_field(file, Place::Settings, 0)?)
 }
 
 // ---- public
 
 // Checks a tree file: fine, or 01's refusal with its place.
-pub fn check(file: &[u8]) -> Checked
+pub fn check(file: &[u8]) -> Result<(), Refusal>
     ensures { result ≡ checked_of (read_file file.now) }
 {
-    let r = check_whole(file);
-    match r {
-        Whole::Accepted(_, _) => Checked::Fine,
-        Whole::Refused(c, p) => Checked::Refused(c, p),
-    }
-}
-
-// The answer of a survey by that of the figures.
-fn with_figures(l: Layout, f: Figured) -> Surveyed
-    ensures { result ≡ with_figures l f }
-{
-    match f {
-        Figured::Fine(g) => Surveyed::Fine(l, g),
-        Figured::Refused(c, p) => Surveyed::Refused(c, p),
-    }
+    check_whole(file)?;
+    Ok(())
 }
 
 // The layout of a file and the figures of the lowered one, or 01's refusal with its place: those of reading, and 8.
-pub fn survey(file: &[u8]) -> Surveyed
+pub fn survey(file: &[u8]) -> Result<Surveyed, Refusal>
     ensures { result ≡ surveyed_of (check_file file.now) }
 {
-    let w = check_whole(file);
-    match w {
-        Whole::Accepted(l, t) => {
-            with_figures(
-                l,
-                figures::figures_of(l.mode, l.esm, l.scopes, l.symbols, t),
-            )
-        }
-        Whole::Refused(c, p) => Surveyed::Refused(c, p),
-    }
+    let whole = check_whole(file)?;
+    let layout = whole.layout;
+    let figures = figures::figures_of(
+        layout.mode,
+        layout.esm,
+        layout.scopes,
+        layout.symbols,
+        whole.tally,
+    )?;
+    Ok(Surveyed { layout, figures })
 }
 
 // The figures of the lowered file, from the source alone, or 01's refusal with its place: those of reading, and 8.
-pub fn figures(file: &[u8]) -> Figured
+pub fn figures(file: &[u8]) -> Result<FinalFigures, Refusal>
     ensures { result ≡ figured_of (figures_of file.now) }
 {
-    let s = survey(file);
-    match s {
-        Surveyed::Fine(_, g) => Figured::Fine(g),
-        Surveyed::Refused(c, p) => Figured::Refused(c, p),
-    }
+    Ok(survey(file)?.figures)
 }

@@ -1,11 +1,10 @@
 -- The scope rows and the tree that the tables show (02, request 14).
 -- Assumes nothing.
-use Rattle.std.specs.Prelude.{◌≡◌, List, ℕ}
+use Rattle.std.specs.Prelude.{Ok, ◌≡◌, List, ℕ}
 use Rattle.std.proofs.Common.{sym, ap, subst, ◌∙◌}
 use Rattle.meaning.specs.Tree.{Row}
 use Rattle.meaning.specs.File.{Scope, File}
 use Rattle.meaning.specs.Agreement.{ScopesAgree}
-use Rattle.meaning.specs.Reading.{accepted}
 use Rattle.meaning.specs.Walk.{Spot, start, tree_at, store_at}
 use Rattle.meaning.specs.ImportLine.{visit_calls}
 use Rattle.meaning.specs.Lowering.{admit}
@@ -18,7 +17,7 @@ use Rattle.readback_laws.proofs.Back.{tree_flat}
 use Rattle.agreement_laws.specs.Agreed.{calls_scopes_agree}
 use Rattle.claims.specs.Calls.{after_calls, calls_tree, calls_scopes}
 
-pub scopes_in_tables : (bytes r s y : List ℕ) (f : File) → admit bytes (lent_in r s y) ≡ accepted f → (k : ℕ)
+pub scopes_in_tables : (bytes r s y : List ℕ) (f : File) → admit bytes (lent_in r s y) ≡ Ok f → (k : ℕ)
     → let tables = after_calls k f r s y in ScopesAgree (scopes_in tables) (tree_of (records_in tables))
 scopes_in_tables bytes r s y f e k =
     let spot = visit_calls k (start f) in

@@ -1,13 +1,13 @@
 -- What the tables show after any number of calls for a visit, and what the written file shows.
 -- Assumes nothing.
-use Rattle.std.specs.Prelude.{◌≡◌, true, List, ◌++◌, ℕ, ◌+◌, ◌≤◌, eqb, leb, length}
+use Rattle.std.specs.Prelude.{Ok, ◌≡◌, true, List, ◌++◌, ℕ, ◌+◌, ◌≤◌, eqb, leb, length}
 use Rattle.std.proofs.Common.{sym, ◌∙◌}
 use Rattle.std.proofs.Math.Path.{ap}
 use native.Mathlib.Omega.{arith}
 use Rattle.meaning.specs.Numbers.Tag
 use Rattle.meaning.specs.Tree.{size, flatten}
 use Rattle.meaning.specs.File.{File, written}
-use Rattle.meaning.specs.Reading.{accepted, read_file}
+use Rattle.meaning.specs.Reading.{read_file}
 use Rattle.meaning.specs.Walk.{Spot, is_over, visits, start, tree_at, store_at, file_at}
 use Rattle.meaning.specs.ImportLine.{completed, visit_calls}
 use Rattle.meaning.specs.Charges.{Line, Figures, ◌⊕◌, total, figures_in, figures_at, walk_figures, import_lines, final_figures}
@@ -53,8 +53,8 @@ charges_of k f = total (joined (dues k (start f)) ++ import_dues (visits k (star
 abbrev pub import_charge : File → List Line
 import_charge f = import_lines f.mode f.is_module (walk_figures f)
 
-module _ (bytes r s y : List ℕ) (f : File) (e : admit bytes (lent_in r s y) ≡ accepted f) where
-  read : read_file bytes ≡ accepted f
+module _ (bytes r s y : List ℕ) (f : File) (e : admit bytes (lent_in r s y) ≡ Ok f) where
+  read : read_file bytes ≡ Ok f
   read = (admitted bytes r s y f e).0
 
   -- all charges together are the final figures

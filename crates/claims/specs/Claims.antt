@@ -15,14 +15,18 @@
 -- charges without the walk.
 -- A list of numbers stands for a lent slice; `lent_in r s y` are the rows of tables.
 -- Assumes nothing.
-use Rattle.std.specs.Prelude.{if◌then◌else◌, ◌≡◌, refl, true, false, ◌||◌, ◌&&◌, List, [], ◌++◌, map, ◌⊎◌, ℕ, suc, ◌+◌, ◌*◌, ◌/◌, ◌≤◌, ◌<◌, eqb, leb, length, take, get_or, set}
+use Rattle.figures.specs.declared.FinalFigures.{FinalFigures}
+use Rattle.meaning.specs.declared.Reason.{Reason}
+use Rattle.meaning.specs.Refusals.{Outcome, refused, number_of}
+use Rattle.meaning.specs.declared.Reason.TheVariants as Reason
+use Rattle.std.specs.Prelude.{Ok, if◌then◌else◌, ◌≡◌, refl, true, false, ◌||◌, ◌&&◌, List, [], ◌++◌, map, ◌⊎◌, ℕ, suc, ◌+◌, ◌*◌, ◌/◌, ◌≤◌, ◌<◌, eqb, leb, length, take, get_or, set}
 use Rattle.std.proofs.Common.{ap, ◌∙◌}
 use Rattle.std.proofs.Math.Logic.{⊎_map}
 use Rattle.meaning.specs.Numbers.Tag
 use Rattle.meaning.specs.Tree.{hd, Forest, none, more, one, size, flatten}
 use Rattle.meaning.specs.Mentions.{mentions}
 use Rattle.meaning.specs.File.{File, numbers_of, written}
-use Rattle.meaning.specs.Reading.{Outcome, accepted, refused, read_file}
+use Rattle.meaning.specs.Reading.{read_file}
 use Rattle.meaning.specs.Agreement.{ScopesAgree}
 use Rattle.meaning.specs.Renumbering.{renumbered}
 use Rattle.meaning.specs.Grammar.{module_line_right, right}
@@ -52,7 +56,6 @@ use Rattle.figures.specs.Figures.{shown_figures, figured_of}
 use Rattle.checking.specs.Flat.{checked_of}
 use Rattle.tables.specs.Loops.{turns}
 use Rattle.path.specs.Path.{Tables}
-use Rattle.start.specs.declared.Started.TheVariants.{Refused as NotStarted}
 use Rattle.start.specs.Start.{begun, lent_in, ready, start_of, start_f}
 use Rattle.start.specs.Filled.{admitted}
 use Rattle.scoping.specs.Changes.{in_symbols}
@@ -83,8 +86,6 @@ use Rattle.claims.specs.Letters.{ButLetters, letters_alone}
 use Rattle.claims.specs.Depth.{read_deep, depth_first, read_before, Changed, depth_is_first, answer_changed, still_accepted, once_accepted}
 use Rattle.claims.specs.Refusals.Numbers.{read_numbers, figures_numbers_lem, admit_numbers, lower_numbers}
 use Rattle.claims.specs.Refusals.Small.{Enough, lower_total, short_output_lem, enough_output}
-use Rattle.lowering.specs.declared.Lowered.{Lowered}
-use Rattle.lowering.specs.declared.Lowered.TheVariants.{Written as WrittenIn, Refused}
 use Rattle.lowering.specs.Lower.{finished, zeros_for, written_over, lower_of, lower_f}
 use Rattle.desk_numbers.specs.Answers.{checked_numbers, figured_numbers, started_numbers, outcome_numbers, plain_numbers, checked_numbers_lem, figured_numbers_lem, started_numbers_lem}
 use Rattle.lowering.specs.Answers.{lowered_numbers, lowered_numbers_lem}
@@ -99,32 +100,32 @@ use Rattle.claims.specs.Calls.{first_tables, after_calls, charges_of, import_cha
 
 -- Check refuses with the numbers 1 to 7, figures up to 8, start up to 9, and lower up to 10. Which number and which place, `read_file`,
 -- `figures_of`, `admit` and `lower` say: their steps are 01's checks in 01's order.
-pub check_refusals : (bytes : List ℕ) (c p : ℕ) → read_file bytes ≡ refused c p → (1 ≤ c) × (c ≤ 7)
+pub check_refusals : (bytes : List ℕ) (c : Reason) (p : ℕ) → read_file bytes ≡ refused c p → (1 ≤ number_of c) × (number_of c ≤ 7)
 check_refusals = read_numbers
 
-pub figures_refusals : (bytes : List ℕ) (c p : ℕ) → figures_of bytes ≡ refused c p → (1 ≤ c) × (c ≤ 8)
+pub figures_refusals : (bytes : List ℕ) (c : Reason) (p : ℕ) → figures_of bytes ≡ refused c p → (1 ≤ number_of c) × (number_of c ≤ 8)
 figures_refusals = figures_numbers_lem
 
-pub start_refusals : (bytes : List ℕ) (lent : Lent) (c p : ℕ) → admit bytes lent ≡ refused c p → (1 ≤ c) × (c ≤ 9)
+pub start_refusals : (bytes : List ℕ) (lent : Lent) (c : Reason) (p : ℕ) → admit bytes lent ≡ refused c p → (1 ≤ number_of c) × (number_of c ≤ 9)
 start_refusals = admit_numbers
 
-pub lower_refusals : (bytes : List ℕ) (lent : Lent) (out c p : ℕ) → lower bytes lent out ≡ refused c p → (1 ≤ c) × (c ≤ 10)
+pub lower_refusals : (bytes : List ℕ) (lent : Lent) (out : ℕ) (c : Reason) (p : ℕ) → lower bytes lent out ≡ refused c p → (1 ≤ number_of c) × (number_of c ≤ 10)
 lower_refusals = lower_numbers
 
 -- A file that is admitted, with an output too short for the file to write, is refused with 10 at the output's length.
-pub output_refusal : (bytes : List ℕ) (lent : Lent) (out : ℕ) (f : File) → admit bytes lent ≡ accepted f → out < (final_figures f).bytes
-    → lower bytes lent out ≡ refused 10 out
+pub output_refusal : (bytes : List ℕ) (lent : Lent) (out : ℕ) (f : File) → admit bytes lent ≡ Ok f → out < (final_figures f).bytes
+    → lower bytes lent out ≡ refused Reason.ShortOutput out
 output_refusal = short_output_lem
 
 -- A refused lowering answers that number and place, and every lent slice keeps its contents;
-pub refused_keeps : (bytes r s y o : List ℕ) (c p : ℕ) → lower bytes (lent_in r s y) (length o) ≡ refused c p
-    → lower_f bytes r s y o ≡ finished (Refused c p) r s y o
+pub refused_keeps : (bytes r s y o : List ℕ) (c : Reason) (p : ℕ) → lower bytes (lent_in r s y) (length o) ≡ refused c p
+    → lower_f bytes r s y o ≡ finished (refused c p) r s y o
 unfolding lower_f
 refused_keeps bytes r s y o c p e = ap (λ (a : Outcome Written). lower_of a r s y o) e
 
 -- and so does a refused start.
-pub refused_start_keeps : (bytes r s y : List ℕ) (c p : ℕ) → admit bytes (lent_in r s y) ≡ refused c p
-    → start_f bytes r s y ≡ begun (NotStarted c p) r s y
+pub refused_start_keeps : (bytes r s y : List ℕ) (c : Reason) (p : ℕ) → admit bytes (lent_in r s y) ≡ refused c p
+    → start_f bytes r s y ≡ begun (refused c p) r s y
 unfolding start_f
 refused_start_keeps bytes r s y c p e = ap (λ (a : Outcome File). start_of a r s y) e
 
@@ -132,11 +133,11 @@ refused_start_keeps bytes r s y c p e = ap (λ (a : Outcome File). start_of a r 
 -- does not misbehave is part of each function's proof.
 pub always_answered : (bytes r s y o : List ℕ)
     → let answer = (lower_f bytes r s y o).answer in
-    ((f : File) × (admit bytes (lent_in r s y) ≡ accepted f) × (answer ≡ WrittenIn (shown_figures (final_figures f))))
-    ⊎ ((c : ℕ) × (p : ℕ) × (1 ≤ c) × (c ≤ 10) × (answer ≡ Refused c p))
+    ((f : File) × (admit bytes (lent_in r s y) ≡ Ok f) × (answer ≡ Ok (shown_figures (final_figures f))))
+    ⊎ ((c : Reason) × (p : ℕ) × (1 ≤ number_of c) × (number_of c ≤ 10) × (answer ≡ refused c p))
 unfolding lower_f
 always_answered bytes r s y o =
-    let answered : Outcome Written → Lowered = λ a. (lower_of a r s y o).answer in
+    let answered : Outcome Written → Outcome FinalFigures = λ a. (lower_of a r s y o).answer in
     ⊎_map
     (λ (f, e, long, w). (f, e, ap answered w))
     (λ (c, p, e). let n = lower_numbers bytes (lent_in r s y) (length o) c p e in (c, p, n.0, n.1, ap answered e))
@@ -162,7 +163,7 @@ lower_answers bytes r s y o = lowered_numbers_lem (lower bytes (lent_in r s y) (
 
 -- Reading and writing are inverse: an accepted file is, byte for byte, what writing makes of what was read. Each byte is at most 255, as in
 -- every `&[u8]`.
-pub read_written : (bytes : List ℕ) (f : File) → Bytes bytes → read_file bytes ≡ accepted f → written f ≡ bytes
+pub read_written : (bytes : List ℕ) (f : File) → Bytes bytes → read_file bytes ≡ Ok f → written f ≡ bytes
 read_written = file_written
 
 -- 01's proved cases, and more, as a table: each file gets the answer written beside it.
@@ -171,9 +172,9 @@ cases_hold = table_holds
 
 -- An accepted lowering writes the file that the call of the walk's last visit leaves, its scopes numbered in tree order (`lowered_file`), answers its
 -- figures and length, leaves the tables all 0, and the output behind the file as it was.
-pub lowering_is_01 : (bytes r s y o : List ℕ) (f : File) → admit bytes (lent_in r s y) ≡ accepted f → (final_figures f).bytes ≤ length o
+pub lowering_is_01 : (bytes r s y o : List ℕ) (f : File) → admit bytes (lent_in r s y) ≡ Ok f → (final_figures f).bytes ≤ length o
     → lower_f bytes r s y o
-    ≡ finished (WrittenIn (shown_figures (final_figures f))) (zeros_for r) (zeros_for s) (zeros_for y)
+    ≡ finished (Ok (shown_figures (final_figures f))) (zeros_for r) (zeros_for s) (zeros_for y)
     (written_over (written (lowered_file f)) o)
 unfolding lower_f
 lowering_is_01 bytes r s y o f e h =
@@ -187,7 +188,7 @@ lowering_is_01 bytes r s y o f e h =
 -- the same text count alike. `given` counts every Call that is an initializer through a context that
 -- lowering made (its symbol is behind those read), so lowering wraps no initializer that the source does not ask for, under a made name
 -- (`_default`) either.
-pub hints : (w : List ℕ → List ℕ → ℕ → ℕ) (bytes r s y : List ℕ) (f : File) → Bytes bytes → admit bytes (lent_in r s y) ≡ accepted f
+pub hints : (w : List ℕ → List ℕ → ℕ → ℕ) (bytes r s y : List ℕ) (f : File) → Bytes bytes → admit bytes (lent_in r s y) ≡ Ok f
     → let read = length f.symbols in
     given w read (tree_in (written (lowered_file f))) ≡ asked w f.tree
 unfolding file_at
@@ -228,7 +229,7 @@ pub record Demand3 (bytes r s y : List ℕ) (f : File) (k : ℕ) : Type 0 where
   pub over_stays : is_over_in (after_calls k f r s y) ≡ true → visit_call_f (after_calls k f r s y) ≡ after_calls k f r s y
   -- an accepted lowering writes what the last visit's call leaves, its scopes numbered in tree order, and answers the final figures
   pub writes : (out : ℕ) → (final_figures f).bytes ≤ out
-      → lower bytes (lent_in r s y) out ≡ accepted (record { file = written (lowered_file f); figures = final_figures f })
+      → lower bytes (lent_in r s y) out ≡ Ok (record { file = written (lowered_file f); figures = final_figures f })
   -- the written file shows them: reading its fields back counts them, and its length is the answer's
   pub records_shown : field_count is_record (fields_of (written (lowered_file f))) ≡ (final_figures f).records
   pub scopes_shown : field_count (λ t. eqb t Tag.Scope) (fields_of (written (lowered_file f))) ≡ (final_figures f).scopes
@@ -239,7 +240,7 @@ pub record Demand3 (bytes r s y : List ℕ) (f : File) (k : ℕ) : Type 0 where
   pub loads_shown : field_count is_load (fields_of (written (lowered_file f))) ≡ field_count is_load (fields_of bytes) + (final_figures f).contexts
 
 -- DEMAND 3. Each byte is at most 255, as in every `&[u8]`.
-pub demand_3 : (bytes r s y : List ℕ) (f : File) → Bytes bytes → admit bytes (lent_in r s y) ≡ accepted f → (k : ℕ) → Demand3 bytes r s y f k
+pub demand_3 : (bytes r s y : List ℕ) (f : File) → Bytes bytes → admit bytes (lent_in r s y) ≡ Ok f → (k : ℕ) → Demand3 bytes r s y f k
 unfolding start_f
 demand_3 bytes r s y f b e k =
     let read = (admitted bytes r s y f e).0 in
@@ -288,14 +289,14 @@ walk_kept = numbers_kept
 
 -- so demand 3 holds of calls of `desk_visit` too: after `desk_start` and k + 1 of them, each handed what the one before left, the tables and the
 -- walk's numbers are those of as many calls of `visit_call`, and the last one has answered 1 if 01's walk is over, and else 0.
-pub desk_visits : (bytes r s y : List ℕ) (f : File) → admit bytes (lent_in r s y) ≡ accepted f → (old : List ℕ) (k : ℕ)
+pub desk_visits : (bytes r s y : List ℕ) (f : File) → admit bytes (lent_in r s y) ≡ Ok f → (old : List ℕ) (k : ℕ)
     → desk_calls (suc k) (begun_numbers old (start_f bytes r s y)) ≡ in_numbers (is_over (visit_calls (suc k) (start f))) (after_calls (suc k) f r s y)
 desk_visits = desk_calls_lem
 
 -- ---- REQUEST 1 of document 02: the import line (when it stands, and that it stands once: proofs/Claims.antt)
 
 -- A lowering that is accepted writes it: in the tree that the written bytes say, it is Program's first child.
-pub import_written : (bytes r s y : List ℕ) (f : File) → Bytes bytes → admit bytes (lent_in r s y) ≡ accepted f → imports f ≡ true
+pub import_written : (bytes r s y : List ℕ) (f : File) → Bytes bytes → admit bytes (lent_in r s y) ≡ Ok f → imports f ≡ true
     → (items : Forest) × (helper : ℕ)
     × (tree_in (written (lowered_file f))
     ≡ one (hd Tag.Program 1 0 0) (more (hd Tag.ModuleLine 4 0 0) (one (hd Tag.Specifier helper 3 0) none) items))
@@ -314,7 +315,7 @@ unfolding right module_line_right
 import_rule p syms a b c d next = refl
 
 -- So in every accepted file a line of form 4 has exactly one child.
-pub import_read : (bytes : List ℕ) (f : File) → read_file bytes ≡ accepted f → LinesRead f.tree
+pub import_read : (bytes : List ℕ) (f : File) → read_file bytes ≡ Ok f → LinesRead f.tree
 import_read = accepted_lines
 
 -- `helper_load` tells whether its load is the first of the walk: it equals `helper_load_f`, and that tells so just if no context was made before
@@ -359,7 +360,7 @@ depth_first_lem = record { deep = depth_is_first; changed = answer_changed }
 
 -- What was accepted still is, as the same file, and nothing else is.
 pub depth_accepts : (bytes : List ℕ) (f : File)
-    → (read_before bytes ≡ accepted f → read_file bytes ≡ accepted f) × (read_file bytes ≡ accepted f → read_before bytes ≡ accepted f)
+    → (read_before bytes ≡ Ok f → read_file bytes ≡ Ok f) × (read_file bytes ≡ Ok f → read_before bytes ≡ Ok f)
 depth_accepts bytes f = (still_accepted bytes (answer_changed bytes), once_accepted bytes (answer_changed bytes))
 
 -- The cases as a table: at level 65 a wrong tag, length and number, a cut payload, three bytes that are no head, a cut head, no bytes.
@@ -370,32 +371,32 @@ depth_cases_hold = depth_holds
 
 -- After any number of calls, the import line's among them, the tables show for each symbol row how often the records of the tree name it
 -- (`mentions`); start's tables are those after 0 calls.
-pub counts_true : (bytes r s y : List ℕ) (f : File) → admit bytes (lent_in r s y) ≡ accepted f → (k : ℕ)
+pub counts_true : (bytes r s y : List ℕ) (f : File) → admit bytes (lent_in r s y) ≡ Ok f → (k : ℕ)
     → TrueCounts (λ k f. counts_in (after_calls k f r s y)) f k
 counts_true = counts_in_tables
 
 -- Each of these counts fits 16 bits.
-pub counts_fit : (bytes : List ℕ) (f : File) (k y : ℕ) → read_file bytes ≡ accepted f → 1 ≤ y → mentions y (tree_at (visit_calls k (start f))) ≤ 65535
+pub counts_fit : (bytes : List ℕ) (f : File) (k y : ℕ) → read_file bytes ≡ Ok f → 1 ≤ y → mentions y (tree_at (visit_calls k (start f))) ≤ 65535
 counts_fit = calls_mentions_fit
 
 -- A lowering that is accepted writes them: in the written bytes the fifth number of each symbol row is how often the records in these bytes name it,
 -- for a reader who counts field by field (`mentions_in`).
-pub counts_written : (bytes r s y : List ℕ) (f : File) → admit bytes (lent_in r s y) ≡ accepted f → Bytes bytes
+pub counts_written : (bytes r s y : List ℕ) (f : File) → admit bytes (lent_in r s y) ≡ Ok f → Bytes bytes
     → TrueInBytes (written (lowered_file f))
 counts_written = counts_in_bytes
 
 -- THE NEW REFUSAL EXACTLY, said of any reader. `read_uncounted` makes all checks of reading but the one of counts.
 pub record CountsChecked (read : List ℕ → Outcome File) : Type 0 where
   -- what it refuses is refused as before
-  pub before : (bytes : List ℕ) (c p : ℕ) → read_uncounted bytes ≡ refused c p → read bytes ≡ refused c p
+  pub before : (bytes : List ℕ) (c : Reason) (p : ℕ) → read_uncounted bytes ≡ refused c p → read bytes ≡ refused c p
   -- what it accepts is accepted where every count is right,
-  pub right : (bytes : List ℕ) (f : File) → read_uncounted bytes ≡ accepted f → CountsRight bytes f → read bytes ≡ accepted f
+  pub right : (bytes : List ℕ) (f : File) → read_uncounted bytes ≡ Ok f → CountsRight bytes f → read bytes ≡ Ok f
   -- and else refused with 5 at the lowest row with a wrong one
-  pub wrong : (bytes : List ℕ) (f : File) (y : ℕ) → read_uncounted bytes ≡ accepted f → LowestWrong bytes f y
-      → read bytes ≡ refused 5 (symbol_offset f y)
+  pub wrong : (bytes : List ℕ) (f : File) (y : ℕ) → read_uncounted bytes ≡ Ok f → LowestWrong bytes f y
+      → read bytes ≡ refused Reason.WrongNumber (symbol_offset f y)
   -- so an accepted file has right counts, and a file that is refused for its counts alone has a lowest wrong one
-  pub accepts : (bytes : List ℕ) (f : File) → read bytes ≡ accepted f → (read_uncounted bytes ≡ accepted f) × CountsRight bytes f
-  pub refuses : (bytes : List ℕ) (f : File) (c p : ℕ) → read_uncounted bytes ≡ accepted f → read bytes ≡ refused c p → CountRefused bytes f c p
+  pub accepts : (bytes : List ℕ) (f : File) → read bytes ≡ Ok f → (read_uncounted bytes ≡ Ok f) × CountsRight bytes f
+  pub refuses : (bytes : List ℕ) (f : File) (c : Reason) (p : ℕ) → read_uncounted bytes ≡ Ok f → read bytes ≡ refused c p → CountRefused bytes f c p
 
 pub count_refusal : CountsChecked read_file
 count_refusal =
@@ -425,11 +426,11 @@ written_scopes_agree = agrees_in_bytes
 
 -- What is written is what the last call leaves, with new numbers for the scopes (`lowered_file`, `renumbered`). The k-th scope that the
 -- tree names gets k, and they are one to one: each row of what is left gets the number of a row, and no two get the same.
-pub renumbering_one_to_one : (bytes : List ℕ) (f : File) → read_file bytes ≡ accepted f → OneToOne (file_at (final_spot f))
+pub renumbering_one_to_one : (bytes : List ℕ) (f : File) → read_file bytes ≡ Ok f → OneToOne (file_at (final_spot f))
 renumbering_one_to_one = final_one_to_one
 
 -- Numbered once more, the file stays as it is; so a second lowering leaves the numbers, too (`lowers_to_itself`).
-pub numbered_stays : (bytes : List ℕ) (f : File) → read_file bytes ≡ accepted f → renumbered (lowered_file f) ≡ lowered_file f
+pub numbered_stays : (bytes : List ℕ) (f : File) → read_file bytes ≡ Ok f → renumbered (lowered_file f) ≡ lowered_file f
 numbered_stays = numbered_once
 
 -- The cases as a table: rows in other orders with and without a lowering, in every mode, for each tag that names a scope, and with rows and bytes
@@ -447,8 +448,8 @@ pub one_word : GrowsLittle figures_of
 one_word = grows_little
 
 -- The change is one byte of an accepted file, and gives a file that reading accepts.
-pub one_word_read : (bytes : List ℕ) (f f' : File) (d : Forest) → read_file bytes ≡ accepted f → OneWord d f f'
-    → (at : ℕ) × (kind : ℕ) × (read_file (set bytes at kind) ≡ accepted f')
+pub one_word_read : (bytes : List ℕ) (f f' : File) (d : Forest) → read_file bytes ≡ Ok f → OneWord d f f'
+    → (at : ℕ) × (kind : ℕ) × (read_file (set bytes at kind) ≡ Ok f')
 one_word_read bytes f f' d read word = word_read d f f' bytes word read
 
 -- The bounds are reached: 12, 4, 3 and 2 all at once, by a Declaration with 1 initializer in a Body of a runtime module; and the least, 1 record more,
@@ -462,13 +463,13 @@ one_word_least = least_reached
 -- THE ROOM TO LEND. Lent so much more than the figures g of a file say (`with_room n g`: n + 14 record rows, 4 scope rows, 3 symbol rows, and
 -- 9 * n + 173 bytes of output), lowering accepts the file after any one such change of a Declaration with at most n initializers.
 pub room_for_one_word : (bytes bytes' r s y o : List ℕ) (f f' : File) (d : Forest) (g : Figures) (n : ℕ) → WordPair bytes bytes' f f' d
-    → figures_of bytes ≡ accepted g → initializers d ≤ n → Enough (lent_in r s y) (with_room n g) → (with_room n g).bytes ≤ length o
+    → figures_of bytes ≡ Ok g → initializers d ≤ n → Enough (lent_in r s y) (with_room n g) → (with_room n g).bytes ≤ length o
     → LowersTo bytes' f' r s y o
 room_for_one_word bytes bytes' r s y o f f' d g n p answer = room_enough bytes bytes' f f' d p g answer r s y o n
 
 -- With n half of the records, it accepts the file after any one such change at all.
 pub room_for_any_word : (bytes bytes' r s y o : List ℕ) (f f' : File) (d : Forest) (g : Figures) → WordPair bytes bytes' f f' d
-    → figures_of bytes ≡ accepted g → Enough (lent_in r s y) (with_room (g.records / 2) g) → (with_room (g.records / 2) g).bytes ≤ length o
+    → figures_of bytes ≡ Ok g → Enough (lent_in r s y) (with_room (g.records / 2) g) → (with_room (g.records / 2) g).bytes ≤ length o
     → LowersTo bytes' f' r s y o
 room_for_any_word bytes bytes' r s y o f f' d g p answer =
     room_enough bytes bytes' f f' d p g answer r s y o (g.records / 2) (half_enough bytes bytes' f f' d p g answer)
@@ -476,8 +477,8 @@ room_for_any_word bytes bytes' r s y o f f' d g p answer =
 -- The cases as a table: for each kind of list the figures with const and with the word changed; a list with a using, a body of a ForOf that takes its
 -- using and one that does not, no initializer, and Program's own list, where they grow by more.
 pub word_cases_hold
-    : (map (λ c. figures_of c.before) word_table ≡ map (λ c. accepted c.said) word_table)
-    × (map (λ c. figures_of c.after) word_table ≡ map (λ c. accepted (c.said ⊕ c.growth)) word_table)
+    : (map (λ c. figures_of c.before) word_table ≡ map (λ c. Ok c.said) word_table)
+    × (map (λ c. figures_of c.after) word_table ≡ map (λ c. Ok (c.said ⊕ c.growth)) word_table)
 word_cases_hold = words_hold
 
 -- ---- REQUEST 14 of document 02: lowering twice, and scope rows that agree with the tree
@@ -485,10 +486,10 @@ word_cases_hold = words_hold
 -- After any number of calls, the import line's among them, the scope rows and the tree that the tables show agree as 01 asks of a file
 -- (`ScopesAgree`): each row is named once, Program's is the first, and the parent of a row is the scope around the record that names it. Start's
 -- tables are those after 0 calls.
-pub scopes_agree : (bytes r s y : List ℕ) (f : File) → admit bytes (lent_in r s y) ≡ accepted f → (k : ℕ)
+pub scopes_agree : (bytes r s y : List ℕ) (f : File) → admit bytes (lent_in r s y) ≡ Ok f → (k : ℕ)
     → let tables = after_calls k f r s y in ScopesAgree (scopes_in tables) (tree_of (records_in tables))
 scopes_agree = scopes_in_tables
 
 -- So they do in every file that reading accepts.
-pub read_scopes_agree : (bytes : List ℕ) (f : File) → read_file bytes ≡ accepted f → ScopesAgree f.scopes f.tree
+pub read_scopes_agree : (bytes : List ℕ) (f : File) → read_file bytes ≡ Ok f → ScopesAgree f.scopes f.tree
 read_scopes_agree = read_agrees

@@ -1,11 +1,11 @@
 -- How often symbols are named, in the tables and in the written bytes (02, request 7).
 -- Assumes nothing.
-use Rattle.std.specs.Prelude.{◌≡◌, List, ℕ, ◌-◌, ◌≤◌, eqb, length}
+use Rattle.std.specs.Prelude.{Ok, ◌≡◌, List, ℕ, ◌-◌, ◌≤◌, eqb, length}
 use Rattle.std.proofs.Common.{ap, ◌∙◌, arith}
 use Rattle.meaning.specs.Numbers.Tag
 use Rattle.meaning.specs.Mentions.{mentions}
 use Rattle.meaning.specs.File.{File, written}
-use Rattle.meaning.specs.Reading.{accepted, read_file}
+use Rattle.meaning.specs.Reading.{read_file}
 use Rattle.meaning.specs.Walk.{Spot, visits, start, tree_at, store_at}
 use Rattle.meaning.specs.ImportLine.{completed, visit_calls}
 use Rattle.meaning.specs.Charges.{final_figures}
@@ -45,8 +45,8 @@ TrueInBytes bytes =
 
 -- ---- the tables
 
-module _ (bytes r s y : List ℕ) (f : File) (e : admit bytes (lent_in r s y) ≡ accepted f) where
-  read : read_file bytes ≡ accepted f
+module _ (bytes r s y : List ℕ) (f : File) (e : admit bytes (lent_in r s y) ≡ Ok f) where
+  read : read_file bytes ≡ Ok f
   read = (admitted bytes r s y f e).0
 
   module _ (k : ℕ) where
@@ -75,6 +75,6 @@ module _ (bytes r s y : List ℕ) (f : File) (e : admit bytes (lent_in r s y) �
 
 -- ---- 16 bits
 
-pub calls_mentions_fit : (bytes : List ℕ) (f : File) (k y : ℕ) → read_file bytes ≡ accepted f → 1 ≤ y
+pub calls_mentions_fit : (bytes : List ℕ) (f : File) (k y : ℕ) → read_file bytes ≡ Ok f → 1 ≤ y
     → mentions y (tree_at (visit_calls k (start f))) ≤ 65535
 calls_mentions_fit bytes f k y e l = rw (calls_are k f) (mentions_fit bytes f k y e l)

@@ -1,10 +1,10 @@
 -- The calls for C, one after another.
 -- Assumes nothing.
-use Rattle.std.specs.Prelude.{◌≡◌, refl, Bool, cond, List, ℕ, zero, suc}
+use Rattle.meaning.specs.Refusals.{Outcome}
+use Rattle.std.specs.Prelude.{Ok, ◌≡◌, refl, Bool, cond, List, ℕ, zero, suc}
 use Rattle.std.proofs.Math.Path.{ap}
 use Rattle.std.proofs.Common.{◌∙◌}
 use Rattle.meaning.specs.File.{File}
-use Rattle.meaning.specs.Reading.{Outcome, accepted}
 use Rattle.meaning.specs.Walk.{is_over, start}
 use Rattle.meaning.specs.ImportLine.{visit_calls}
 use Rattle.meaning.specs.Lowering.{admit}
@@ -39,8 +39,8 @@ unfolding turns
 more_calls zero t = refl
 more_calls (suc k) t = ap (turns k desk_visit) (one_call 0 t) ∙ more_calls k (visit_call_f t)
 
-module _ (bytes r s y : List ℕ) (f : File) (e : admit bytes (lent_in r s y) ≡ accepted f) (old : List ℕ) where
-  begun_is : begun_numbers old (start_f bytes r s y) ≡ begun_numbers old (start_of (accepted f) r s y)
+module _ (bytes r s y : List ℕ) (f : File) (e : admit bytes (lent_in r s y) ≡ Ok f) (old : List ℕ) where
+  begun_is : begun_numbers old (start_f bytes r s y) ≡ begun_numbers old (start_of (Ok f) r s y)
   unfolding start_f
   begun_is = ap (λ (a : Outcome File). begun_numbers old (start_of a r s y)) e
 

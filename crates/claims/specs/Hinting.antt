@@ -1,6 +1,6 @@
 -- What a lowered tree calls is what its source asks for.
 -- Assumes nothing.
-use Rattle.std.specs.Prelude.{if◌then◌else◌, ◌≡◌, Bool, true, false, ◌&&◌, List, ℕ, ◌+◌, ◌*◌, eqb, length}
+use Rattle.std.specs.Prelude.{Ok, if◌then◌else◌, ◌≡◌, Bool, true, false, ◌&&◌, List, ℕ, ◌+◌, ◌*◌, eqb, length}
 use Rattle.std.proofs.Math.Path.{refl}
 use Rattle.std.proofs.Common.{sym, ap, ◌∙◌}
 use Rattle.std.proofs.Math.Bool.{not}
@@ -8,7 +8,7 @@ use native.Mathlib.Omega.{arith}
 use Rattle.meaning.specs.Numbers.Tag
 use Rattle.meaning.specs.Tree.{Head, Forest, none, more, ◌&◌}
 use Rattle.meaning.specs.File.{File}
-use Rattle.meaning.specs.Reading.{accepted, read_file}
+use Rattle.meaning.specs.Reading.{read_file}
 use Rattle.meaning.specs.Statements.{is_using}
 use Rattle.meaning.specs.Walk.{Spot, is_over, tree_at, store_at}
 use Rattle.meaning.specs.ImportLine.{with_import, completed}
@@ -79,7 +79,7 @@ module _ (w : List ℕ → List ℕ → ℕ → ℕ) (read : ℕ) where
 
 -- ---- the two agree
 
-module _ (w : List ℕ → List ℕ → ℕ → ℕ) (b : List ℕ) (f : File) (e : read_file b ≡ accepted f) where
+module _ (w : List ℕ → List ℕ → ℕ → ℕ) (b : List ℕ) (f : File) (e : read_file b ≡ Ok f) where
   abbrev read : ℕ
   read = length f.symbols
 

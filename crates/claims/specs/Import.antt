@@ -1,6 +1,6 @@
 -- The import line (02, request 1): when it stands, what it is, that it stands once; and the lines of its form that were read.
 -- Assumes nothing.
-use Rattle.std.specs.Prelude.{if◌then◌else◌, ◌≡◌, Bool, ◌||◌, ◌&&◌, List, ℕ, zero, suc, ◌*◌, ◌≤◌, leb, length}
+use Rattle.std.specs.Prelude.{Ok, if◌then◌else◌, ◌≡◌, Bool, ◌||◌, ◌&&◌, List, ℕ, zero, suc, ◌*◌, ◌≤◌, leb, length}
 use Rattle.std.proofs.Math.Path.{refl, sym, ap, subst}
 use Rattle.std.proofs.Common.{ap₂, ◌∙◌, arith, ne_eqb}
 use Rattle.std.proofs.Math.Bool.{true, false, not}
@@ -17,7 +17,7 @@ use Rattle.meaning.specs.Grammar.{module_line_right, right, children_of, place_o
 use Rattle.meaning.specs.declared.Place.{Place}
 use Rattle.meaning.specs.declared.Place.TheVariants.{Program}
 use Rattle.meaning.specs.declared.Field.{Field}
-use Rattle.meaning.specs.Reading.{accepted, read_file}
+use Rattle.meaning.specs.Reading.{read_file}
 use Rattle.meaning.specs.HelperLoader.{is_first}
 use Rattle.meaning.specs.Statements.{make_context}
 use Rattle.meaning.specs.Program.{
@@ -110,7 +110,7 @@ completed_tree (over tree st) o e = rw e
 completed_tree (at d h k r p st) o e = absurd (clash refl o)
 completed_tree (leaving k h d r p st) o e = absurd (clash refl o)
 
-module _ (b : List ℕ) (f : File) (k : ℕ) (e : read_file b ≡ accepted f) where
+module _ (b : List ℕ) (f : File) (k : ℕ) (e : read_file b ≡ Ok f) where
   abbrev spot : Spot
   spot = visits k (start f)
 
@@ -189,11 +189,11 @@ module _ (b : List ℕ) (f : File) (k : ℕ) (e : read_file b ≡ accepted f) wh
 
 -- ---- in the written bytes
 
-module _ (bytes r s y : List ℕ) (f : File) (b : Bytes bytes) (e : admit bytes (lent_in r s y) ≡ accepted f) where
+module _ (bytes r s y : List ℕ) (f : File) (b : Bytes bytes) (e : admit bytes (lent_in r s y) ≡ Ok f) where
   abbrev n : ℕ
   n = 2 * (final_figures f).records
 
-  read : read_file bytes ≡ accepted f
+  read : read_file bytes ≡ Ok f
   read = (admitted bytes r s y f e).0
 
   ended : is_over (visits n (start f)) ≡ true
@@ -260,7 +260,7 @@ placed_lines syms (more h k r) place i q = (
 )
 
 -- EVERY LINE OF AN ACCEPTED FILE is such a line.
-pub accepted_lines : (b : List ℕ) (f : File) → read_file b ≡ accepted f → LinesRead f.tree
+pub accepted_lines : (b : List ℕ) (f : File) → read_file b ≡ Ok f → LinesRead f.tree
 accepted_lines b f e = let q = accepted_placed b f e in placed_lines q.0 f.tree (λ _. Program) 0 q.1
 
 -- those that stand directly in a list

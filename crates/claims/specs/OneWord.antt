@@ -1,6 +1,7 @@
 -- One word changed (02, request 13): what `figures` answers for the two files, and the rows to lend so that the change still fits.
 -- Assumes nothing.
-use Rattle.std.specs.Prelude.{◌≡◌, refl, true, ◌&&◌, List, [], ◌∷◌, ℕ, ◌+◌, ◌*◌, ◌/◌, ◌≤◌, length}
+use Rattle.meaning.specs.Refusals.{Outcome, refused}
+use Rattle.std.specs.Prelude.{Ok, Err, ◌≡◌, refl, true, ◌&&◌, List, [], ◌∷◌, ℕ, ◌+◌, ◌*◌, ◌/◌, ◌≤◌, length}
 use Rattle.std.proofs.Math.Path.{ap, subst}
 use Rattle.std.proofs.Common.{arith}
 use Rattle.std.proofs.Math.Dec.{eqb}
@@ -8,7 +9,7 @@ use Rattle.meaning.specs.Numbers.Tag
 use Rattle.meaning.specs.Numbers.Mode
 use Rattle.meaning.specs.Tree.{one_of, hd, Forest, none, more, one}
 use Rattle.meaning.specs.File.{File, written}
-use Rattle.meaning.specs.Reading.{Outcome, accepted, refused, read_file}
+use Rattle.meaning.specs.Reading.{read_file}
 use Rattle.meaning.specs.Charges.{Figures, figures, ◌⊕◌, call_bytes, import_bytes, initializers, final_figures}
 use Rattle.meaning.specs.Lowering.{check_mode, check_file, figures_of, lowered_file, Written}
 use Rattle.meaning.specs.Computing.{computing}
@@ -17,7 +18,6 @@ use Rattle.spec_laws.specs.Tags.{other_than}
 use Rattle.spec_laws.specs.Bools.{at_most}
 use Rattle.figures.specs.Figures.{shown_figures}
 use Rattle.start.specs.Start.{lent_in}
-use Rattle.lowering.specs.declared.Lowered.TheVariants.{Written as WrittenIn}
 use Rattle.lowering.specs.Lower.{finished, zeros_for, written_over, lower_of, lower_f}
 use Rattle.one_word_laws.specs.Changed.{here, behind, in_list_lem, inside, beside, OneWord, most_records, most_scopes, most_symbols, most_bytes, most_import, in_runtime_module, Growth}
 use Rattle.one_word_laws.proofs.Final.{half_initializers, final_grown}
@@ -27,8 +27,8 @@ use Rattle.claims.specs.Refusals.Small.{Enough, enough_admitted, enough_output}
 
 -- Two files that reading accepts, in runtime or external mode, differ in one word, in a Declaration with the children d.
 pub record WordPair (bytes bytes' : List ℕ) (f f' : File) (d : Forest) : Type 0 where
-  pub before : read_file bytes ≡ accepted f
-  pub after : read_file bytes' ≡ accepted f'
+  pub before : read_file bytes ≡ Ok f
+  pub after : read_file bytes' ≡ Ok f'
   pub word : OneWord d f f'
   pub mode : one_of (Mode.Runtime ∷ Mode.External ∷ []) f.mode ≡ true
 
@@ -36,7 +36,7 @@ pub record WordPair (bytes bytes' : List ℕ) (f f' : File) (d : Forest) : Type 
 abbrev pub GrowsLittle : (List ℕ → Outcome Figures) → Type 0
 GrowsLittle tells =
     (bytes bytes' : List ℕ) (f f' : File) (d : Forest) → WordPair bytes bytes' f f' d
-    → (g : Figures) × (g' : Figures) × (tells bytes ≡ accepted g) × (tells bytes' ≡ accepted g') × Growth f d g g'
+    → (g : Figures) × (g' : Figures) × (tells bytes ≡ Ok g) × (tells bytes' ≡ Ok g') × Growth f d g g'
 
 -- What to lend so that one word with n initializers may change: n + 14 record rows, 4 scope rows and 3 symbol rows more than the figures say, and
 -- 9 * n + 173 bytes more of output.
@@ -47,23 +47,23 @@ with_room n g =
 -- ---- the figures
 
 -- the checks after reading pass
-mode_passes : (bytes : List ℕ) (f : File) → read_file bytes ≡ accepted f → one_of (Mode.Runtime ∷ Mode.External ∷ []) f.mode ≡ true
-    → check_file bytes ≡ accepted f
+mode_passes : (bytes : List ℕ) (f : File) → read_file bytes ≡ Ok f → one_of (Mode.Runtime ∷ Mode.External ∷ []) f.mode ≡ true
+    → check_file bytes ≡ Ok f
 unfolding check_file check_mode
 mode_passes bytes f read mode = rw (read, other_than (Mode.Runtime ∷ Mode.External ∷ []) f.mode Mode.Inline mode refl)
 
-told : (bytes : List ℕ) (f : File) → check_file bytes ≡ accepted f → figures_of bytes ≡ accepted (final_figures f)
+told : (bytes : List ℕ) (f : File) → check_file bytes ≡ Ok f → figures_of bytes ≡ Ok (final_figures f)
 unfolding figures_of
 told bytes f e = rw e
 
 module _ (bytes bytes' : List ℕ) (f f' : File) (d : Forest) (p : WordPair bytes bytes' f f' d) where
-  passes_after : check_file bytes' ≡ accepted f'
+  passes_after : check_file bytes' ≡ Ok f'
   passes_after = mode_passes bytes' f' p.after (rw (← p.word.mode) p.mode)
 
   grows : Growth f d (final_figures f) (final_figures f')
   grows = final_grown d f f' p.word bytes' p.after
 
-  told_before : figures_of bytes ≡ accepted (final_figures f)
+  told_before : figures_of bytes ≡ Ok (final_figures f)
   told_before = told bytes f (mode_passes bytes f p.before p.mode)
 
 pub grows_little : GrowsLittle figures_of
@@ -76,9 +76,9 @@ grows_little bytes bytes' f f' d p =
 abbrev pub LowersTo : List ℕ → File → List ℕ → List ℕ → List ℕ → List ℕ → Type 0
 LowersTo bytes f r s y o =
     lower_f bytes r s y o
-    ≡ finished (WrittenIn (shown_figures (final_figures f))) (zeros_for r) (zeros_for s) (zeros_for y) (written_over (written (lowered_file f)) o)
+    ≡ finished (Ok (shown_figures (final_figures f))) (zeros_for r) (zeros_for s) (zeros_for y) (written_over (written (lowered_file f)) o)
 
-module _ (bytes bytes' : List ℕ) (f f' : File) (d : Forest) (p : WordPair bytes bytes' f f' d) (g : Figures) (answer : figures_of bytes ≡ accepted g) where
+module _ (bytes bytes' : List ℕ) (f f' : File) (d : Forest) (p : WordPair bytes bytes' f f' d) (g : Figures) (answer : figures_of bytes ≡ Ok g) where
   answered : final_figures f ≡ g
   answered = let told = told_before bytes bytes' f f' d p in cc
 
@@ -115,11 +115,11 @@ GrowsLeast f d g g' =
 abbrev pub ReachedBy : (File → Forest → Figures → Figures → Type 0) → ℕ → List ℕ → List ℕ → Type 0
 ReachedBy grow n bytes bytes' =
     (f : File) × (f' : File) × (d : Forest) × WordPair bytes bytes' f f' d × (initializers d ≡ n)
-    × (g : Figures) × (g' : Figures) × (figures_of bytes ≡ accepted g) × (figures_of bytes' ≡ accepted g') × grow f d g g'
+    × (g : Figures) × (g' : Figures) × (figures_of bytes ≡ Ok g) × (figures_of bytes' ≡ Ok g') × grow f d g g'
 
 abbrev pub file_of : Outcome File → File
-file_of (accepted f) = f
-file_of (refused c p) = record { mode = 0; is_module = 0; scopes = []; symbols = []; tree = none }
+file_of (Ok f) = f
+file_of (Err r) = record { mode = 0; is_module = 0; scopes = []; symbols = []; tree = none }
 
 -- the one Declarator of `const_in_body`: an identifier with an initializer
 abbrev pub declarator : Forest

@@ -1,6 +1,6 @@
 -- Scopes in tree order (02, request 9), said of what a caller of a lowering holds: the bytes that it wrote.
 -- Assumes nothing.
-use Rattle.std.specs.Prelude.{if◌then◌else◌, ◌≡◌, refl, Bool, true, ◌&&◌, ℕ, suc, ◌-◌, ◌≤◌, length, get_or, eqb}
+use Rattle.std.specs.Prelude.{Ok, if◌then◌else◌, ◌≡◌, refl, Bool, true, ◌&&◌, ℕ, suc, ◌-◌, ◌≤◌, length, get_or, eqb}
 use Rattle.std.proofs.Common.{sym, ap₂, subst, ◌∙◌, arith, leb-true, ne_eqb}
 use Rattle.std.proofs.Math.Path.{ap}
 use mathlib.Core.List.{List, [], ◌∷◌, ◌++◌, map, append_assoc, append-nil}
@@ -8,7 +8,7 @@ use Rattle.meaning.specs.Numbers.Tag
 use Rattle.meaning.specs.Tree.{Head, Forest, none, more, Row, flatten}
 use Rattle.meaning.specs.Mentions.{mentions}
 use Rattle.meaning.specs.File.{Scope, scope_row, Symbol, File, numbers_of, has_children, own_numbers, written}
-use Rattle.meaning.specs.Reading.{accepted, read_file}
+use Rattle.meaning.specs.Reading.{read_file}
 use Rattle.meaning.specs.Grammar.{is_row, scope_of, below}
 use Rattle.meaning.specs.Agreement.{names_scope, enclosing_scopes, ScopesAgree}
 use Rattle.meaning.specs.Renumbering.{named_scopes, new_number, renumbered_symbol, renumbered}
@@ -29,8 +29,7 @@ use Rattle.renumbering_laws.specs.Files.{renumbered_scopes, in_order, already_or
 use Rattle.renumbering_laws.specs.Agree.{tells, names_told, renumbered_agrees}
 use Rattle.renumbering_laws.specs.Final.{final_agrees, final_scopes, lowered_figures, lowered_tagged, lowered_childless, lowered_order}
 use Rattle.lowering.specs.Lower.{lower_f}
-use Rattle.claims.specs.Twice.{Run, Wrote}
-use Rattle.claims.specs.Twice.{wrote_lowered}
+use Rattle.claims.specs.Twice.{Run, Wrote, wrote_lowered}
 
 -- ---- what is claimed
 
@@ -126,7 +125,7 @@ plain_agrees ss f q =
       program = (plain q.program.0, ap plain q.program.1);
     }
 
-lowered_agrees : (b : List ℕ) (f : File) → read_file b ≡ accepted f → ScopesAgree (lowered_file f).scopes (lowered_file f).tree
+lowered_agrees : (b : List ℕ) (f : File) → read_file b ≡ Ok f → ScopesAgree (lowered_file f).scopes (lowered_file f).tree
 unfolding lowered_file
 lowered_agrees b f read = renumbered_agrees (file_at (final_spot f)) (final_agrees b f read)
 
@@ -142,7 +141,7 @@ agrees_in_bytes b r s y o file bytes wrote =
 
 -- ---- the numbers
 
-module _ (b : List ℕ) (f : File) (read : read_file b ≡ accepted f) where
+module _ (b : List ℕ) (f : File) (read : read_file b ≡ Ok f) where
   abbrev left : File
   left = file_at (final_spot f)
 

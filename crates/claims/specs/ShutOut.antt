@@ -1,7 +1,11 @@
 -- What 01 shuts out by name: each wrong lowering is written down here and refuted on a file, it is not 01's. And what the claims on requests
 -- shut out.
 -- Assumes nothing.
-use Rattle.std.specs.Prelude.{if◌then◌else◌, ◌≡◌, refl, Bool, true, false, not, ◌||◌, ◌&&◌, List, [], ◌∷◌, ◌++◌, map, ℕ, zero, suc, ◌+◌, ◌*◌, ◌-◌, ◌/◌, ◌≤◌, ◌<◌, length, get_or, take, replicate, eqb, leb}
+use Rattle.meaning.specs.declared.Reason.{Reason}
+use Rattle.figures.specs.declared.FinalFigures.{FinalFigures}
+use Rattle.meaning.specs.Refusals.{Outcome, refused, number_of as reason_number}
+use Rattle.meaning.specs.declared.Reason.TheVariants as Reason
+use Rattle.std.specs.Prelude.{Ok, Err, if◌then◌else◌, ◌≡◌, refl, Bool, true, false, not, ◌||◌, ◌&&◌, List, [], ◌∷◌, ◌++◌, map, ℕ, zero, suc, ◌+◌, ◌*◌, ◌-◌, ◌/◌, ◌≤◌, ◌<◌, length, get_or, take, replicate, eqb, leb}
 use Rattle.std.proofs.Common.{sym, ap, ◌∙◌, arith, leb-true}
 use Rattle.meaning.specs.Numbers.Tag
 use Rattle.meaning.specs.Numbers.Mode
@@ -16,7 +20,7 @@ use Rattle.meaning.specs.Agreement.{enclosing_scopes, ScopesAgree}
 use Rattle.meaning.specs.Renumbering.{named_scopes, renumbered}
 use Rattle.meaning.specs.Statements.{wrap_initializer}
 use Rattle.meaning.specs.Contexts.{take_up_cases, transform_switch_statement}
-use Rattle.meaning.specs.Reading.{Outcome, accepted, refused, ◌>>=◌, ◌>>◌, read_forest, most_levels, read_with, read_file}
+use Rattle.meaning.specs.Reading.{◌>>=◌, ◌>>◌, read_forest, most_levels, read_with, read_file}
 use Rattle.meaning.specs.Walk.{Spot, over, is_over, visit, visits, store_of, start, tree_at, store_at, file_at}
 use Rattle.meaning.specs.ImportLine.{with_import, completed, visit_calls}
 use Rattle.meaning.specs.Charges.{Figures, figures, ◌⊕◌, total, initializers, figures_in, figures_at, walk_figures, import_lines, final_figures}
@@ -29,8 +33,6 @@ use Rattle.spec_laws.specs.Tags.{clash, and_left, and_right}
 use Rattle.spec_laws.specs.Trees.{Bytes}
 use Rattle.figures.specs.Figures.{shown_figures}
 use Rattle.start.specs.Start.{lent_in}
-use Rattle.lowering.specs.declared.Lowered.{Lowered}
-use Rattle.lowering.specs.declared.Lowered.TheVariants.{Written as WrittenIn, Refused as RefusedIn}
 use Rattle.lowering.specs.Lower.{Finished, written_over, lower_of}
 use Rattle.fields.specs.Lengths.{lengths}
 use Rattle.parsing.specs.Counted.{read_uncounted, first_symbol, symbol_offset, fifth_number, CountRight, LowestWrong}
@@ -82,17 +84,17 @@ abbrev pub on : Lowering → List ℕ → Outcome Written
 on l file = l file desk 65536
 
 abbrev pub is_accepted : Outcome Written → Bool
-is_accepted (accepted w) = true
-is_accepted (refused c p) = false
+is_accepted (Ok w) = true
+is_accepted (Err r) = false
 
 -- the length of the file, and the records that the answer says; 0 for a refusal
 abbrev pub file_length : Outcome Written → ℕ
-file_length (accepted w) = length w.file
-file_length (refused c p) = 0
+file_length (Ok w) = length w.file
+file_length (Err r) = 0
 
 abbrev pub records_said : Outcome Written → ℕ
-records_said (accepted w) = w.figures.records
-records_said (refused c p) = 0
+records_said (Ok w) = w.figures.records
+records_said (Err r) = 0
 
 whole_accepted : is_accepted (on lower whole) ≡ true
 unfolding computing
@@ -113,8 +115,8 @@ whole_records = refl
 -- ---- copying the input through (excluded by `lowering_is_01`)
 
 abbrev pub with_file : List ℕ → Outcome Written → Outcome Written
-with_file file (accepted w) = accepted (record { file = file; figures = w.figures })
-with_file file (refused c p) = refused c p
+with_file file (Ok w) = Ok (record { file = file; figures = w.figures })
+with_file file (Err r) = Err r
 
 unfoldable pub copying : Lowering
 copying file lent out = with_file file (lower file lent out)
@@ -133,7 +135,7 @@ unfoldable pub program_only : Lowering
 program_only file lent out = do
   f ← admit file lent
   check_output out (final_figures f)
-  accepted (record { file = written (renumbered (file_at (visits 1 (start f)))); figures = final_figures f })
+  Ok (record { file = written (renumbered (file_at (visits 1 (start f)))); figures = final_figures f })
 
 program_length : file_length (on program_only whole) ≡ 76
 unfolding program_only computing
@@ -144,10 +146,10 @@ no_skipping e = omega (arith, program_length, whole_length, ap (λ (l : Lowering
 
 -- ---- refusing all (excluded by `lowering_is_01` and `small_tables`)
 
-abbrev pub refusing_all : ℕ → ℕ → Lowering
+abbrev pub refusing_all : Reason → ℕ → Lowering
 refusing_all c p file lent out = refused c p
 
-pub no_refusing_all : (c p : ℕ) → refusing_all c p ≡ lower → ⊥
+pub no_refusing_all : (c : Reason) (p : ℕ) → refusing_all c p ≡ lower → ⊥
 no_refusing_all c p e = clash refl (ap (λ (l : Lowering). is_accepted (on l whole)) e ∙ whole_accepted)
 
 -- ---- crying small tables at once (excluded by `small_tables`)
@@ -156,7 +158,7 @@ no_refusing_all c p e = clash refl (ap (λ (l : Lowering). is_accepted (on l who
 unfoldable pub crying : Lowering
 crying file lent out = do
   f ← check_file file
-  refused 9 0
+  refused Reason.FewRows 0
 
 crying_refuses : is_accepted (on crying whole) ≡ false
 unfolding crying computing
@@ -238,8 +240,8 @@ abbrev pub one_more : Figures → Figures
 one_more g = figures (suc g.records) g.scopes g.symbols g.contexts g.bytes
 
 abbrev pub with_figures : (Figures → Figures) → Outcome Written → Outcome Written
-with_figures change (accepted w) = accepted (record { file = w.file; figures = change w.figures })
-with_figures change (refused c p) = refused c p
+with_figures change (Ok w) = Ok (record { file = w.file; figures = change w.figures })
+with_figures change (Err r) = Err r
 
 unfoldable pub inventing : Lowering
 inventing file lent out = with_figures one_more (lower file lent out)
@@ -259,8 +261,8 @@ unfoldable pub inventing_contexts : Lowering
 inventing_contexts file lent out = with_figures context_more (lower file lent out)
 
 abbrev pub contexts_said : Outcome Written → ℕ
-contexts_said (accepted w) = w.figures.contexts
-contexts_said (refused c p) = 0
+contexts_said (Ok w) = w.figures.contexts
+contexts_said (Err r) = 0
 
 whole_contexts : contexts_said (on lower whole) ≡ 1
 unfolding computing
@@ -311,8 +313,8 @@ no_one_letter e =
 
 -- what is written; nothing for a refusal
 abbrev pub bytes_of : Outcome Written → List ℕ
-bytes_of (accepted w) = w.file
-bytes_of (refused c p) = []
+bytes_of (Ok w) = w.file
+bytes_of (Err r) = []
 
 -- what the source asks for, and what is called in the file that a lowering writes
 abbrev pub asked_in : List ℕ → Weight → ℕ
@@ -330,7 +332,7 @@ abbrev pub writing_as : (File → File) → Lowering
 writing_as form file lent out = do
   f ← admit file lent
   check_output out (final_figures f)
-  accepted (record { file = written (form (file_at (final_spot f))); figures = final_figures f })
+  Ok (record { file = written (form (file_at (final_spot f))); figures = final_figures f })
 
 -- a lowering that changes the lowered tree before it is written
 abbrev pub with_tree : File → Forest → File
@@ -464,7 +466,7 @@ unfoldable pub running : Lowering
 running file lent out = do
   f ← admit file lent
   check_output out (final_figures f)
-  accepted (record { file = written (renumbered (switched switch_before f)); figures = final_figures f })
+  Ok (record { file = written (renumbered (switched switch_before f)); figures = final_figures f })
 
 cases_asked : asked_in cases by_letter ≡ 1
 unfolding asked sum_over asks_for usings_in over_declarators of_initializer names_of shown hint_of letter_of computing
@@ -654,8 +656,8 @@ no_filled_table right = omega (arith, right 21)
 
 -- a refusal's number, 0 for none
 abbrev pub number_of : Outcome File → ℕ
-number_of (accepted f) = 0
-number_of (refused c p) = c
+number_of (Ok f) = 0
+number_of (Err r) = reason_number r.reason
 
 -- a record at level 65 with a tag that may not stand there, with a head of two bytes, and with nothing wrong
 abbrev pub wrong_tag : List ℕ
@@ -681,7 +683,7 @@ no_late_depth d = omega (arith, late_number, first_number, ap number_of (d.deep 
 
 -- before the head is whole
 unfoldable pub read_early : List ℕ → Outcome File
-read_early = read_deep (λ f syms p cur at m. refused 6 at)
+read_early = read_deep (λ f syms p cur at m. refused Reason.TooDeep at)
 
 early_number : number_of (read_early cut_head) ≡ 6
 unfolding read_early forest_with nested computing
@@ -758,7 +760,7 @@ wrong_counts = bytes "40:1,0 41:0,16 42:10,6,1,0,0 42:11,6,1,0,1 42:12,6,1,0,1 1
 abbrev pub miscounted : File
 miscounted = file_of (read_uncounted wrong_counts)
 
-but_for_counts : read_uncounted wrong_counts ≡ accepted miscounted
+but_for_counts : read_uncounted wrong_counts ≡ Ok miscounted
 unfolding read_uncounted computing
 but_for_counts = refl
 
@@ -789,15 +791,15 @@ highest_wrong f count (suc n) y at =
 abbrev pub highest : List ℕ → File → Outcome File
 highest f g =
     let y = highest_wrong f (λ y. mentions y g.tree) (length g.symbols) 1 (first_symbol g) in
-    if eqb y 0 then accepted g else refused 5 (symbol_offset g y)
+    if eqb y 0 then Ok g else refused Reason.WrongNumber (symbol_offset g y)
 
 unfoldable pub read_highest : List ℕ → Outcome File
 read_highest f = read_uncounted f >>= highest f
 
 -- the place of a refusal, 0 for none
 abbrev pub place_of : Outcome File → ℕ
-place_of (accepted f) = 0
-place_of (refused c p) = p
+place_of (Ok f) = 0
+place_of (Err r) = r.place
 
 highest_place : place_of (read_highest wrong_counts) ≡ 40
 unfolding read_highest highest_wrong read_uncounted computing
@@ -908,7 +910,7 @@ small_bytes (x ∷ xs) e zero = leb-true x 255 (and_left (leb x 255) (small xs) 
 small_bytes (x ∷ xs) e (suc i) = small_bytes xs (and_right (leb x 255) (small xs) e) i
 
 -- what a lowering wrote
-pub wrote_by : (l : Lowering) (file r s y o : List ℕ) (w : Written) → l file (lent_in r s y) (length o) ≡ accepted w
+pub wrote_by : (l : Lowering) (file r s y o : List ℕ) (w : Written) → l file (lent_in r s y) (length o) ≡ Ok w
     → take w.figures.bytes (written_over w.file o) ≡ w.file → Wrote (as_run l) file r s y o w.file
 wrote_by l file r s y o w e t = (
   shown_figures w.figures,
@@ -925,7 +927,7 @@ pub whole_small : small whole ≡ true
 unfolding small computing
 whole_small = refl
 
-pub whole_read : read_file whole_lowered ≡ accepted (file_of (read_file whole_lowered))
+pub whole_read : read_file whole_lowered ≡ Ok (file_of (read_file whole_lowered))
 unfolding computing
 whole_read = refl
 
@@ -935,9 +937,9 @@ whole_own = refl
 
 -- of a lowering that leaves its own files as they are: what it answers for one that it wrote, with the memory of the first call
 second_answer : (l : Lowering) (file r s y o : List ℕ) (w : Written) (g : File) → LowersTwice (as_run l) → small file ≡ true
-    → l file (lent_in r s y) (length o) ≡ accepted w → take w.figures.bytes (written_over w.file o) ≡ w.file
-    → read_file w.file ≡ accepted g → Enough (lent_in r s y) (field_figures w.file) → length w.file ≤ length o
-    → (lower_of (l w.file (lent_in r s y) (length o)) r s y o).answer ≡ WrittenIn (shown_figures (field_figures w.file))
+    → l file (lent_in r s y) (length o) ≡ Ok w → take w.figures.bytes (written_over w.file o) ≡ w.file
+    → read_file w.file ≡ Ok g → Enough (lent_in r s y) (field_figures w.file) → length w.file ≤ length o
+    → (lower_of (l w.file (lent_in r s y) (length o)) r s y o).answer ≡ Ok (shown_figures (field_figures w.file))
 second_answer l file r s y o w g twice bytes e t read rows long =
     ap (λ (f : Finished). f.answer)
     ((twice file r s y o w.file g (small_bytes file bytes) (wrote_by l file r s y o w e t) read).same r s y o rows long)
@@ -961,42 +963,42 @@ whole_front = refl
 abbrev pub whole_written : Written
 whole_written = record { file = whole_lowered; figures = figures 18 5 3 1 215 }
 
-abbrev pub whole_second : Lowering → Lowered
+abbrev pub whole_second : Lowering → Outcome FinalFigures
 whole_second l = (lower_of (l whole_lowered (lent_in (zeros 126) (zeros 15) (zeros 18)) 215) (zeros 126) (zeros 15) (zeros 18) (zeros 215)).answer
 
-whole_second_lem : (l : Lowering) → l whole (lend 18 5 3) 215 ≡ accepted whole_written → LowersTwice (as_run l)
-    → whole_second l ≡ WrittenIn (shown_figures (field_figures whole_lowered))
+whole_second_lem : (l : Lowering) → l whole (lend 18 5 3) 215 ≡ Ok whole_written → LowersTwice (as_run l)
+    → whole_second l ≡ Ok (shown_figures (field_figures whole_lowered))
 whole_second_lem l e twice =
     second_answer l whole (zeros 126) (zeros 15) (zeros 18) (zeros 215) whole_written (file_of (read_file whole_lowered)) twice whole_small
     (ap (λ (lent : Lent). l whole lent 215) whole_lent ∙ e)
     whole_front whole_read whole_enough (omega (arith, lowered_length))
 
 -- 01's lowering wrote such a file, so the claim speaks of some: the whole case, lowered, is lowered to itself
-pub whole_first : lower whole (lend 18 5 3) 215 ≡ accepted whole_written
+pub whole_first : lower whole (lend 18 5 3) 215 ≡ Ok whole_written
 unfolding computing
 whole_first = refl
 
 -- the contexts that were made before are counted again, by their Loads
 abbrev pub by_loads : Outcome Written → Outcome Written
-by_loads (accepted w) =
+by_loads (Ok w) =
     let x = w.figures in
-    accepted
+    Ok
     (record {
       file = w.file;
       figures = figures x.records x.scopes x.symbols (field_count is_load (fields_of w.file)) x.bytes;
     })
-by_loads (refused c p) = refused c p
+by_loads (Err r) = Err r
 
 unfoldable pub counting_again : Lowering
 counting_again file lent out = by_loads (lower file lent out)
 
-counting_first : counting_again whole (lend 18 5 3) 215 ≡ accepted whole_written
+counting_first : counting_again whole (lend 18 5 3) 215 ≡ Ok whole_written
 unfolding counting_again field_count fields_of fields_in numbers_in computing
 counting_first = refl
 
-abbrev pub contexts_in : Lowered → ℕ
-contexts_in (WrittenIn x) = x.contexts
-contexts_in (RefusedIn c p) = 0
+abbrev pub contexts_in : Outcome FinalFigures → ℕ
+contexts_in (Ok x) = x.contexts
+contexts_in (Err r) = 0
 
 counting_second : contexts_in (whole_second counting_again) ≡ 1
 unfolding counting_again lent_in field_count fields_of fields_in numbers_in computing
@@ -1013,15 +1015,15 @@ no_counting_again twice =
 
 -- a file that was lowered before is refused
 unfoldable pub refusing_lowered : Lowering
-refusing_lowered file lent out = if leb 1 (field_count is_load (fields_of file)) then refused 8 0 else lower file lent out
+refusing_lowered file lent out = if leb 1 (field_count is_load (fields_of file)) then refused Reason.InlineContext 0 else lower file lent out
 
-refusing_first : refusing_lowered whole (lend 18 5 3) 215 ≡ accepted whole_written
+refusing_first : refusing_lowered whole (lend 18 5 3) 215 ≡ Ok whole_written
 unfolding refusing_lowered field_count fields_of fields_in numbers_in computing
 refusing_first = refl
 
-abbrev pub records_told : Lowered → ℕ
-records_told (WrittenIn x) = x.records
-records_told (RefusedIn c p) = 0
+abbrev pub records_told : Outcome FinalFigures → ℕ
+records_told (Ok x) = x.records
+records_told (Err r) = 0
 
 refusing_second : records_told (whole_second refusing_lowered) ≡ 0
 unfolding refusing_lowered field_count fields_of fields_in numbers_in computing
@@ -1051,7 +1053,7 @@ with_line f =
 unfoldable pub importing_again : Lowering
 importing_again file lent out = do
   f ← admit file lent
-  accepted
+  Ok
       (record {
         file = written (renumbered (with_line (file_at (last_spot f))));
         figures = figures_in (with_line (file_at (last_spot f))) ⊕ figures 0 0 0 (final_figures f).contexts 0;
@@ -1067,7 +1069,7 @@ module_lowered =
 abbrev pub module_written : Written
 module_written = record { file = module_lowered; figures = figures 20 5 4 1 244 }
 
-module_first : importing_again module_file (lend 20 5 4) 244 ≡ accepted module_written
+module_first : importing_again module_file (lend 20 5 4) 244 ≡ Ok module_written
 unfolding importing_again first_load computing
 module_first = refl
 
@@ -1083,7 +1085,7 @@ module_small : small module_file ≡ true
 unfolding small computing
 module_small = refl
 
-module_read : read_file module_lowered ≡ accepted (file_of (read_file module_lowered))
+module_read : read_file module_lowered ≡ Ok (file_of (read_file module_lowered))
 unfolding computing
 module_read = refl
 
@@ -1130,7 +1132,7 @@ one_case_made =
 abbrev pub made_written : Written
 made_written = record { file = one_case_made; figures = figures 21 6 3 1 243 }
 
-made_first : as_made one_case (lend 21 6 3) 243 ≡ accepted made_written
+made_first : as_made one_case (lend 21 6 3) 243 ≡ Ok made_written
 unfolding as_made computing
 made_first = refl
 
@@ -1192,7 +1194,7 @@ inside_out_kept = bytes "40:1,0 41:0,16 41:1,0 41:3,0 1:1,1 2:2,1 2:3,0"
 abbrev pub kept_written : Written
 kept_written = record { file = inside_out_kept; figures = figures 3 3 0 0 49 }
 
-kept_first : keeping_parents inside_out (lend 3 3 0) 49 ≡ accepted kept_written
+kept_first : keeping_parents inside_out (lend 3 3 0) 49 ≡ Ok kept_written
 unfolding keeping_parents computing
 kept_first = refl
 
@@ -1265,11 +1267,11 @@ Telling = List ℕ → Outcome Figures
 abbrev pub telling : (File → Figures) → Telling
 telling count file = do
   f ← check_file file
-  accepted (count f)
+  Ok (count f)
 
 abbrev pub rows_told : Outcome Figures → ℕ
-rows_told (accepted g) = g.records
-rows_told (refused c p) = 0
+rows_told (Ok g) = g.records
+rows_told (Err r) = 0
 
 -- the same for all files, as much as 16 bits hold
 unfoldable pub worst_case : Telling

@@ -25,6 +25,7 @@ pub struct Transformed {
 
 impl Transformed {
     // With other counters.
+    #[tactic(auto, unfolding(crate::specs::Creation::with_ctx_f))]
     pub fn with_ctx(mut self, ctx: Ctx) -> Self
         ensures { result ≡ with_ctx_f self ctx }
     {
@@ -40,6 +41,24 @@ pub struct Created {
     pub parts: Parts,
 }
 
+// The current scope and the hoist scope of the record to enter, or 0.
+#[derive(Clone, Copy)]
+pub struct Around {
+    pub current: ScopeId,
+    pub hoist: ScopeId,
+}
+
+// Those of the next record.
+pub fn scopes_around(records: &[u16], w: Walk) -> Around
+    ensures current { result.current.0 ≡ current_scope_f records.now w.inner.0 w.visited.0 }
+    ensures hoist { result.hoist.0 ≡ hoist_scope_f records.now w.inner.0 w.visited.0 }
+{
+    Around {
+        current: path::current_scope(records, w.inner, w.visited.0),
+        hoist: path::hoist_scope(records, w.inner, w.visited.0),
+    }
+}
+
 // The last row looked at, how many records beside each other are still to be looked at, and how many to be passed over before.
 #[derive(Clone, Copy)]
 pub struct ScopeMove {
@@ -51,6 +70,7 @@ pub struct ScopeMove {
 // ---- scopes
 
 // The next record: its scope gets the parent, and its children are passed over; a record without a scope is entered.
+#[tactic(auto, unfolding(crate::specs::Scopes::move_scope_f))]
 fn move_scope(
     records: &[u16],
     scopes: &mut [u16],
@@ -61,20 +81,20 @@ fn move_scope(
     ensures { scope_move scopes.new result ≡ move_scope_f records.now ctx parent.0 (scope_move scopes.old s) }
 {
     let r = tables::row_after(records, s.at);
-    let at = RecordId(tables::plus(s.at.0, 1));
+    let at = RecordId(s.at.0.saturating_add(1));
     if s.skip != 0 {
         return ScopeMove {
             at,
-            pending: s.pending,
-            skip: tables::plus(tables::minus(s.skip, 1), r.n),
+            skip: s.skip.saturating_sub(1).saturating_add(r.n),
+            ..s
         };
     }
-    let pending = tables::minus(s.pending, 1);
+    let pending = s.pending.saturating_sub(1);
     let scope = path::scope_of(r);
     if scope.0 == 0 {
         return ScopeMove {
             at,
-            pending: tables::plus(pending, r.n),
+            pending: pending.saturating_add(r.n),
             skip: 0,
         };
     }
@@ -87,16 +107,15 @@ fn move_scope(
 }
 
 // No record is left to look at.
+#[tactic(auto, unfolding(crate::specs::Scopes::is_passed_f))]
 fn is_passed(s: ScopeMove) -> bool
     ensures { result ≡ is_passed_f s }
 {
-    if s.pending != 0 {
-        return false;
-    }
-    s.skip == 0
+    s.pending == 0 && s.skip == 0
 }
 
 // The outermost scopes of `n` records after a row get a parent.
+#[tactic(auto, unfolding(crate::specs::Scopes::is_passed_f, crate::specs::Scopes::move_scopes_f), using(tables::specs::Loops::go_on, tables::specs::Loops::run_out, tables::specs::Loops::stopped))]
 fn move_scopes(
     records: &[u16],
     scopes: &mut [u16],
@@ -112,17 +131,16 @@ fn move_scopes(
         pending: n,
         skip: 0,
     };
-    let mut k: u16 = 0;
-    while k < tables::LARGEST {
+    for _ in 0..tables::LARGEST {
         if is_passed(s) {
             break;
         }
         s = move_scope(records, scopes, ctx, s, parent);
-        k += 1;
     }
 }
 
 // `insert_scope_below_statements`: a new scope below a scope, above `n` records after a row.
+#[tactic(auto, unfolding(crate::specs::Scopes::insert_scope_below_f))]
 pub fn insert_scope_below(
     records: &[u16],
     scopes: &mut [u16],
@@ -142,6 +160,7 @@ pub fn insert_scope_below(
 // ---- the context
 
 // A context's symbol, on `using_ctx`.
+#[tactic(auto, unfolding(crate::specs::Creation::make_context_f))]
 pub fn make_context(symbols: &mut [u16], ctx: Ctx, scope: ScopeId) -> Ctx
     ensures { in_symbols symbols.new result ≡ make_context_f (in_symbols symbols.old ctx) scope.0 }
 {
@@ -157,6 +176,7 @@ pub fn make_context(symbols: &mut [u16], ctx: Ctx, scope: ScopeId) -> Ctx
 }
 
 // The helper for a context that is made.
+#[tactic(auto, unfolding(crate::specs::Creation::load_context_f))]
 pub fn load_context(
     scopes: &[u16],
     symbols: &mut [u16],
@@ -168,29 +188,33 @@ pub fn load_context(
         ≡ load_context_f scopes.now (in_symbols symbols.old ctx) context.0 cur.0 }
 {
     let loaded = helper_loader::helper_load(scopes, symbols, ctx, cur);
-    let next = loaded.ctx;
-    let load = loaded.symbol;
     Transformed {
-        ctx: next,
+        ctx: loaded.ctx,
         context,
         form: loaded.form,
-        load,
+        load: loaded.symbol,
     }
 }
 
 // `transform_statements`: the context's symbol in the hoist scope, and the helper.
+#[tactic(auto, unfolding(crate::specs::Creation::transform_statements_f))]
 pub fn transform_statements(
     scopes: &[u16],
     symbols: &mut [u16],
     ctx: Ctx,
-    cur: ScopeId,
-    hoist: ScopeId,
+    around: Around,
 ) -> Transformed
     ensures { transforming symbols.new result
-        ≡ transform_statements_f scopes.now (in_symbols symbols.old ctx) cur.0 hoist.0 }
+        ≡ transform_statements_f scopes.now (in_symbols symbols.old ctx) around.current.0 around.hoist.0 }
 {
-    let made = make_context(symbols, ctx, hoist);
-    load_context(scopes, symbols, made, SymbolId(made.symbols), cur)
+    let made = make_context(symbols, ctx, around.hoist);
+    load_context(
+        scopes,
+        symbols,
+        made,
+        SymbolId(made.symbols),
+        around.current,
+    )
 }
 
 // ---- the Try
@@ -199,6 +223,7 @@ pub fn transform_statements(
 const ERROR_FLAGS: u16 = symbol_flag::FUNCTION_SCOPED + symbol_flag::CATCH;
 
 // `create_catch_clause`: the Catch's scope, that of its body, and `_`.
+#[tactic(auto, unfolding(crate::specs::Creation::create_catch_clause_f))]
 fn create_catch_clause(scopes: &mut [u16], symbols: &mut [u16], ctx: Ctx, parent: ScopeId) -> Ctx
     ensures { in_rows scopes.new symbols.new result
         ≡ create_catch_clause_f (in_rows scopes.old symbols.old ctx) parent.0 }
@@ -216,6 +241,7 @@ fn create_catch_clause(scopes: &mut [u16], symbols: &mut [u16], ctx: Ctx, parent
 }
 
 // `create_try_stmt`: the Catch and the last Block below the scope `parent`.
+#[tactic(auto, unfolding(crate::specs::Creation::create_try_stmt_f))]
 pub fn create_try_stmt(
     scopes: &mut [u16],
     symbols: &mut [u16],
@@ -226,15 +252,12 @@ pub fn create_try_stmt(
     ensures { creating scopes.new symbols.new result
         ≡ create_try_stmt_f scopes.old symbols.old t parent.0 awaits }
 {
-    let before = t.ctx;
-    let context = t.context;
-    let load = t.load;
-    let caught = create_catch_clause(scopes, symbols, before, parent);
+    let caught = create_catch_clause(scopes, symbols, t.ctx, parent);
     let parts = Parts {
-        context,
+        context: t.context,
         form: t.form,
-        load,
-        scope: ScopeId(tables::plus(before.scopes, 1)),
+        load: t.load,
+        scope: ScopeId(t.ctx.scopes.saturating_add(1)),
         error: SymbolId(caught.symbols),
         step: statements::step_form(awaits),
     };
@@ -247,23 +270,24 @@ pub fn create_try_stmt(
 // ---- by what the context is made for
 
 // A Block statement.
+#[tactic(auto, unfolding(crate::specs::Kinds::for_block_f))]
 pub fn for_block(
     scopes: &mut [u16],
     symbols: &mut [u16],
     ctx: Ctx,
-    cur: ScopeId,
-    hoist: ScopeId,
+    around: Around,
     awaits: u16,
 ) -> Created
     ensures { creating scopes.new symbols.new result
-        ≡ for_block_f (in_rows scopes.old symbols.old ctx) cur.0 hoist.0 awaits }
+        ≡ for_block_f (in_rows scopes.old symbols.old ctx) around.current.0 around.hoist.0 awaits }
 {
-    let t = transform_statements(scopes, symbols, ctx, cur, hoist);
-    create_try_stmt(scopes, symbols, t, cur, awaits)
+    let t = transform_statements(scopes, symbols, ctx, around);
+    create_try_stmt(scopes, symbols, t, around.current, awaits)
 }
 
 // The function body to enter: a new scope below the function's takes its list of `n` records, and what the function's scope binds block-scoped
 // or as a class.
+#[tactic(auto, unfolding(crate::specs::Kinds::for_body_f))]
 pub fn for_body(
     records: &[u16],
     scopes: &mut [u16],
@@ -275,16 +299,17 @@ pub fn for_body(
     ensures { creating scopes.new symbols.new result
         ≡ for_body_f records.now (in_rows scopes.old symbols.old w.ctx) (current_scope_f records.now w.inner.0 w.visited.0) (hoist_scope_f records.now w.inner.0 w.visited.0) (capped w.gap.0 1) n awaits }
 {
-    let cur = path::current_scope(records, w.inner, w.visited.0);
-    let hoist = path::hoist_scope(records, w.inner, w.visited.0);
-    let list = RecordId(tables::plus(w.gap.0, 1));
-    let t = transform_statements(scopes, symbols, w.ctx, cur, hoist);
-    let x = insert_scope_below(records, scopes, t.ctx, cur, list, n);
-    scoping::move_block_scoped(symbols, x, cur, ScopeId(x.scopes));
-    create_try_stmt(scopes, symbols, t.with_ctx(x), cur, awaits)
+    let around = scopes_around(records, w);
+    let current = around.current;
+    let list = RecordId(w.gap.0.saturating_add(1));
+    let t = transform_statements(scopes, symbols, w.ctx, around);
+    let x = insert_scope_below(records, scopes, t.ctx, current, list, n);
+    scoping::move_block_scoped(symbols, x, current, ScopeId(x.scopes));
+    create_try_stmt(scopes, symbols, t.with_ctx(x), current, awaits)
 }
 
 // A static block: a new scope above its old one, which is strict and no static block any more.
+#[tactic(auto, unfolding(crate::specs::Kinds::for_static_block_f))]
 pub fn for_static_block(
     scopes: &mut [u16],
     symbols: &mut [u16],
@@ -295,7 +320,11 @@ pub fn for_static_block(
     ensures { creating scopes.new symbols.new result
         ≡ for_static_block_f (in_rows scopes.old symbols.old ctx) old.0 awaits }
 {
-    let t = transform_statements(scopes, symbols, ctx, old, old);
+    let around = Around {
+        current: old,
+        hoist: old,
+    };
+    let t = transform_statements(scopes, symbols, ctx, around);
     let x = scoping::insert_scope_between(scopes, t.ctx, old, scope_flag::STATIC_BLOCK);
     let scope = ScopeId(x.scopes);
     scoping::move_binding(symbols, x, t.context, scope);
@@ -304,26 +333,31 @@ pub fn for_static_block(
 }
 
 // A try part: a new scope above its old one; its context moves to the hoist scope.
+#[tactic(auto, unfolding(crate::specs::Kinds::for_try_part_f))]
 pub fn for_try_part(
     scopes: &mut [u16],
     symbols: &mut [u16],
     ctx: Ctx,
-    cur: ScopeId,
-    hoist: ScopeId,
+    around: Around,
     old: ScopeId,
     awaits: u16,
 ) -> Created
     ensures { creating scopes.new symbols.new result
-        ≡ for_try_part_f (in_rows scopes.old symbols.old ctx) cur.0 hoist.0 old.0 awaits }
+        ≡ for_try_part_f (in_rows scopes.old symbols.old ctx) around.current.0 around.hoist.0 old.0 awaits }
 {
-    let t = transform_statements(scopes, symbols, ctx, cur, old);
+    let part = Around {
+        hoist: old,
+        ..around
+    };
+    let t = transform_statements(scopes, symbols, ctx, part);
     let x = scoping::insert_scope_between(scopes, t.ctx, old, 0);
     let c = create_try_stmt(scopes, symbols, t.with_ctx(x), ScopeId(x.scopes), awaits);
-    scoping::move_binding(symbols, c.ctx, t.context, hoist);
+    scoping::move_binding(symbols, c.ctx, t.context, around.hoist);
     c
 }
 
 // The For with its Labels to enter: a new scope above it.
+#[tactic(auto, unfolding(crate::specs::Kinds::for_loop_f))]
 pub fn for_loop(
     records: &[u16],
     scopes: &mut [u16],
@@ -334,15 +368,16 @@ pub fn for_loop(
     ensures { creating scopes.new symbols.new result
         ≡ for_loop_f records.now (in_rows scopes.old symbols.old w.ctx) (current_scope_f records.now w.inner.0 w.visited.0) (hoist_scope_f records.now w.inner.0 w.visited.0) w.gap.0 awaits }
 {
-    let cur = path::current_scope(records, w.inner, w.visited.0);
-    let hoist = path::hoist_scope(records, w.inner, w.visited.0);
-    let made = make_context(symbols, w.ctx, hoist);
-    let x = insert_scope_below(records, scopes, made, cur, w.gap, 1);
-    let t = load_context(scopes, symbols, x, SymbolId(made.symbols), cur);
-    create_try_stmt(scopes, symbols, t, cur, awaits)
+    let around = scopes_around(records, w);
+    let current = around.current;
+    let made = make_context(symbols, w.ctx, around.hoist);
+    let x = insert_scope_below(records, scopes, made, current, w.gap, 1);
+    let t = load_context(scopes, symbols, x, SymbolId(made.symbols), current);
+    create_try_stmt(scopes, symbols, t, current, awaits)
 }
 
 // A Switch: the context is bound in the current scope; a new scope above the Switch's.
+#[tactic(auto, unfolding(crate::specs::Kinds::for_switch_f))]
 pub fn for_switch(
     scopes: &mut [u16],
     symbols: &mut [u16],

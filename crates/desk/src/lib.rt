@@ -13,17 +13,15 @@ ghost use Rattle.start.specs.Start.{start_f};
 ghost use Rattle.path.specs.Path.{tables};
 ghost use Rattle.walk.specs.Call.{visit_call_f};
 ghost use Rattle.lowering.specs.Lower.{lower_f};
-ghost use Rattle.desk_numbers.specs.Answers.{fine_numbers, refusal_numbers, figures_numbers, checked_numbers, figured_numbers};
+ghost use Rattle.meaning.specs.Refusals.{number_of};
+ghost use Rattle.desk_numbers.specs.Answers.{fine_numbers, refusal_numbers, checked_numbers, figured_numbers};
 ghost use Rattle.desk_numbers.specs.Numbers.{walk_in, walk_numbers, begun, begun_numbers, visited, visited_numbers};
 ghost use Rattle.desk.specs.Numbers.{finished, finished_numbers};
 
-use checking::Checked;
-use figures::{Figured, FinalFigures};
-use lowering::Lowered;
-use meaning::{RecordId, SymbolId};
+use figures::FinalFigures;
+use meaning::{RecordId, Refusal, SymbolId};
 use path::Walk;
 use scoping::Ctx;
-use start::Started;
 
 // ---- answers in numbers
 
@@ -34,18 +32,23 @@ fn tell_fine(answer: &mut [u64; 6]) -> u8
     0
 }
 
-fn tell_refusal(answer: &mut [u64; 6], number: u8, place: usize) -> u8
-    ensures { result ∷ answer.new ≡ refusal_numbers number place }
+fn tell_refusal(answer: &mut [u64; 6], r: Refusal) -> u8
+    ensures { result ∷ answer.new ≡ refusal_numbers (number_of r.reason) r.place }
 {
-    *answer = [place as u64, 0, 0, 0, 0, 0];
-    number
+    *answer = [r.place as u64, 0, 0, 0, 0, 0];
+    u8::from(r.reason)
 }
 
-fn tell_figures(answer: &mut [u64; 6], g: FinalFigures) -> u8
-    ensures { result ∷ answer.new ≡ figures_numbers g }
+fn tell_figures(answer: &mut [u64; 6], figured: Result<FinalFigures, Refusal>) -> u8
+    ensures { result ∷ answer.new ≡ figured_numbers figured }
 {
-    *answer = [0, g.records, g.scopes, g.symbols, g.contexts, g.bytes];
-    0
+    match figured {
+        Ok(g) => {
+            *answer = [0, g.records, g.scopes, g.symbols, g.contexts, g.bytes];
+            0
+        }
+        Err(r) => tell_refusal(answer, r),
+    }
 }
 
 // ---- the walk in numbers
@@ -97,8 +100,8 @@ pub extern "C" fn desk_check(file: &[u8], answer: &mut [u64; 6]) -> u8
     ensures { result ∷ answer.new ≡ checked_numbers (checked_of (read_file file.now)) }
 {
     match checking::check(file) {
-        Checked::Fine => tell_fine(answer),
-        Checked::Refused(number, place) => tell_refusal(answer, number, place),
+        Ok(()) => tell_fine(answer),
+        Err(r) => tell_refusal(answer, r),
     }
 }
 
@@ -107,10 +110,7 @@ pub extern "C" fn desk_check(file: &[u8], answer: &mut [u64; 6]) -> u8
 pub extern "C" fn desk_figures(file: &[u8], answer: &mut [u64; 6]) -> u8
     ensures { result ∷ answer.new ≡ figured_numbers (figured_of (figures_of file.now)) }
 {
-    match checking::figures(file) {
-        Figured::Fine(g) => tell_figures(answer, g),
-        Figured::Refused(number, place) => tell_refusal(answer, number, place),
-    }
+    tell_figures(answer, checking::figures(file))
 }
 
 // Reads a tree file into the tables, before the first visit.
@@ -127,11 +127,11 @@ pub extern "C" fn desk_start(
         ≡ begun_numbers walk.old (start_f file.now records.old scopes.old symbols.old) }
 {
     match start::start(file, records, scopes, symbols) {
-        Started::Ready(w) => {
+        Ok(w) => {
             put_walk(walk, w);
             tell_fine(answer)
         }
-        Started::Refused(number, place) => tell_refusal(answer, number, place),
+        Err(r) => tell_refusal(answer, r),
     }
 }
 
@@ -148,7 +148,7 @@ pub extern "C" fn desk_visit(
 {
     let w = walk::visit_call(walk_in(walk), records, scopes, symbols);
     put_walk(walk, w);
-    if walk::is_over(w, records) { 1 } else { 0 }
+    u8::from(walk::is_over(w, records))
 }
 
 // Lowers a tree file.
@@ -164,8 +164,6 @@ pub extern "C" fn desk_lower(
     ensures { finished (result ∷ answer.new) records.new scopes.new symbols.new out.new
         ≡ finished_numbers (lower_f file.now records.old scopes.old symbols.old out.old) }
 {
-    match lowering::lower(file, records, scopes, symbols, out) {
-        Lowered::Written(g) => tell_figures(answer, g),
-        Lowered::Refused(number, place) => tell_refusal(answer, number, place),
-    }
+    let lowered = lowering::lower(file, records, scopes, symbols, out);
+    tell_figures(answer, lowered)
 }

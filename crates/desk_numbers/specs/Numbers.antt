@@ -1,10 +1,9 @@
 -- What `desk_start` and `desk_visit` answer and leave, in numbers.
 -- Assumes nothing.
-use Rattle.std.specs.Prelude.{◌≡◌, refl, ℕ, cond, List, [], ◌∷◌, get_or}
+use Rattle.meaning.specs.Refusals.{Outcome}
+use Rattle.std.specs.Prelude.{Ok, Err, ◌≡◌, refl, ℕ, cond, List, [], ◌∷◌, get_or}
 use Rattle.path.specs.declared.Walk.{Walk}
 use Rattle.path.specs.Path.{Tables}
-use Rattle.start.specs.declared.Started.{Started}
-use Rattle.start.specs.declared.Started.TheVariants as started
 use Rattle.start.specs.Start.{Begun}
 use Rattle.walk.specs.Visit.{is_over_f}
 use Rattle.desk_numbers.specs.Answers.{started_numbers}
@@ -53,9 +52,9 @@ abbrev pub begun : List ℕ → List ℕ → List ℕ → List ℕ → List ℕ 
 begun a w r s y = record { answer = a; walk = w; records = r; scopes = s; symbols = y }
 
 -- the walk's numbers behind a start: a refusal leaves them as they were
-abbrev pub walk_after : List ℕ → Started → List ℕ
-walk_after old (started.Ready w) = walk_numbers w
-walk_after old (started.Refused c p) = old
+abbrev pub walk_after : List ℕ → Outcome Walk → List ℕ
+walk_after old (Ok w) = walk_numbers w
+walk_after old (Err r) = old
 
 abbrev pub begun_numbers : List ℕ → Begun → Begins
 begun_numbers old b = begun (started_numbers b.answer) (walk_after old b.answer) b.records b.scopes b.symbols

@@ -1,20 +1,20 @@
 -- What the numbers of a start and of a visit tell.
 -- Assumes nothing.
-use Rattle.std.specs.Prelude.{◌≡◌, refl, true, false, cond, List, ℕ}
+use Rattle.std.specs.Prelude.{◌≡◌, refl, true, false, cond, List, ℕ, Ok, Err}
 use Rattle.std.proofs.Common.{ap}
 use Rattle.path.specs.declared.Walk.{Walk}
 use Rattle.path.specs.Path.{Tables}
-use Rattle.start.specs.declared.Started.TheVariants as started
+use Rattle.meaning.specs.declared.Refusal.{Refusal}
 use Rattle.walk.specs.Visit.{is_over_f}
 use Rattle.desk_numbers.specs.Numbers.{walk_in, walk_after, visited_numbers}
 
 -- ---- `desk_start`: the walk begins, or its numbers are as they were
 
-pub start_ready : (old : List ℕ) (w : Walk) → walk_in (walk_after old (started.Ready w)) ≡ w
+pub start_ready : (old : List ℕ) (w : Walk) → walk_in (walk_after old (Ok w)) ≡ w
 start_ready old w = refl
 
-pub start_refused : (old : List ℕ) (c p : ℕ) → walk_after old (started.Refused c p) ≡ old
-start_refused old c p = refl
+pub start_refused : (old : List ℕ) (r : Refusal) → walk_after old (Err r) ≡ old
+start_refused old r = refl
 
 -- ---- `desk_visit`: 1 says that the walk is over
 

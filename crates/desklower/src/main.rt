@@ -4,16 +4,11 @@
 // that a longer input is refused with 1. Where reading or writing fails, the program ends with that error.
 #![tactic(auto)]
 
-use lowering::Lowered;
 use std::io;
 use std::io::Read;
 
 // The most bytes that are read.
 const MOST_READ: u64 = 65536;
-
-fn write_refusal(rt: &impl Print, number: u8, place: usize) -> io::Result<()> {
-    println!(rt; "refused {number} at {place}")
-}
 
 fn write_file(rt: &impl Print, out: &[u8], length: u64) -> io::Result<()> {
     if length <= (out.len() as u64) {
@@ -27,10 +22,9 @@ fn lower(rt: &impl Print, file: &[u8]) -> io::Result<()> {
     let mut scopes = [0u16; 3072];
     let mut symbols = [0u16; 6144];
     let mut out = [0u8; 65536];
-    let answer = lowering::lower(file, &mut records, &mut scopes, &mut symbols, &mut out);
-    match answer {
-        Lowered::Written(g) => write_file(rt, &out, g.bytes),
-        Lowered::Refused(number, place) => write_refusal(rt, number, place),
+    match lowering::lower(file, &mut records, &mut scopes, &mut symbols, &mut out) {
+        Ok(figures) => write_file(rt, &out, figures.bytes),
+        Err(refusal) => println!(rt; "{refusal}"),
     }
 }
 

@@ -9,7 +9,7 @@ ghost use Rattle.meaning.specs.File.{numbers_of, head_bytes, field_bytes, two_by
 ghost use Rattle.meaning.specs.Grammar.{statements, expressions, allowed, two, number, field_of, field_at};
 ghost use Rattle.fields.specs.Lengths.{lengths};
 
-use meaning::{Field, Place, Reading, refusal, tag};
+use meaning::{Field, Place, Reason, Refusal, tag};
 
 // ---- sizes in bytes
 
@@ -330,29 +330,39 @@ fn read_number(file: &[u8], at: usize, count: u8, i: u8) -> u16
 }
 
 // The field at an offset: head cut, tag, length, payload cut.
-fn field_at(file: &[u8], place: Place, at: usize) -> Reading
+fn field_at(file: &[u8], place: Place, at: usize) -> Result<Field, Refusal>
     ensures { result ≡ field_at file.now place at }
 {
-    if file.len() <= at {
-        return Reading::Refused(refusal::CUT, at);
-    }
-    if file.len() - at < HEAD_BYTES {
-        return Reading::Refused(refusal::CUT, at);
+    let left = file.len().saturating_sub(at);
+    if left < HEAD_BYTES {
+        return Err(Refusal {
+            reason: Reason::Cut,
+            place: at,
+        });
     }
     let tag = tag_at(file, at);
     if !is_allowed(place, tag) {
-        return Reading::Refused(refusal::WRONG_TAG, at);
+        return Err(Refusal {
+            reason: Reason::WrongTag,
+            place: at,
+        });
     }
     let length = length_of(tag);
     if two_at(file, at + TAG_BYTES) != (length as u16) {
-        return Reading::Refused(refusal::WRONG_LENGTH, at);
+        return Err(Refusal {
+            reason: Reason::WrongLength,
+            place: at,
+        });
     }
-    if file.len() - at - HEAD_BYTES < (length as usize) {
-        return Reading::Refused(refusal::CUT, at);
+    if left < HEAD_BYTES + (length as usize) {
+        return Err(Refusal {
+            reason: Reason::Cut,
+            place: at,
+        });
     }
     let count = length / 2;
-    Reading::Whole(Field {
-        tag: tag,
+    Ok(Field {
+        tag,
         a: read_number(file, at, count, 0),
         b: read_number(file, at, count, 1),
         c: read_number(file, at, count, 2),
@@ -381,7 +391,7 @@ pub fn field_of(file: &[u8], offset: u32) -> Field
     let length = length_of(tag);
     let count = length / 2;
     Field {
-        tag: tag,
+        tag,
         a: number_of(file, at, count, 0),
         b: number_of(file, at, count, 1),
         c: number_of(file, at, count, 2),
@@ -422,7 +432,7 @@ impl<'a> Reader<'a> {
     }
 
     // The field at the offset: head cut, tag, length, payload cut.
-    pub fn field(self, place: Place) -> Reading
+    pub fn field(self, place: Place) -> Result<Field, Refusal>
         ensures { result ≡ field_at self.entry.file.now place self.entry.at }
     {
         field_at(self.file, place, self.at)
@@ -444,7 +454,7 @@ pub fn read_two(file: &[u8], at: usize) -> u16
 }
 
 // The field at an offset of a file.
-pub fn read_field(file: &[u8], place: Place, at: usize) -> Reading
+pub fn read_field(file: &[u8], place: Place, at: usize) -> Result<Field, Refusal>
     ensures { result ≡ field_at file.now place at }
 {
     Reader::new(file, at).field(place)

@@ -1,16 +1,14 @@
 -- 01's figures of a file, from its settings, its rows and the tally of its tree.
 -- Assumes nothing.
-use Rattle.std.specs.Prelude.{if◌then◌else◌, not, ◌&&◌, ℕ, ◌+◌, ◌*◌, eqb, leb}
+use Rattle.meaning.specs.declared.Reason.TheVariants as Reason
+use Rattle.meaning.specs.Refusals.{Outcome, refused}
+use Rattle.std.specs.Prelude.{Ok, Err, if◌then◌else◌, not, ◌&&◌, ℕ, ◌+◌, ◌*◌, eqb, leb}
 use Rattle.meaning.specs.Numbers.Mode
-use Rattle.meaning.specs.Numbers.Refusal
 use Rattle.meaning.specs.File.{settings_bytes, scope_bytes, symbol_bytes}
 use Rattle.meaning.specs.Charges.{Figures, import_bytes}
-use Rattle.meaning.specs.Reading.{Outcome, accepted, refused}
 use Rattle.figures.specs.Tally.{import_records, tally_figures}
 use Rattle.figures.specs.declared.tally.Tally.{Tally}
 use Rattle.figures.specs.declared.FinalFigures.{FinalFigures}
-use Rattle.figures.specs.declared.Figured.{Figured}
-use Rattle.figures.specs.declared.Figured.TheVariants.{Fine, Refused}
 
 -- no part of a sum is larger: a counter has 32 bits, and few are added
 abbrev pub most_part : ℕ
@@ -38,15 +36,15 @@ final_f mode esm scopes symbols t =
     }
 
 -- 8: inline with a context to make
-unfoldable pub figured_f : ℕ → ℕ → ℕ → ℕ → Tally → Figured
+unfoldable pub figured_f : ℕ → ℕ → ℕ → ℕ → Tally → Outcome FinalFigures
 figured_f mode esm scopes symbols t =
-    if eqb mode Mode.Inline && leb 1 (tally_figures t).contexts then Refused Refusal.InlineContext 0 else Fine (final_f mode esm scopes symbols t)
+    if eqb mode Mode.Inline && leb 1 (tally_figures t).contexts then refused Reason.InlineContext 0 else Ok (final_f mode esm scopes symbols t)
 
--- 01's answer: the figures, or number and place
+-- what the code answers: the figures, or the refusal
 abbrev pub shown_figures : Figures → FinalFigures
 shown_figures g =
     record { records = g.records; scopes = g.scopes; symbols = g.symbols; contexts = g.contexts; bytes = g.bytes }
 
-abbrev pub figured_of : Outcome Figures → Figured
-figured_of (accepted g) = Fine (shown_figures g)
-figured_of (refused c p) = Refused c p
+abbrev pub figured_of : Outcome Figures → Outcome FinalFigures
+figured_of (Ok g) = Ok (shown_figures g)
+figured_of (Err r) = Err r

@@ -4,7 +4,7 @@ use Rattle.std.specs.Prelude.{if◌then◌else◌, ◌≡◌, refl, List, [], �
 use Rattle.meaning.specs.Numbers.Tag
 use Rattle.meaning.specs.Numbers.Kind
 use Rattle.meaning.specs.Tree.{one_of, Head, Forest, none, more, count}
-use Rattle.meaning.specs.File.{Symbol, symbol_row, numbers_of, head_bytes, field_bytes, symbol_bytes}
+use Rattle.meaning.specs.File.{Symbol, symbol_row, numbers_of, settings_bytes, scope_bytes, head_bytes, field_bytes, symbol_bytes}
 use Rattle.meaning.specs.Grammar.{two}
 use Rattle.meaning.specs.Statements.{is_using}
 use Rattle.meaning.specs.ForOf.{binds_identifier, bound_symbol, binds_name}
@@ -109,6 +109,10 @@ inserts_in as_read ExportedDeclarator h = false
 inserts_in as_read ExportedName h = false
 inserts_in as_read Held h = false
 inserts_in as_read (Body y) h = eqb h.tag Tag.Block && not (binds_name as_read h.a y)
+
+-- where the symbol rows begin, behind so many scope rows
+abbrev pub rows_from : ℕ → ℕ
+rows_from scopes = settings_bytes + scope_bytes * scopes
 
 -- symbol row i counted from 0, of rows that begin at an offset
 abbrev pub symbol_in_row : List ℕ → ℕ → ℕ → Symbol

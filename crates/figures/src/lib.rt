@@ -14,24 +14,17 @@ use fields::{
     LOAD_BYTES, MENTION_BYTES, MODULE_LINE_BYTES, SCOPE_BYTES, SETTINGS_BYTES, SPECIFIER_BYTES,
     STEP_BYTES, SYMBOL_BYTES, TRY_BYTES,
 };
-use meaning::{mode, refusal};
+use meaning::{Reason, Refusal, mode};
 use tally::Tally;
 
 // Records, scopes and symbols of the lowered file, contexts made, and its length in bytes.
-#[derive(Clone, Copy)]
+#[derive(Clone, Copy, Debug, PartialEq, Eq)]
 pub struct FinalFigures {
     pub records: u64,
     pub scopes: u64,
     pub symbols: u64,
     pub contexts: u64,
     pub bytes: u64,
-}
-
-// The figures, or a refusal's number and place.
-#[derive(Clone, Copy)]
-pub enum Figured {
-    Fine(FinalFigures),
-    Refused(u8, usize),
 }
 
 // ---- what 01 charges for each line
@@ -259,11 +252,20 @@ fn lacks_helper(mode: u16, contexts: u64) -> bool
 }
 
 // The figures of a file, or a refusal of inline mode with a context to make.
-pub fn figures_of(mode: u16, esm: u16, scopes: u16, symbols: u16, t: Tally) -> Figured
+pub fn figures_of(
+    mode: u16,
+    esm: u16,
+    scopes: u16,
+    symbols: u16,
+    t: Tally,
+) -> Result<FinalFigures, Refusal>
     ensures { result ≡ figured_f mode esm scopes symbols t }
 {
     if lacks_helper(mode, contexts_of(t)) {
-        return Figured::Refused(refusal::INLINE_CONTEXT, 0);
+        return Err(Refusal {
+            reason: Reason::InlineContext,
+            place: 0,
+        });
     }
-    Figured::Fine(final_figures(mode, esm, scopes, symbols, t))
+    Ok(final_figures(mode, esm, scopes, symbols, t))
 }

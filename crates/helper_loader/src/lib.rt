@@ -3,7 +3,7 @@
 
 ghost use Rattle.std.specs.Prelude.{◌≡◌};
 ghost use Rattle.scoping.specs.Changes.{in_symbols};
-ghost use Rattle.helper_loader.specs.Load.{loading, helper_flags, make_helper_f, load_runtime_f, is_first_f, helper_load_f};
+ghost use Rattle.helper_loader.specs.Load.{loading, helper_flags, make_helper_f, load_runtime_f, helper_load_f};
 
 use meaning::{ScopeId, SymbolId, known_name, mode, symbol_flag};
 use scoping::Ctx;
@@ -29,6 +29,7 @@ fn helper_flags(esm: u16) -> u16
 }
 
 // One symbol on `using_ctx` in scope 1.
+#[tactic(auto, unfolding(crate::specs::Load::make_helper_f))]
 fn make_helper(symbols: &mut [u16], ctx: Ctx) -> Ctx
     ensures { in_symbols symbols.new result ≡ make_helper_f (in_symbols symbols.old ctx) }
 {
@@ -45,6 +46,7 @@ fn make_helper(symbols: &mut [u16], ctx: Ctx) -> Ctx
 }
 
 // Runtime: the first load makes the helper's symbol, later ones read it.
+#[tactic(auto, unfolding(crate::specs::Load::load_runtime_f))]
 fn load_runtime(symbols: &mut [u16], ctx: Ctx) -> Ctx
     ensures { in_symbols symbols.new result ≡ load_runtime_f (in_symbols symbols.old ctx) }
 {
@@ -55,33 +57,26 @@ fn load_runtime(symbols: &mut [u16], ctx: Ctx) -> Ctx
     }
 }
 
-// The walk made no load before this one: its context, which is counted already, is the only one.
-fn is_first(ctx: Ctx) -> bool
-    ensures { result ≡ is_first_f ctx }
-{
-    ctx.contexts <= 1
-}
-
 // The Load of a context. Runtime: the helper's symbol; else: the symbol of `babelHelpers` seen from the current scope, or 0.
+#[tactic(auto, unfolding(crate::specs::Load::helper_load_f))]
 pub fn helper_load(scopes: &[u16], symbols: &mut [u16], ctx: Ctx, cur: ScopeId) -> Loaded
     ensures { loading symbols.new result ≡ helper_load_f scopes.now (in_symbols symbols.old ctx) cur.0 }
 {
-    let first = is_first(ctx);
+    // The walk made no load before this one: its context, which is counted already, is the only one.
+    let first = ctx.contexts <= 1;
     if ctx.mode == mode::RUNTIME {
         let loaded = load_runtime(symbols, ctx);
-        let symbol = loaded.helper;
         Loaded {
             ctx: loaded,
             form: mode::RUNTIME,
-            symbol,
+            symbol: loaded.helper,
             first,
         }
     } else {
-        let symbol = scoping::find_binding(scopes, symbols, ctx, cur, known_name::BABEL_HELPERS);
         Loaded {
             ctx,
             form: mode::EXTERNAL,
-            symbol,
+            symbol: scoping::find_binding(scopes, symbols, ctx, cur, known_name::BABEL_HELPERS),
             first,
         }
     }

@@ -1,10 +1,10 @@
 -- WHAT LOWERING WRITES, where it can be read, is left as it is by a second lowering.
 -- Assumes nothing.
-use Rattle.std.specs.Prelude.{◌≡◌, List, ℕ, ◌*◌, length}
+use Rattle.std.specs.Prelude.{Ok, ◌≡◌, List, ℕ, ◌*◌, length}
 use Rattle.std.proofs.Common.{sym, subst, ◌∙◌}
 use Rattle.std.proofs.Math.Path.{ap}
 use Rattle.meaning.specs.File.{File, written}
-use Rattle.meaning.specs.Reading.{accepted, read_file}
+use Rattle.meaning.specs.Reading.{read_file}
 use Rattle.meaning.specs.Renumbering.{named_scopes, new_number, renumbered}
 use Rattle.meaning.specs.Walk.{is_over, start, visits, file_at}
 use Rattle.meaning.specs.ImportLine.{completed}
@@ -29,7 +29,7 @@ use Rattle.idempotence_laws.specs.Fields.{field_figures, read_figures}
 use Rattle.idempotence_laws.proofs.Scopes.{symbol_scopes}
 
 -- a file read, and the file read from what its lowering writes
-module _ (b : List ℕ) (f : File) (bytes : Bytes b) (read : read_file b ≡ accepted f) where
+module _ (b : List ℕ) (f : File) (bytes : Bytes b) (read : read_file b ≡ Ok f) where
   abbrev lowered : File
   lowered = lowered_file f
 
@@ -49,7 +49,7 @@ module _ (b : List ℕ) (f : File) (bytes : Bytes b) (read : read_file b ≡ acc
   unfolding lowered_file renumbered
   lowered_quiet = let tree = (file_at (final_spot f)).tree in numbered_quiet (new_number (named_scopes tree)) tree final_quiet
 
-  module _ (g : File) (again : read_file (written lowered) ≡ accepted g) where
+  module _ (g : File) (again : read_file (written lowered) ≡ Ok g) where
     -- the tree that is read is the lowered one as it is written
     tree_is : tree_in (written lowered) ≡ g.tree
     tree_is = tree_read (written lowered) g (lowered_bytes b f read bytes) again

@@ -1,13 +1,13 @@
 -- A file in which no using is left to take up is left as it is by the walk, and its final figures are its own counts.
 -- Assumes nothing.
-use Rattle.std.specs.Prelude.{if◌then◌else◌, ◌≡◌, refl, Bool, true, false, ◌&&◌, List, [], ◌∷◌, ℕ, zero, suc, ◌*◌, eqb}
+use Rattle.std.specs.Prelude.{Ok, if◌then◌else◌, ◌≡◌, refl, Bool, true, false, ◌&&◌, List, [], ◌∷◌, ℕ, zero, suc, ◌*◌, eqb}
 use Rattle.std.proofs.Math.Path.{sym, ap}
 use Rattle.std.proofs.Common.{subst, ◌∙◌, arith, eqb-true, eq-eqb}
 use Rattle.meaning.specs.Numbers.Tag
 use Rattle.meaning.specs.Tree.{Head, Forest, none, more, one, node, ◌&◌}
 use Rattle.meaning.specs.File.{File}
 use Rattle.meaning.specs.Scoping.{Store}
-use Rattle.meaning.specs.Reading.{accepted, read_file}
+use Rattle.meaning.specs.Reading.{read_file}
 use Rattle.meaning.specs.Statements.{any_using}
 use Rattle.meaning.specs.Contexts.{any_part_using, any_case_using, for_list}
 use Rattle.meaning.specs.Walk.{
@@ -158,7 +158,7 @@ quiet_walk k f q o =
 
 -- ---- a file
 
-module _ (b : List ℕ) (f : File) (e : read_file b ≡ accepted f) (quiet : AllQuiet f.tree) where
+module _ (b : List ℕ) (f : File) (e : read_file b ≡ Ok f) (quiet : AllQuiet f.tree) where
   stays : Has f.tree (store_of f) (last_spot f)
   stays = rw (last_spot_lem f) (quiet_walk (2 * (final_figures f).records) f (accepted_fit b f e) quiet)
 

@@ -1,10 +1,10 @@
 -- In an accepted file every symbol has a scope row.
 -- Assumes nothing.
-use Rattle.std.specs.Prelude.{◌≡◌, refl, true, ◌&&◌, List, ℕ, zero, suc, ◌+◌, ◌*◌, ◌≤◌, ◌<◌, length, leb}
+use Rattle.std.specs.Prelude.{Ok, ◌≡◌, refl, true, ◌&&◌, List, ℕ, zero, suc, ◌+◌, ◌*◌, ◌≤◌, ◌<◌, length, leb}
 use Rattle.std.proofs.Common.{sym, ap, subst, arith, leb-true}
 use Rattle.meaning.specs.File.{symbol_bytes, Symbol, File, numbers_of, field_bytes}
 use Rattle.meaning.specs.Grammar.{tags_of, two, number, field_of, symbol_right}
-use Rattle.meaning.specs.Reading.{accepted, symbols_in, read_file}
+use Rattle.meaning.specs.Reading.{symbols_in, read_file}
 use Rattle.meaning.specs.declared.Place.TheVariants.{SymbolRow}
 use Rattle.spec_laws.specs.Tags.{and_left, and_right}
 use Rattle.parsing.specs.Parsed.{FieldAt}
@@ -37,7 +37,7 @@ rows_scopes f scopes (suc n) at each =
           rw next (each (suc j) (omega arith))),
     )
 
-pub symbol_scopes : (b : List ℕ) (g : File) → read_file b ≡ accepted g → All (λ y. y.scope ≤ length g.scopes) g.symbols
+pub symbol_scopes : (b : List ℕ) (g : File) → read_file b ≡ Ok g → All (λ y. y.scope ≤ length g.scopes) g.symbols
 symbol_scopes b g e =
     let q = file_parsed b g e in
     subst (All (λ (y : Symbol). y.scope ≤ length g.scopes)) (sym q.symbols)

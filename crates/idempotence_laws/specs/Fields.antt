@@ -1,10 +1,10 @@
 -- The figures of a file by its bytes alone: what a reader of its fields counts, and no context.
 -- Assumes nothing.
-use Rattle.std.specs.Prelude.{◌≡◌, List, ℕ, length, eqb}
+use Rattle.std.specs.Prelude.{Ok, ◌≡◌, List, ℕ, length, eqb}
 use Rattle.std.proofs.Common.{ap, ◌∙◌, arith}
 use Rattle.meaning.specs.Numbers.Tag
 use Rattle.meaning.specs.File.{File, written}
-use Rattle.meaning.specs.Reading.{accepted, read_file}
+use Rattle.meaning.specs.Reading.{read_file}
 use Rattle.meaning.specs.Charges.{Figures, figures, figures_in}
 use Rattle.spec_laws.specs.Trees.{Bytes}
 use Rattle.spec_laws.specs.Figures.{figures_same}
@@ -21,7 +21,7 @@ field_figures bytes =
     figures (field_count is_record fields) (field_count (λ t. eqb t Tag.Scope) fields) (field_count (λ t. eqb t Tag.Symbol) fields) 0 (length bytes)
 
 -- Those of an accepted file are its counts as read.
-pub read_figures : (b : List ℕ) (f : File) → Bytes b → read_file b ≡ accepted f → figures_in f ≡ field_figures b
+pub read_figures : (b : List ℕ) (f : File) → Bytes b → read_file b ≡ Ok f → figures_in f ≡ field_figures b
 unfolding field_figures figures_in
 read_figures b f bytes e =
     let tagged = read_tagged b f bytes e in

@@ -1,26 +1,26 @@
 -- What the code of this crate computes.
 -- Assumes nothing.
-use Rattle.std.specs.Prelude.{if◌then◌else◌, List, ℕ, ◌*◌, min, leb, length}
+use Rattle.meaning.specs.declared.Reason.TheVariants as Reason
+use Rattle.std.specs.Prelude.{Ok, Err, if◌then◌else◌, List, ℕ, ◌*◌, min, leb, length}
 use Rattle.std.proofs.lemmas.List.Edits.{sets}
-use Rattle.meaning.specs.Numbers.Refusal
-use Rattle.checking.specs.declared.Surveyed.{Surveyed}
-use Rattle.checking.specs.declared.Surveyed.TheVariants.{Fine, Refused as RefusedSurvey}
 use Rattle.tables.specs.Loops.{until}
 use Rattle.mentions.specs.Counters.{add_rows_f, on_counts}
 use Rattle.path.specs.Path.{Tables, tables}
 use Rattle.import_line.specs.Import.{complete_in}
+use Rattle.meaning.specs.Refusals.{Outcome, refused}
+use Rattle.checking.specs.declared.Surveyed.{Surveyed}
+use Rattle.checking.specs.Survey.{fine}
 use Rattle.start.specs.Flat.{fill_f}
 use Rattle.walk.specs.Visit.{visit_f}
 use Rattle.walk.specs.Over.{is_over_in}
 use Rattle.renumbering.specs.Numbers.{numbered_f}
 use Rattle.writing.specs.Writing.{file_bytes}
 use Rattle.lowering.specs.Lower.{Finished, finished, zeros_for}
-use Rattle.lowering.specs.declared.Lowered.TheVariants.{Written, Refused}
 
 -- the output, by the answer of start's admission
-unfoldable pub admit_by : Surveyed → List ℕ → Surveyed
-admit_by (Fine l g) o = if leb g.bytes (length o) then Fine l g else RefusedSurvey Refusal.ShortOutput (length o)
-admit_by (RefusedSurvey c p) o = RefusedSurvey c p
+unfoldable pub admit_by : Outcome Surveyed → List ℕ → Outcome Surveyed
+admit_by (Ok q) o = if leb q.figures.bytes (length o) then fine q.layout q.figures else refused Reason.ShortOutput (length o)
+admit_by (Err r) o = Err r
 
 -- visits until the walk is over, so many at most
 unfoldable pub run_f : ℕ → Tables → Tables
@@ -40,8 +40,8 @@ unfoldable pub finish_f : Tables → List ℕ → List ℕ
 finish_f q o = sets o 0 (bytes_in (count_visited_f (complete_in q)))
 
 -- by the answer of admission: the tables filled, visited, written and cleared
-unfoldable pub lower_by : Surveyed → List ℕ → List ℕ → List ℕ → List ℕ → List ℕ → Finished
-lower_by (Fine l g) bytes r s y o =
-    let rows = min g.records 65535 in
-    finished (Written g) (zeros_for r) (zeros_for s) (zeros_for y) (finish_f (run_f (2 * rows) (fill_f bytes l rows r s y)) o)
-lower_by (RefusedSurvey c p) bytes r s y o = finished (Refused c p) r s y o
+unfoldable pub lower_by : Outcome Surveyed → List ℕ → List ℕ → List ℕ → List ℕ → List ℕ → Finished
+lower_by (Ok q) bytes r s y o =
+    let rows = min q.figures.records 65535 in
+    finished (Ok q.figures) (zeros_for r) (zeros_for s) (zeros_for y) (finish_f (run_f (2 * rows) (fill_f bytes q.layout rows r s y)) o)
+lower_by (Err why) bytes r s y o = finished (Err why) r s y o

@@ -1,6 +1,7 @@
 -- What the code computes is 01's lowering.
 -- Assumes nothing.
-use Rattle.std.specs.Prelude.{if◌then◌else◌, ◌≡◌, Bool, ℕ, ◌+◌, ◌*◌, ◌-◌, ◌/◌, ◌≤◌, min, leb}
+use Rattle.meaning.specs.declared.Reason.TheVariants as Reason
+use Rattle.std.specs.Prelude.{Ok, Err, if◌then◌else◌, ◌≡◌, Bool, ℕ, ◌+◌, ◌*◌, ◌-◌, ◌/◌, ◌≤◌, min, leb}
 use Rattle.std.proofs.Math.Path.{refl, ap}
 use Rattle.std.proofs.Common.{sym, ◌∙◌, leb-true}
 use Rattle.std.proofs.Math.Bool.{true, false}
@@ -11,7 +12,7 @@ use Rattle.std.proofs.lemmas.List.{length-replicate}
 use Rattle.std.proofs.Math.Seq.{sets}
 use Rattle.meaning.specs.Mentions.{mentions}
 use Rattle.meaning.specs.File.{File, written}
-use Rattle.meaning.specs.Reading.{Outcome, accepted, refused, ◌>>=◌, ◌>>◌, ensure, read_file}
+use Rattle.meaning.specs.Reading.{◌>>=◌, ◌>>◌, ensure, read_file}
 use Rattle.meaning.specs.Walk.{Spot, at, leaving, over, is_over, tree_at, store_at, file_at}
 use Rattle.meaning.specs.Charges.{Figures, final_figures}
 use Rattle.meaning.specs.Lowering.{Lent, check_output, admit, admit_output, last_spot, final_spot, lowered_file, Written, lower}
@@ -22,9 +23,9 @@ use Rattle.charge_laws.proofs.Totals.Fits.{accepted_fits}
 use Rattle.spec_laws.specs.Trees.{Bytes}
 use Rattle.bound_laws.specs.MentionsFit.{mentions_fit}
 use Rattle.figures.specs.Figures.{shown_figures}
+use Rattle.meaning.specs.Refusals.{Outcome, refused}
 use Rattle.checking.specs.declared.Surveyed.{Surveyed}
-use Rattle.checking.specs.declared.Surveyed.TheVariants.{Fine, Refused as RefusedSurvey}
-use Rattle.checking.specs.Survey.{layout_of, surveyed_of}
+use Rattle.checking.specs.Survey.{layout_of, fine, surveyed_of}
 use Rattle.tables.specs.Columns.ScopeTable
 use Rattle.tables.specs.Table.{counts_at}
 use Rattle.mentions.specs.Counters.{add_record_f, add_rows_f}
@@ -52,7 +53,6 @@ use Rattle.lowering.specs.Lower.{finished, zeros_for, written_over, lower_of, lo
 use Rattle.walk.specs.Over.{until_over}
 use Rattle.lowering.specs.Flat.{admit_by, run_f, count_visited_f, bytes_in, finish_f, lower_by}
 use Rattle.lowering.specs.Bytes.{held_bytes}
-use Rattle.lowering.specs.declared.Lowered.TheVariants.{Written as WrittenIn}
 
 -- ---- the bytes at the end
 
@@ -85,14 +85,14 @@ over_rows (over tree st) g z n o fits =
 over_rows (at d h k r p st) g z n o fits = absurd (clash refl o)
 over_rows (leaving k h d r p st) g z n o fits = absurd (clash refl o)
 
-module _ (b r s y : List ℕ) (f : File) (bytes : Bytes b) (e : admit b (lent_in r s y) ≡ accepted f) where
+module _ (b r s y : List ℕ) (f : File) (bytes : Bytes b) (e : admit b (lent_in r s y) ≡ Ok f) where
   abbrev x : Figures
   x = final_figures f
 
   abbrev n : ℕ
   n = 2 * x.records
 
-  read : read_file b ≡ accepted f
+  read : read_file b ≡ Ok f
   read = (admitted b r s y f e).0
 
   small : min x.records 65535 ≡ x.records
@@ -176,43 +176,43 @@ module _ (b r s y : List ℕ) (f : File) (bytes : Bytes b) (e : admit b (lent_in
 
 -- 10, by its test
 long_enough : (f : File) (o : ℕ) (c : Bool)
-    → (if c then Fine (layout_of f) (shown_figures (final_figures f)) else RefusedSurvey 10 o) ≡ surveyed_of (ensure c 10 o >> accepted f)
+    → (if c then fine (layout_of f) (shown_figures (final_figures f)) else refused Reason.ShortOutput o) ≡ surveyed_of (ensure c Reason.ShortOutput o >> Ok f)
 long_enough f o true = refl
 long_enough f o false = refl
 
 by_start : (o : List ℕ) (a : Outcome File)
-    → admit_by (surveyed_of a) o ≡ surveyed_of (a >>= (λ f. check_output (length o) (final_figures f) >> accepted f))
+    → admit_by (surveyed_of a) o ≡ surveyed_of (a >>= (λ f. check_output (length o) (final_figures f) >> Ok f))
 unfolding admit_by check_output
-by_start o (accepted f) = long_enough f (length o) (leb (final_figures f).bytes (length o))
-by_start o (refused c p) = refl
+by_start o (Ok f) = long_enough f (length o) (leb (final_figures f).bytes (length o))
+by_start o (Err r) = refl
 
 -- THE ANSWER of admission with the output, by that of start, is 01's.
-pub admit_output_is : (b : List ℕ) (lent : Lent) (o : List ℕ) (d : Surveyed) → d ≡ surveyed_of (admit b lent)
+pub admit_output_is : (b : List ℕ) (lent : Lent) (o : List ℕ) (d : Outcome Surveyed) → d ≡ surveyed_of (admit b lent)
     → admit_by d o ≡ surveyed_of (admit_output b lent (length o))
 unfolding admit_output
-admit_output_is b lent o d e = ap (λ (d : Surveyed). admit_by d o) e ∙ by_start o (admit b lent)
+admit_output_is b lent o d e = ap (λ (d : Outcome Surveyed). admit_by d o) e ∙ by_start o (admit b lent)
 
 module _ (b r s y o : List ℕ) (bytes : Bytes b) where
   -- what is written of a file
   abbrev of_file : Outcome File → Outcome Written
-  of_file a = a >>= (λ f. accepted (record { file = written (lowered_file f); figures = final_figures f }))
+  of_file a = a >>= (λ f. Ok (record { file = written (lowered_file f); figures = final_figures f }))
 
-  by_output : (f : File) (c : Bool) → leb (final_figures f).bytes (length o) ≡ c → admit b (lent_in r s y) ≡ accepted f
-      → lower_by (surveyed_of (ensure c 10 (length o) >> accepted f)) b r s y o ≡ lower_of (of_file (ensure c 10 (length o) >> accepted f)) r s y o
+  by_output : (f : File) (c : Bool) → leb (final_figures f).bytes (length o) ≡ c → admit b (lent_in r s y) ≡ Ok f
+      → lower_by (surveyed_of (ensure c Reason.ShortOutput (length o) >> Ok f)) b r s y o ≡ lower_of (of_file (ensure c Reason.ShortOutput (length o) >> Ok f)) r s y o
   unfolding lower_by
   by_output f true c e =
-      ap (finished (WrittenIn (shown_figures (final_figures f))) (zeros_for r) (zeros_for s) (zeros_for y))
+      ap (finished (Ok (shown_figures (final_figures f))) (zeros_for r) (zeros_for s) (zeros_for y))
       (finish_is b r s y f bytes e o (leb-true _ _ c))
   by_output f false c e = refl
 
   by_admission : (a : Outcome File) → admit b (lent_in r s y) ≡ a
-      → let admitted = a >>= (λ f. check_output (length o) (final_figures f) >> accepted f) in
+      → let admitted = a >>= (λ f. check_output (length o) (final_figures f) >> Ok f) in
       lower_by (surveyed_of admitted) b r s y o ≡ lower_of (of_file admitted) r s y o
   unfolding lower_by check_output
-  by_admission (accepted f) e = by_output f (leb (final_figures f).bytes (length o)) refl e
-  by_admission (refused c p) e = refl
+  by_admission (Ok f) e = by_output f (leb (final_figures f).bytes (length o)) refl e
+  by_admission (Err r) e = refl
 
   -- THE ANSWER by that of admission is 01's lowering.
-  pub lower_is : (d : Surveyed) → d ≡ surveyed_of (admit_output b (lent_in r s y) (length o)) → lower_by d b r s y o ≡ lower_f b r s y o
+  pub lower_is : (d : Outcome Surveyed) → d ≡ surveyed_of (admit_output b (lent_in r s y) (length o)) → lower_by d b r s y o ≡ lower_f b r s y o
   unfolding lower_f lower admit_output
-  lower_is d e = ap (λ (d : Surveyed). lower_by d b r s y o) e ∙ by_admission (admit b (lent_in r s y)) refl
+  lower_is d e = ap (λ (d : Outcome Surveyed). lower_by d b r s y o) e ∙ by_admission (admit b (lent_in r s y)) refl

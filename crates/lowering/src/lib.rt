@@ -14,15 +14,11 @@ ghost use Rattle.lowering.specs.Flat.{run_f, finish_f};
 
 use checking::Surveyed;
 use figures::FinalFigures;
-use meaning::{RecordId, refusal};
+use meaning::{Reason, RecordId, Refusal};
 use path::Walk;
 
-// What lower answers: the figures of the written file, its length among them, or a refusal's number and place.
-#[derive(Clone, Copy)]
-pub enum Lowered {
-    Written(FinalFigures),
-    Refused(u8, usize),
-}
+// A table names no more records.
+const MOST_RECORDS: u64 = tables::LARGEST as u64;
 
 // The layout and the figures of a file that is admitted and for which the output is long enough: 01's refusals 1 to 10.
 pub fn admit_output(
@@ -31,19 +27,19 @@ pub fn admit_output(
     scopes: &[u16],
     symbols: &[u16],
     out: &[u8],
-) -> Surveyed
+) -> Result<Surveyed, Refusal>
     ensures { result
         ≡ surveyed_of (admit_output file.now (lent_in records.now scopes.now symbols.now) (length out.now)) }
 {
-    let a = start::admit(file, records, scopes, symbols);
-    let Surveyed::Fine(l, g) = a else {
-        return a;
-    };
+    let admitted = start::admit(file, records, scopes, symbols)?;
     let size = out.len();
-    if (size as u64) < g.bytes {
-        return Surveyed::Refused(refusal::SHORT_OUTPUT, size);
+    if (size as u64) < admitted.figures.bytes {
+        return Err(Refusal {
+            reason: Reason::ShortOutput,
+            place: size,
+        });
     }
-    Surveyed::Fine(l, g)
+    Ok(admitted)
 }
 
 // Visits until the walk is over, so many at most.
@@ -101,18 +97,15 @@ pub fn lower(
     scopes: &mut [u16],
     symbols: &mut [u16],
     out: &mut [u8],
-) -> Lowered
+) -> Result<FinalFigures, Refusal>
     ensures { finished result records.new scopes.new symbols.new out.new
         ≡ lower_f file.now records.old scopes.old symbols.old out.old }
 {
-    match admit_output(file, records, scopes, symbols, out) {
-        Surveyed::Fine(l, g) => {
-            let rows = start::capped(g.records);
-            let first = start::fill(file, l, rows, records, scopes, symbols);
-            let last = run(first, 2 * (rows as u32), records, scopes, symbols);
-            finish(last, records, scopes, symbols, out);
-            Lowered::Written(g)
-        }
-        Surveyed::Refused(c, p) => Lowered::Refused(c, p),
-    }
+    let admitted = admit_output(file, records, scopes, symbols, out)?;
+    let figures = admitted.figures;
+    let rows = figures.records.min(MOST_RECORDS) as u16;
+    let first = start::fill(file, admitted.layout, rows, records, scopes, symbols);
+    let last = run(first, 2 * (rows as u32), records, scopes, symbols);
+    finish(last, records, scopes, symbols, out);
+    Ok(figures)
 }

@@ -1,14 +1,16 @@
 -- Small files, computed: each holds the definitions to a rule of 01 or of a request. All of 01's cases are in crates/cases.
 -- Assumes nothing.
-use Rattle.std.specs.Prelude.{◌≡◌, refl, true, List, [], ◌∷◌, ◌++◌, map, ℕ, zero, suc, length, take}
+use Rattle.meaning.specs.Refusals.{Outcome, refused}
+use Rattle.std.specs.Prelude.{Ok, Err, ◌≡◌, refl, true, List, [], ◌∷◌, ◌++◌, map, ℕ, zero, suc, length, take}
 use Prim.Native.String.{String}
+use Rattle.meaning.specs.declared.Reason.TheVariants as Reason
 use Rattle.meaning.specs.Numbers.Tag
 use Rattle.meaning.specs.Numbers.Kind
 use Rattle.meaning.specs.Numbers.Letter
 use Rattle.meaning.specs.Numbers.SymbolFlag
 use Rattle.meaning.specs.Tree.{hd, Forest, none, one, ◌&◌}
 use Rattle.meaning.specs.File.{scope_row, Symbol, symbol_row, File}
-use Rattle.meaning.specs.Reading.{Outcome, accepted, refused, read_forest, read_file}
+use Rattle.meaning.specs.Reading.{read_forest, read_file}
 use Rattle.meaning.specs.Scoping.{get_binding, find_binding, block_scoped_in}
 use Rattle.meaning.specs.Shapes.{call, load}
 use Rattle.meaning.specs.Statements.{take_up}
@@ -32,7 +34,7 @@ lowered text = lower (bytes text) (lend 100 100 100) 1000
 
 -- records, scopes, symbols, contexts and length, and the file written
 abbrev gives : ℕ → ℕ → ℕ → ℕ → ℕ → String → Outcome Written
-gives r s y c b text = accepted (record { file = bytes text; figures = figures r s y c b })
+gives r s y c b text = Ok (record { file = bytes text; figures = figures r s y c b })
 
 -- a block with one using
 abbrev whole_case : List ℕ
@@ -50,73 +52,73 @@ deep n = bytes "40:1,0 41:0,16 1:1,1 3:0,1,1" ++ nested n
 -- ---- reading
 
 -- a field's head is three bytes
-pub cut_head_lem : read_file (take 16 (bytes "40:1,0 41:0,16 1:1,1")) ≡ refused 2 14
+pub cut_head_lem : read_file (take 16 (bytes "40:1,0 41:0,16 1:1,1")) ≡ refused Reason.Cut 14
 unfolding computing
 cut_head_lem = refl
 
 -- 3 goes before 4
-pub tag_before_length : read_file (bytes "40:1,0 41:0,16 2:1") ≡ refused 3 14
+pub tag_before_length : read_file (bytes "40:1,0 41:0,16 2:1") ≡ refused Reason.WrongTag 14
 unfolding computing
 tag_before_length = refl
 
 -- the module setting is 0 or 1
-pub module_setting : read_file (bytes "40:1,2 41:0,16 1:1,0") ≡ refused 5 0
+pub module_setting : read_file (bytes "40:1,2 41:0,16 1:1,0") ≡ refused Reason.WrongNumber 0
 unfolding computing
 module_setting = refl
 
 -- a scope row is named by one record
-pub named_once : read_file (bytes "40:1,0 41:0,16 41:1,0 1:1,2 2:2,0 2:2,0") ≡ refused 5 35
+pub named_once : read_file (bytes "40:1,0 41:0,16 41:1,0 1:1,2 2:2,0 2:2,0") ≡ refused Reason.WrongNumber 35
 unfolding computing
 named_once = refl
 
 -- the lowest row that no record names is refused at its own field
-pub unnamed_row : read_file (bytes "40:1,0 41:0,16 41:1,0 41:1,0 41:1,0 1:1,1 2:3,0") ≡ refused 5 14
+pub unnamed_row : read_file (bytes "40:1,0 41:0,16 41:1,0 41:1,0 41:1,0 1:1,1 2:3,0") ≡ refused Reason.WrongNumber 14
 unfolding computing
 unnamed_row = refl
 
 -- one record may name a symbol twice: both numbers of a Step count
-pub named_twice : read_file (bytes "40:1,0 41:0,16 42:10,6,1,0,1 1:1,1 29:0,1,1") ≡ refused 5 14
+pub named_twice : read_file (bytes "40:1,0 41:0,16 42:10,6,1,0,1 1:1,1 29:0,1,1") ≡ refused Reason.WrongNumber 14
 unfolding computing
 named_twice = refl
 
 -- the lowest row with a wrong count is refused at its own field, behind the unnamed rows
-pub wrong_count_lem : read_file (bytes "40:1,0 41:0,16 42:10,6,1,0,0 42:11,6,1,0,1 42:12,6,1,0,1 1:1,0") ≡ refused 5 27
+pub wrong_count_lem : read_file (bytes "40:1,0 41:0,16 42:10,6,1,0,0 42:11,6,1,0,1 42:12,6,1,0,1 1:1,0") ≡ refused Reason.WrongNumber 27
 unfolding computing
 wrong_count_lem = refl
 
-pub unnamed_before_count : read_file (bytes "40:1,0 41:0,16 41:1,0 42:10,6,1,0,1 1:1,0") ≡ refused 5 14
+pub unnamed_before_count : read_file (bytes "40:1,0 41:0,16 41:1,0 42:10,6,1,0,1 1:1,0") ≡ refused Reason.WrongNumber 14
 unfolding computing
 unnamed_before_count = refl
 
 -- a symbol row of four numbers is one of before
-pub four_numbers : read_file (bytes "40:1,0 41:0,16 42:10,6,1,0 1:1,0") ≡ refused 4 14
+pub four_numbers : read_file (bytes "40:1,0 41:0,16 42:10,6,1,0 1:1,0") ≡ refused Reason.WrongLength 14
 unfolding computing
 four_numbers = refl
 
 -- a record at level 65 is too deep before its tag is looked at, once its head is there
-pub deep_tag : read_file (deep 62 ++ bytes "2:1,0") ≡ refused 6 464
+pub deep_tag : read_file (deep 62 ++ bytes "2:1,0") ≡ refused Reason.TooDeep 464
 unfolding nested computing
 deep_tag = refl
 
 -- with no level left: two bytes of a head
-pub deep_cut_head : read_forest 0 (24 ∷ 0 ∷ []) 0 (λ _. Expression) 1 0 1 0 [] ≡ refused 2 0
+pub deep_cut_head : read_forest 0 (24 ∷ 0 ∷ []) 0 (λ _. Expression) 1 0 1 0 [] ≡ refused Reason.Cut 0
 unfolding computing
 deep_cut_head = refl
 
 -- ---- figures and rows
 
 -- a Block statement's context costs 11 records, and no helper in external mode
-pub whole_figures : figures_of whole_case ≡ accepted (figures 18 5 3 1 215)
+pub whole_figures : figures_of whole_case ≡ Ok (figures 18 5 3 1 215)
 unfolding figures_of computing
 whole_figures = refl
 
 -- refusal 9 names records before scopes
-pub records_first : admit whole_case (lend 17 4 2) ≡ refused 9 0
+pub records_first : admit whole_case (lend 17 4 2) ≡ refused Reason.FewRows 0
 unfolding computing
 records_first = refl
 
 -- the place of refusal 10 is the output's length
-pub short_output_lem : admit_output whole_case (lend 18 5 3) 214 ≡ refused 10 214
+pub short_output_lem : admit_output whole_case (lend 18 5 3) 214 ≡ refused Reason.ShortOutput 214
 unfolding computing
 short_output_lem = refl
 
@@ -157,12 +159,12 @@ enclosing (suc n) s tree = enclosing_scopes s 0 tree ∷ enclosing n (suc s) tre
 
 -- for each row after some visits: the scopes around the records that name it, and its parent
 abbrev around : ℕ → Outcome File → List (List ℕ)
-around k (accepted f) = let s = visits k (start f) in enclosing (length (store_at s).scopes) 1 (tree_at s)
-around k (refused c p) = []
+around k (Ok f) = let s = visits k (start f) in enclosing (length (store_at s).scopes) 1 (tree_at s)
+around k (Err r) = []
 
 abbrev parents : ℕ → Outcome File → List (List ℕ)
-parents k (accepted f) = map (λ r. r.parent ∷ []) (store_at (visits k (start f))).scopes
-parents k (refused c p) = []
+parents k (Ok f) = map (λ r. r.parent ∷ []) (store_at (visits k (start f))).scopes
+parents k (Err r) = []
 
 -- a Try with a Catch: its Block stands in the Catch
 abbrev caught : List ℕ
@@ -263,7 +265,7 @@ unfolding computing
 line_first = refl
 
 -- its rows are counted: one too few
-pub line_counted : admit importing (lend 19 5 4) ≡ refused 9 0
+pub line_counted : admit importing (lend 19 5 4) ≡ refused Reason.FewRows 0
 unfolding computing
 line_counted = refl
 
@@ -276,8 +278,8 @@ no_line_in_script = refl
 
 -- so many records stand after some calls: the second makes the context, the 18th is the last and puts the line
 abbrev records_after : ℕ → Outcome File → ℕ
-records_after k (accepted f) = (figures_at (visit_calls k (start f))).records
-records_after k (refused c p) = 0
+records_after k (Ok f) = (figures_at (visit_calls k (start f))).records
+records_after k (Err r) = 0
 
 pub line_last
     : (records_after 2 (read_file importing) ≡ 18) × (records_after 17 (read_file importing) ≡ 18) × (records_after 18 (read_file importing) ≡ 20)
@@ -287,15 +289,15 @@ line_last = (refl, refl, refl, refl)
 
 -- it is charged then, and not with the first load
 abbrev line_charged : ℕ → Outcome File → List Line
-line_charged k (accepted f) = import_dues (visits k (start f))
-line_charged k (refused c p) = []
+line_charged k (Ok f) = import_dues (visits k (start f))
+line_charged k (Err r) = []
 
 pub line_charged_lem : (line_charged 2 (read_file importing) ≡ []) × (line_charged 18 (read_file importing) ≡ import_line ∷ [])
 unfolding computing
 line_charged_lem = (refl, refl)
 
 -- on reading it has one Specifier, and stays among the lines of a lowered Program
-pub line_alone : read_file (bytes "40:1,0 41:0,16 1:1,1 17:4,0,0") ≡ refused 5 21
+pub line_alone : read_file (bytes "40:1,0 41:0,16 1:1,1 17:4,0,0") ≡ refused Reason.WrongNumber 21
 unfolding computing
 line_alone = refl
 

@@ -1,6 +1,6 @@
 -- What may stand where, and which numbers are right (01, "The tree file"; the checks 2 to 5).
 -- Assumes nothing.
-use Rattle.std.specs.Prelude.{if◌then◌else◌, List, [], ◌∷◌, ◌++◌, Bool, true, false, not, ◌||◌, ◌&&◌, ℕ, ◌+◌, ◌*◌, ◌-◌, length, get_or, set, eqb, leb, ltb}
+use Rattle.std.specs.Prelude.{if◌then◌else◌, List, [], ◌∷◌, ◌++◌, Bool, true, false, not, ◌||◌, ◌&&◌, ℕ, ◌+◌, ◌*◌, ◌-◌, length, get_or, set, eqb, leb, ltb, Result, Ok, Err}
 use Rattle.meaning.specs.Numbers.Tag
 use Rattle.meaning.specs.Numbers.Kind
 use Rattle.meaning.specs.Numbers.Form
@@ -9,7 +9,6 @@ use Rattle.meaning.specs.Numbers.Parts
 use Rattle.meaning.specs.Numbers.Mode
 use Rattle.meaning.specs.Numbers.Letter
 use Rattle.meaning.specs.Numbers.StepForm
-use Rattle.meaning.specs.Numbers.Refusal
 use Rattle.meaning.specs.Tree.{one_of, Head, hd}
 use Rattle.meaning.specs.File.{numbers_of, has_children, own_numbers, head_bytes, field_bytes, scope_bytes}
 use Rattle.meaning.specs.declared.Place.{Place}
@@ -39,8 +38,9 @@ use Rattle.meaning.specs.declared.Place.TheVariants.{
   Specifier,
 }
 use Rattle.meaning.specs.declared.Field.{Field}
-use Rattle.meaning.specs.declared.Reading.{Reading}
-use Rattle.meaning.specs.declared.Reading.TheVariants.{Whole, Refused}
+use Rattle.meaning.specs.declared.Reason.TheVariants as Reason
+use Rattle.meaning.specs.declared.Refusal.{Refusal}
+use Rattle.meaning.specs.Refusals.{Outcome, refused}
 
 -- ---- tags and places
 
@@ -162,14 +162,14 @@ field_of f at =
     }
 
 -- head cut, tag, length, payload cut
-unfoldable pub field_at : List ℕ → Place → ℕ → Reading
+unfoldable pub field_at : List ℕ → Place → ℕ → Outcome Field
 field_at f p at =
     let t = get_or f at 0 in
-    if ltb (length f) (at + head_bytes) then Refused Refusal.Cut at
-    else if not (allowed p t) then Refused Refusal.WrongTag at
-    else if not (eqb (two f (at + 1)) (2 * numbers_of t)) then Refused Refusal.WrongLength at
-    else if ltb (length f) (at + field_bytes t) then Refused Refusal.Cut at
-    else Whole (field_of f at)
+    if ltb (length f) (at + head_bytes) then refused Reason.Cut at
+    else if not (allowed p t) then refused Reason.WrongTag at
+    else if not (eqb (two f (at + 1)) (2 * numbers_of t)) then refused Reason.WrongLength at
+    else if ltb (length f) (at + field_bytes t) then refused Reason.Cut at
+    else Ok (field_of f at)
 
 -- ---- the numbers
 

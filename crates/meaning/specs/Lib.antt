@@ -1,5 +1,6 @@
 -- What document 01 means, in its order.
 pub mod Numbers
+pub mod Refusals
 pub mod Tree
 pub mod Mentions
 pub mod File

@@ -10,4 +10,3 @@ pub mod StepForm
 pub mod ScopeFlag
 pub mod SymbolFlag
 pub mod KnownName
-pub mod Refusal

@@ -1,9 +1,8 @@
 -- Reading a file: the rows and the tree, or the refusal with its place (01, "Who can be refused, and for what").
 -- Assumes nothing.
-use Rattle.std.specs.Prelude.{if◌then◌else◌, List, [], ◌∷◌, Bool, true, false, ◌||◌, ◌&&◌, ℕ, zero, suc, ◌+◌, ◌*◌, length, get_or, replicate, eqb, leb, ltb}
+use Rattle.std.specs.Prelude.{if◌then◌else◌, List, [], ◌∷◌, Bool, true, false, ◌||◌, ◌&&◌, ℕ, zero, suc, ◌+◌, ◌*◌, length, get_or, replicate, eqb, leb, ltb, Result, Ok, Err}
 use Rattle.meaning.specs.Numbers.Tag
 use Rattle.meaning.specs.Numbers.Mode
-use Rattle.meaning.specs.Numbers.Refusal
 use Rattle.meaning.specs.Tree.{Forest, none, more}
 use Rattle.meaning.specs.Mentions.{mentions}
 use Rattle.meaning.specs.File.{Scope, scope_row, Symbol, symbol_row, File, head_bytes, settings_bytes, scope_bytes, symbol_bytes}
@@ -27,34 +26,26 @@ use Rattle.meaning.specs.Grammar.{
 use Rattle.meaning.specs.declared.Place.{Place}
 use Rattle.meaning.specs.declared.Place.TheVariants.{Settings, ScopeRow, SymbolRow, Program}
 use Rattle.meaning.specs.declared.Field.{Field}
-use Rattle.meaning.specs.declared.Reading.{Reading}
-use Rattle.meaning.specs.declared.Reading.TheVariants.{Whole, Refused}
+use Rattle.meaning.specs.declared.Reason.{Reason}
+use Rattle.meaning.specs.declared.Reason.TheVariants as Reason
 use Rattle.meaning.specs.declared.Rows.{Rows}
-use Rattle.meaning.specs.declared.Rows.TheVariants.{Read, Refused as RefusedRows}
+use Rattle.meaning.specs.Refusals.{Outcome, refused}
 
--- ---- an answer, or a refusal with its number and place
-
-pub data Outcome (A : Type 0) : Type 0 where
-  accepted : A → Outcome A
-  refused : ℕ → ℕ → Outcome A
+-- ---- steps that may refuse
 
 infixl 5 ◌>>=◌
 abbrev pub ◌>>=◌ : {A B : Type 0} → Outcome A → (A → Outcome B) → Outcome B
-◌>>=◌ (accepted a) g = g a
-◌>>=◌ (refused c p) g = refused c p
+◌>>=◌ (Ok a) g = g a
+◌>>=◌ (Err r) g = Err r
 
 infixl 5 ◌>>◌
 abbrev pub ◌>>◌ : {A B : Type 0} → Outcome A → Outcome B → Outcome B
 ◌>>◌ m n = m >>= (λ _. n)
 
 -- the test passes, or the check refuses
-abbrev pub ensure : Bool → ℕ → ℕ → Outcome (Unit {0})
-ensure true c p = accepted tt
+abbrev pub ensure : Bool → Reason → ℕ → Outcome (Unit {0})
+ensure true c p = Ok tt
 ensure false c p = refused c p
-
-abbrev pub field : Reading → Outcome Field
-field (Whole x) = accepted x
-field (Refused c p) = refused c p
 
 -- ---- the tree
 
@@ -72,22 +63,22 @@ records t at m = record { forest = t; next = at; marks = m }
 unfoldable pub read_list
     : (Place → Field → ℕ → List ℕ → Outcome Records)
     → List ℕ → ℕ → (ℕ → Place) → ℕ → ℕ → ℕ → ℕ → List ℕ → Outcome Records
-read_list inside f syms place cur k zero at m = accepted (records none at m)
+read_list inside f syms place cur k zero at m = Ok (records none at m)
 read_list inside f syms place cur k (suc n) at m = do
-  x ← field (field_at f (place k) at)
-  ensure (right (place k) syms x) Refusal.WrongNumber at
-  ensure (may_name f cur m (scope_of (head_of x))) Refusal.WrongNumber at
+  x ← field_at f (place k) at
+  ensure (right (place k) syms x) Reason.WrongNumber at
+  ensure (may_name f cur m (scope_of (head_of x))) Reason.WrongNumber at
   kids ← inside (place k) x (below cur (scope_of (head_of x))) (naming m (scope_of (head_of x)))
   beside ← read_list inside f syms place cur (suc k) n kids.next kids.marks
-  accepted (records (more (head_of x) kids.forest beside.forest) beside.next beside.marks)
+  Ok (records (more (head_of x) kids.forest beside.forest) beside.next beside.marks)
 
 -- a record below the last level: too deep whatever its head says, once that is there (02, request 6)
 abbrev pub too_deep : {A : Type 0} → List ℕ → ℕ → Outcome A
-too_deep f at = refused (if ltb (length f) (at + head_bytes) then Refusal.Cut else Refusal.TooDeep) at
+too_deep f at = refused (if ltb (length f) (at + head_bytes) then Reason.Cut else Reason.TooDeep) at
 
 -- with so many levels left
 unfoldable pub read_forest : ℕ → List ℕ → ℕ → (ℕ → Place) → ℕ → ℕ → ℕ → ℕ → List ℕ → Outcome Records
-read_forest zero f syms place cur k zero at m = accepted (records none at m)
+read_forest zero f syms place cur k zero at m = Ok (records none at m)
 read_forest zero f syms place cur k (suc n) at m = too_deep f at
 read_forest (suc l) f syms place cur k n at m =
     read_list (λ p x cur m. read_forest l f syms (place_of p x) cur 0 (children_of x) x.next m) f syms place cur k n at m
@@ -95,26 +86,25 @@ read_forest (suc l) f syms place cur k n at m =
 -- ---- the rows
 
 -- a field that passes its test
-abbrev pub judged : (Field → Bool) → ℕ → Reading → Reading
-judged test at (Whole x) = if test x then Whole x else Refused Refusal.WrongNumber at
-judged test at (Refused c p) = Refused c p
+abbrev pub judged : (Field → Bool) → ℕ → Outcome Field → Outcome Field
+judged test at (Ok x) = if test x then Ok x else refused Reason.WrongNumber at
+judged test at (Err r) = Err r
 
 -- the field of scope row k counted from 0, and that of a symbol row
-unfoldable pub scope_at : List ℕ → ℕ → ℕ → Reading
+unfoldable pub scope_at : List ℕ → ℕ → ℕ → Outcome Field
 scope_at f k at = judged (scope_right k) at (field_at f ScopeRow at)
 
-unfoldable pub symbol_at : List ℕ → ℕ → ℕ → Reading
+unfoldable pub symbol_at : List ℕ → ℕ → ℕ → Outcome Field
 symbol_at f scopes at = judged (symbol_right scopes) at (field_at f SymbolRow at)
 
-abbrev pub and_rows : Reading → (Field → Rows) → Rows
-and_rows (Whole x) g = g x
-and_rows (Refused c p) g = RefusedRows c p
+abbrev pub rows_read : ℕ → ℕ → Rows
+rows_read k at = record { count = k; next = at }
 
 -- rows from row k on, as long as there are more, at most n
-unfoldable pub read_rows : (ℕ → ℕ → Bool) → (ℕ → ℕ → Reading) → ℕ → ℕ → ℕ → Rows
-read_rows again one zero k at = Read k at
+unfoldable pub read_rows : (ℕ → ℕ → Bool) → (ℕ → ℕ → Outcome Field) → ℕ → ℕ → ℕ → Outcome Rows
+read_rows again one zero k at = Ok (rows_read k at)
 read_rows again one (suc n) k at =
-    if again k at then and_rows (one k at) (λ x. read_rows again one n (k + 1) x.next) else Read k at
+    if again k at then one k at >>= (λ x. read_rows again one n (k + 1) x.next) else Ok (rows_read k at)
 
 -- more scope rows, and more symbol rows, than a file of 65,535 bytes holds
 abbrev pub most_rows : ℕ
@@ -124,10 +114,10 @@ abbrev pub most_symbols : ℕ
 most_symbols = 5042
 
 -- one scope row, then more while the next tag is 41; symbol rows while it is 42
-unfoldable pub read_scopes : List ℕ → ℕ → Rows
+unfoldable pub read_scopes : List ℕ → ℕ → Outcome Rows
 read_scopes f from = read_rows (λ k at. eqb k 0 || eqb (get_or f at 0) Tag.Scope) (scope_at f) most_rows 0 from
 
-unfoldable pub read_symbols : List ℕ → ℕ → ℕ → Rows
+unfoldable pub read_symbols : List ℕ → ℕ → ℕ → Outcome Rows
 read_symbols f scopes from = read_rows (λ k at. eqb (get_or f at 0) Tag.Symbol) (λ k at. symbol_at f scopes at) most_symbols 0 from
 
 -- n scope rows from row s on; n symbol rows from an offset on
@@ -149,7 +139,7 @@ wrong_count f count (suc n) y at =
 abbrev pub check_counts : List ℕ → (ℕ → ℕ) → ℕ → ℕ → Outcome (Unit {0})
 check_counts f count n at =
     let wrong = wrong_count f count n 1 at in
-    ensure (leb n wrong) Refusal.WrongNumber (at + symbol_bytes * wrong)
+    ensure (leb n wrong) Reason.WrongNumber (at + symbol_bytes * wrong)
 
 -- ---- the file
 
@@ -160,35 +150,26 @@ most_bytes = 65535
 abbrev pub most_levels : ℕ
 most_levels = 64
 
--- how many rows, and the offset behind them
-pub record Counted : Type 0 where
-  pub number : ℕ
-  pub next : ℕ
-
-abbrev pub rows : Rows → Outcome Counted
-rows (Read k at) = accepted (record { number = k; next = at })
-rows (RefusedRows c p) = refused c p
-
 -- The checks in their order: 1; field by field; 7; 5 for the lowest unnamed row; and `last`, which is handed the tree, the number of symbol rows and the
 -- offset of the first. The tree is read by `forest`.
 abbrev pub read_through
     : (List ℕ → ℕ → (ℕ → Place) → ℕ → ℕ → ℕ → ℕ → List ℕ → Outcome Records) → (Forest → ℕ → ℕ → Outcome (Unit {0})) → List ℕ → Outcome File
 read_through forest last f = do
-  ensure (leb (length f) most_bytes) Refusal.TooLong most_bytes
-  settings ← field (field_at f Settings 0)
-  ensure (leb settings.a Mode.Inline && leb settings.b 1) Refusal.WrongNumber 0
-  scopes ← rows (read_scopes f settings.next)
-  symbols ← rows (read_symbols f scopes.number scopes.next)
-  program ← forest f symbols.number (λ _. Program) 0 0 1 symbols.next (replicate scopes.number 0)
-  ensure (leb (length f) program.next) Refusal.BytesBehind program.next
-  ensure (leb scopes.number (unnamed program.marks)) Refusal.WrongNumber (settings_bytes + scope_bytes * unnamed program.marks)
-  last program.forest symbols.number scopes.next
-  accepted
+  ensure (leb (length f) most_bytes) Reason.TooLong most_bytes
+  settings ← field_at f Settings 0
+  ensure (leb settings.a Mode.Inline && leb settings.b 1) Reason.WrongNumber 0
+  scopes ← read_scopes f settings.next
+  symbols ← read_symbols f scopes.count scopes.next
+  program ← forest f symbols.count (λ _. Program) 0 0 1 symbols.next (replicate scopes.count 0)
+  ensure (leb (length f) program.next) Reason.BytesBehind program.next
+  ensure (leb scopes.count (unnamed program.marks)) Reason.WrongNumber (settings_bytes + scope_bytes * unnamed program.marks)
+  last program.forest symbols.count scopes.next
+  Ok
       (record {
         mode = settings.a;
         is_module = settings.b;
-        scopes = scopes_in f scopes.number 1;
-        symbols = symbols_in f symbols.number scopes.next;
+        scopes = scopes_in f scopes.count 1;
+        symbols = symbols_in f symbols.count scopes.next;
         tree = program.forest;
       })
 

@@ -1,6 +1,12 @@
 // The types that the definitions and the code share, and the numbers that 01 gives a meaning, by name.
 #![tactic(auto)]
 
+ghost use Rattle.std.specs.Prelude.{◌≡◌};
+ghost use Rattle.meaning.specs.Refusals.{number_of};
+
+use std::error::Error;
+use std::fmt;
+
 pub mod form;
 pub mod kind;
 pub mod known_name;
@@ -8,7 +14,6 @@ pub mod letter;
 pub mod line_form;
 pub mod mode;
 pub mod parts;
-pub mod refusal;
 pub mod scope_flag;
 pub mod step_form;
 pub mod symbol_flag;
@@ -25,7 +30,7 @@ pub struct SymbolId(pub u16);
 pub struct RecordId(pub u16);
 
 // A place where a field may stand.
-#[derive(Clone, Copy)]
+#[derive(Clone, Copy, Debug, PartialEq, Eq)]
 pub enum Place {
     Settings,
     ScopeRow,
@@ -63,16 +68,47 @@ pub struct Field {
     pub next: usize,
 }
 
-// What a reading step answers: a field, or a refusal's number and place.
-#[derive(Clone, Copy)]
-pub enum Reading {
-    Whole(Field),
-    Refused(u8, usize),
+// Why a file is refused. Each reason has a number, which C and the programs tell.
+#[derive(Clone, Copy, Debug, PartialEq, Eq)]
+pub enum Reason {
+    TooLong = 1,
+    Cut = 2,
+    WrongTag = 3,
+    WrongLength = 4,
+    WrongNumber = 5,
+    TooDeep = 6,
+    BytesBehind = 7,
+    InlineContext = 8,
+    FewRows = 9,
+    ShortOutput = 10,
 }
 
-// So many rows of a kind and the offset behind them, or a refusal.
-#[derive(Clone, Copy)]
-pub enum Rows {
-    Read(usize, usize),
-    Refused(u8, usize),
+impl From<Reason> for u8 {
+    ghost from_gives = { λ r n. n ≡ number_of r };
+
+    fn from(reason: Reason) -> u8 {
+        reason as u8
+    }
+}
+
+// A refusal: why, and at which place: an offset in the file, a table's number or the output's length.
+#[derive(Clone, Copy, Debug, PartialEq, Eq)]
+pub struct Refusal {
+    pub reason: Reason,
+    pub place: usize,
+}
+
+impl fmt::Display for Refusal {
+    fn fmt<W: fmt::Write>(&self, f: &mut fmt::Formatter<W>) -> fmt::Result {
+        write!(f, "refused {} at {}", u8::from(self.reason), self.place)
+    }
+}
+
+impl Error for Refusal {}
+
+// So many rows of a kind, and the offset behind them.
+#[derive(Clone, Copy, Debug, PartialEq, Eq)]
+pub struct Rows {
+    pub count: usize,
+    pub next: usize,
 }

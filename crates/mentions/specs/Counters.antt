@@ -8,19 +8,27 @@ use Rattle.tables.specs.Table.{capped, row_f, head_f, counts_at}
 
 -- ---- one symbol
 
+-- its counter changes
+abbrev pub change_f : (ℕ → ℕ) → List ℕ → ℕ → List ℕ
+change_f by t y = if eqb y 0 then t else set t (y - 1) (by (get_or t (y - 1) 0))
+
 unfoldable pub add_f : List ℕ → ℕ → List ℕ
-add_f t y = if eqb y 0 then t else set t (y - 1) (capped (get_or t (y - 1) 0) 1)
+add_f t y = change_f (λ n. capped n 1) t y
 
 unfoldable pub take_f : List ℕ → ℕ → List ℕ
-take_f t y = if eqb y 0 then t else set t (y - 1) (get_or t (y - 1) 0 - 1)
+take_f t y = change_f (λ n. n - 1) t y
 
 -- ---- one record
 
+-- by what one mention does to the counters
+abbrev pub record_f : (List ℕ → ℕ → List ℕ) → List ℕ → Head → List ℕ
+record_f one t h = one (one t (first_named h)) (second_named h)
+
 unfoldable pub add_record_f : List ℕ → Head → List ℕ
-add_record_f t h = add_f (add_f t (first_named h)) (second_named h)
+add_record_f t h = record_f add_f t h
 
 unfoldable pub take_record_f : List ℕ → Head → List ℕ
-take_record_f t h = take_f (take_f t (first_named h)) (second_named h)
+take_record_f t h = record_f take_f t h
 
 -- ---- rows of the record table
 
@@ -37,11 +45,14 @@ unfoldable pub next_row : (List ℕ → Head → List ℕ) → List ℕ → Coun
 next_row one r s = counting (one s.t (head_f (row_f r s.k))) (s.k + 1)
 
 -- the rows behind one up to another
+abbrev pub rows_f : (List ℕ → Head → List ℕ) → List ℕ → ℕ → ℕ → List ℕ → List ℕ
+rows_f one r from to t = (turns (to - from) (next_row one r) (counting t from)).t
+
 unfoldable pub add_rows_f : List ℕ → ℕ → ℕ → List ℕ → List ℕ
-add_rows_f r from to t = (turns (to - from) (next_row add_record_f r) (counting t from)).t
+add_rows_f r from to t = rows_f add_record_f r from to t
 
 unfoldable pub take_rows_f : List ℕ → ℕ → ℕ → List ℕ → List ℕ
-take_rows_f r from to t = (turns (to - from) (next_row take_record_f r) (counting t from)).t
+take_rows_f r from to t = rows_f take_record_f r from to t
 
 -- ---- the counts in a symbol table
 

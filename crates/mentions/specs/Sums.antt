@@ -86,21 +86,17 @@ abbrev pub counter : List ℕ → ℕ → ℕ
 counter t y = get_or t (y - 1) 0
 
 cap_none : (x : ℕ) → x ≤ largest → x ≡ capped x 0
-unfolding capped
 cap_none x h = omega arith
 
 -- capping early or late comes to the same
 cap_sum : (x a b u v : ℕ) → u ≡ capped x a → v ≡ capped u b → v ≡ capped x (a + b)
-unfolding capped
 cap_sum x a b u v e d = omega arith
 
 -- a sum that fits is whole
 pub whole_sum : (x y b u m : ℕ) → y ≡ x → u ≡ capped y b → m ≡ x + b → m ≤ largest → u ≡ m
-unfolding capped
 whole_sum x y b u m e d s h = omega arith
 
 cap_most : (x a u : ℕ) → u ≡ capped x a → u ≤ largest
-unfolding capped
 cap_most x a u e = omega arith
 
 module _ (y : ℕ) (some : 1 ≤ y) where

@@ -1,9 +1,8 @@
 -- The bytes that a text in 01's notation says, read character by character: `5:3,1` is tag 5 with the numbers 3 and 1.
 -- Assumes nothing.
-use Rattle.std.specs.Prelude.{if◌then◌else◌, List, [], ◌∷◌, ◌++◌, Bool, true, false, ◌||◌, ◌&&◌, ℕ, ◌+◌, ◌*◌, ◌-◌, ◌%◌, eqb, leb, length, get_or}
+use Rattle.std.specs.Prelude.{if◌then◌else◌, List, [], ◌∷◌, ◌++◌, Bool, true, false, ◌||◌, ◌&&◌, ℕ, ◌+◌, ◌*◌, ◌-◌, ◌%◌, eqb, leb, length, get_or, Result, Ok, Err}
 use Rattle.meaning.specs.File.{two_bytes}
-use Rattle.notation.specs.declared.Spelling.{Spelling}
-use Rattle.notation.specs.declared.Spelling.TheVariants.{Right, Wrong}
+use Rattle.notation.specs.declared.Misspelling.{Misspelling}
 
 -- What is read so far: the bytes of whole fields, the numbers of the field that is being read (its tag first), whether digits stand
 -- behind these, and the value of the digits.
@@ -109,10 +108,14 @@ may_stand c p =
     else if p.digits then is_space c || may_part c k
     else is_space c && eqb k 0
 
--- the first character that may not stand where it does; the end counts as a space
-unfoldable pub spelled_from : Part → ℕ → List ℕ → Spelling
-spelled_from p i [] = if may_stand space p then Right else Wrong i
-spelled_from p i (c ∷ text) = if may_stand c p then spelled_from (after c p) (i + 1) text else Wrong i
+-- wrong at a place
+abbrev pub wrong_at : ℕ → Result (Unit {0}) Misspelling
+wrong_at i = Err record { place = i }
 
-unfoldable pub spelled : List ℕ → Spelling
-spelled text = if leb (length text) most then spelled_from nothing 0 text else Wrong most
+-- the first character that may not stand where it does; the end counts as a space
+unfoldable pub spelled_from : Part → ℕ → List ℕ → Result (Unit {0}) Misspelling
+spelled_from p i [] = if may_stand space p then Ok tt else wrong_at i
+spelled_from p i (c ∷ text) = if may_stand c p then spelled_from (after c p) (i + 1) text else wrong_at i
+
+unfoldable pub spelled : List ℕ → Result (Unit {0}) Misspelling
+spelled text = if leb (length text) most then spelled_from nothing 0 text else wrong_at most

@@ -1,6 +1,6 @@
 -- The text of a file is spelled right, and read back it is the file.
 -- Assumes nothing.
-use Rattle.std.specs.Prelude.{if◌then◌else◌, ◌≡◌, refl, Bool, true, false, ◌&&◌, ℕ, zero, suc, ◌+◌, ◌*◌, ◌-◌, ◌/◌, ◌%◌, ◌<◌, ◌≤◌, eqb, leb, length, get_or, take, drop}
+use Rattle.std.specs.Prelude.{if◌then◌else◌, ◌≡◌, refl, Bool, true, false, ◌&&◌, ℕ, zero, suc, ◌+◌, ◌*◌, ◌-◌, ◌/◌, ◌%◌, ◌<◌, ◌≤◌, eqb, leb, length, get_or, take, drop, Ok}
 use Rattle.std.proofs.Common.{sym, ap, ◌∙◌, arith, length-append, length-drop, take-append-drop, length-take-le, get_or-take, le-leb, leb-true, leb-false, eqb-true, ne_eqb}
 use mathlib.Core.List.{List, [], ◌∷◌, ◌++◌, append_assoc, append-nil}
 use Rattle.std.proofs.lemmas.List.Edits.{sets, sets-eq}
@@ -13,7 +13,6 @@ use Rattle.spec_laws.specs.Trees.{Bytes}
 use Rattle.notation.specs.Notation.{Part, part, nothing, space, comma, dot, digit0, digit9, colon, field_from, is_digit, is_space, with_digit, numbered, fielded, dotted, after, read, most, encoded, limit, may_part, may_stand, spelled_from, spelled}
 use Rattle.notation.specs.Shown.{decimal, shown_byte, shown_bytes, numbers_in, shown_numbers, shown_field, whole_field, gap, shown_from, most_shown, shown}
 use Rattle.notation.specs.ShownTurns.{decimal_one, decimal_more, decimal_length, whole_fits, shown_bytes_lem, shown_field_lem, no_field, no_bytes}
-use Rattle.notation.specs.declared.Spelling.TheVariants.{Right}
 
 -- ---- reading a text whose every character may stand
 
@@ -35,7 +34,7 @@ unfolding Goes read
 goes_read [] p q g = g
 goes_read (c ∷ text) p q g = goes_read text (after c p) q g.1
 
-goes_right : (text : List ℕ) (p q : Part) (i : ℕ) → Goes p text q → may_stand space q ≡ true → spelled_from p i text ≡ Right
+goes_right : (text : List ℕ) (p q : Part) (i : ℕ) → Goes p text q → may_stand space q ≡ true → spelled_from p i text ≡ Ok tt
 unfolding Goes spelled_from
 goes_right [] p q i g s = rw (g, s)
 goes_right (c ∷ text) p q i g s = rw g.0 (goes_right text (after c p) q (i + 1) g.1 s)
@@ -364,7 +363,7 @@ module _ (file : List ℕ) (h : Bytes file) (l : length file ≤ most_shown) whe
   shown_back =
       rw (le-leb (length (shown file)) most short, goes_read (shown file) nothing whole_text.place whole_text.goes) whole_text.bytes_are
 
-  pub shown_right : spelled (shown file) ≡ Right
+  pub shown_right : spelled (shown file) ≡ Ok tt
   unfolding spelled
   shown_right =
       rw (le-leb (length (shown file)) most short) (goes_right (shown file) nothing whole_text.place 0 whole_text.goes whole_text.stands)

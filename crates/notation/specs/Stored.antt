@@ -1,7 +1,7 @@
 -- The file with what is stored of a text that is being read.
 -- Assumes nothing.
-use Rattle.std.specs.Prelude.{if◌then◌else◌, ◌≡◌, refl, Bool, true, false, List, [], ◌∷◌, ◌++◌, ℕ, suc, ◌+◌, ◌*◌, ◌-◌, ◌/◌, ◌%◌, ◌<◌, eqb, length, get_or, set}
-use Rattle.std.proofs.Common.{sym, ◌∙◌, arith, eqb-true}
+use Rattle.std.specs.Prelude.{if◌then◌else◌, ◌≡◌, refl, Bool, true, false, List, [], ◌∷◌, ◌++◌, ℕ, suc, ◌+◌, ◌*◌, ◌-◌, ◌/◌, ◌%◌, ◌<◌, eqb, length, get_or, set, None, Some, unwrap_or}
+use Rattle.std.proofs.Common.{sym, ap, ◌∙◌, arith, eqb-true}
 use Rattle.std.proofs.lemmas.List.Edits.{sets}
 use Rattle.std.proofs.lemmas.List.{set_comm}
 use Rattle.meaning.specs.File.{two_bytes}
@@ -84,21 +84,25 @@ behind bs xs out =
 -- ---- THE FILE, behind each thing that a character may end
 
 module _ (out : List ℕ) (p : Part) (s : Spot) (h : Reads p s) where
-  pub file_same : s.digits ≡ false → file_of out p ≡ file_of out (numbered p)
+  pub file_same : s.value ≡ None → file_of out p ≡ file_of out (numbered p)
   unfolding file_of numbered
   file_same e = rw (← h.digits_is, e)
 
-  pub file_tag : s.digits ≡ true → s.count ≡ 0 → set (file_of out p) s.at (s.value % 256) ≡ file_of out (numbered p)
+  -- the value of the digits that are read
+  value_read : (v : ℕ) → s.value ≡ Some v → v ≡ p.value
+  value_read v e = sym (ap (λ o. unwrap_or o 0) e) ∙ h.value_is
+
+  pub file_tag : (v : ℕ) → s.value ≡ Some v → s.count ≡ 0 → set (file_of out p) s.at (v % 256) ≡ file_of out (numbered p)
   unfolding file_of numbered
-  file_tag e z =
-      rw (← h.digits_is, e, h.at_is, h.value_is)
+  file_tag v e z =
+      rw (← h.digits_is, e, h.at_is, value_read v e)
       (sym (opened_tag (sets out 0 p.bytes) p.numbers (length p.bytes) p.value (sym h.count_is ∙ z)))
 
-  pub file_number : s.digits ≡ true → 0 < s.count
-      → sets (file_of out p) (s.at + 1 + 2 * s.count) (two_bytes (s.value ∷ [])) ≡ file_of out (numbered p)
+  pub file_number : (v : ℕ) → s.value ≡ Some v → 0 < s.count
+      → sets (file_of out p) (s.at + 1 + 2 * s.count) (two_bytes (v ∷ [])) ≡ file_of out (numbered p)
   unfolding file_of numbered
-  file_number e z =
-      rw (← h.digits_is, e, h.at_is, h.value_is)
+  file_number v e z =
+      rw (← h.digits_is, e, h.at_is, value_read v e)
       (sym (opened_number (sets out 0 p.bytes) p.numbers (length p.bytes) s.count p.value h.count_is z))
 
   pub file_none : s.count ≡ 0 → file_of out p ≡ file_of out (fielded p)

@@ -1,12 +1,11 @@
 -- The turns of the loops over a text.
 -- Assumes nothing.
-use Rattle.std.specs.Prelude.{if◌then◌else◌, ◌≡◌, refl, true, false, List, [], ◌∷◌, ◌++◌, ℕ, ◌+◌, ◌<◌, ◌≤◌, length, get_or, take, drop}
+use Rattle.std.specs.Prelude.{if◌then◌else◌, ◌≡◌, refl, true, false, List, [], ◌∷◌, ◌++◌, ℕ, ◌+◌, ◌<◌, ◌≤◌, length, get_or, take, drop, Ok}
 use Rattle.std.proofs.Common.{add-one, drop_of_length-le, drop-cons, le-leb}
 use Rattle.std.proofs.Math.Seq.{take-suc, take_all}
-use Rattle.notation.specs.Notation.{Part, nothing, space, after, read, most, encoded, may_stand, spelled_from}
+use Rattle.notation.specs.Notation.{Part, nothing, space, after, read, most, encoded, may_stand, wrong_at, spelled_from}
 use Rattle.notation.specs.Spots.{Reads, spot_at}
 use Rattle.notation.specs.Stored.{opened, file_of}
-use Rattle.notation.specs.declared.Spelling.TheVariants.{Right, Wrong}
 
 -- so many characters are read
 unfoldable pub reached : List ℕ → ℕ → Part
@@ -44,11 +43,11 @@ module _ (text : List ℕ) (i : ℕ) where
   spelled_more h e = rw (drop-cons text i 0 h, e, reached_more h, add-one)
 
   pub spelled_wrong : i < length text → may_stand (get_or text i 0) (reached text i) ≡ false
-      → spelled_from (reached text i) i (drop i text) ≡ Wrong i
+      → spelled_from (reached text i) i (drop i text) ≡ wrong_at i
   unfolding spelled_from
   spelled_wrong h e = rw (drop-cons text i 0 h, e)
 
   pub spelled_end : length text ≤ i
-      → spelled_from (reached text i) i (drop i text) ≡ (if may_stand space (reached text i) then Right else Wrong i)
+      → spelled_from (reached text i) i (drop i text) ≡ (if may_stand space (reached text i) then Ok tt else wrong_at i)
   unfolding spelled_from
   spelled_end h = rw (drop_of_length-le text h)

@@ -3,16 +3,18 @@
 // written with a dot: `24.0.4.` are the bytes 24, 0 and 4. A text is thus never longer than 4 characters for each byte.
 #![tactic(auto)]
 
-ghost use Rattle.std.specs.Prelude.{◌≡◌, List, ◌++◌, ℕ, ◌+◌, ◌*◌, ◌-◌, ◌<◌, ◌≤◌, length, take, drop};
+ghost use Rattle.std.specs.Prelude.{◌≡◌, List, ◌++◌, ℕ, ◌+◌, ◌*◌, ◌-◌, ◌≤◌, length, unwrap_or, MatchOption};
 ghost use Rattle.std.proofs.lemmas.List.Edits.{sets};
 ghost use Rattle.meaning.specs.File.{head_bytes};
-ghost use Rattle.notation.specs.Notation.{Part, digit0, is_digit, is_space, with_digit, numbered, fielded, dotted, after, colon, limit, may_part, may_stand, encoded, spelled};
+ghost use Rattle.notation.specs.Notation.{Part, digit0, is_space, with_digit, numbered, fielded, dotted, after, colon, limit, may_part, may_stand, encoded, spelled};
 ghost use Rattle.notation.specs.Spots.{spot_at, Reads};
 ghost use Rattle.notation.specs.Stored.{file_of};
 ghost use Rattle.notation.specs.Shown.{decimal, shown_byte, shown_bytes, numbers_in, shown_numbers, shown_field, whole_field, gap, shown};
 ghost use Rattle.notation.specs.Puts.{Put};
 
 use fields::{HEAD_BYTES, NUMBER_BYTES, TAG_BYTES};
+use std::error::Error;
+use std::fmt;
 
 // So many characters are read.
 const MOST: usize = 1000000000;
@@ -33,23 +35,30 @@ const TAG_DIGITS: usize = 3;
 
 const NUMBER_DIGITS: usize = 5;
 
-// Whether a text is spelled right, or the place of the first character that may not stand where it does.
-#[derive(Clone, Copy)]
-pub enum Spelling {
-    Right,
-    Wrong(usize),
+// The place of the first character that may not stand where it does, counted from 0.
+#[derive(Clone, Copy, Debug, PartialEq, Eq)]
+pub struct Misspelling {
+    pub place: usize,
 }
+
+impl fmt::Display for Misspelling {
+    fn fmt<W: fmt::Write>(&self, f: &mut fmt::Formatter<W>) -> fmt::Result {
+        write!(f, "no notation at character {}, counted from 0", self.place)
+    }
+}
+
+impl Error for Misspelling {}
 
 // ---- where reading stands
 
-// Where the field that is being read begins in the file, how many of its numbers are read, whether digits stand behind these, and their
-// value.
+// Where the field that is being read begins in the file, how many of its numbers are read, and the value of the digits behind these, if
+// there are any.
+// `at + 2 * count` grows with each character, so its bound is asked where it is needed, and is no ghost field here.
 #[derive(Clone, Copy)]
 struct Spot {
     at: usize,
     count: usize,
-    digits: bool,
-    value: u16,
+    value: Option<u16>,
 }
 
 // No digits are read yet.
@@ -57,39 +66,26 @@ fn fresh(at: usize, count: usize) -> Spot
     ensures { result ≡ spot_at at count }
 {
     Spot {
-        at: at,
-        count: count,
-        digits: false,
-        value: 0,
+        at,
+        count,
+        value: None,
     }
-}
-
-// A decimal digit.
-fn is_digit(c: u8) -> bool
-    ensures { result ≡ is_digit c }
-{
-    if c < b'0' {
-        return false;
-    }
-    c <= b'9'
 }
 
 // A space or a line end.
+#[tactic(auto, unfolding(crate::specs::Notation::is_space))]
 fn is_space(c: u8) -> bool
     ensures { result ≡ is_space c }
 {
-    if c == b' ' {
-        return true;
-    }
-    c == b'\n'
+    matches!(c, b' ' | b'\n')
 }
 
 // The value with one digit more.
 fn value_with(s: Spot, c: u8) -> u32
     requires { digit0 ≤ c }
-    ensures { result ≡ s.value * 10 + (c - digit0) }
+    ensures { result ≡ unwrap_or s.value 0 * 10 + (c - digit0) }
 {
-    (s.value as u32) * 10 + ((c - b'0') as u32)
+    u32::from(s.value.unwrap_or(0)) * 10 + u32::from(c - b'0')
 }
 
 // Behind a digit.
@@ -99,10 +95,8 @@ fn with_digit(s: Spot, c: u8) -> Spot
     ensures count_value { result.at + 2 * result.count ≡ s.at + 2 * s.count }
 {
     Spot {
-        at: s.at,
-        count: s.count,
-        digits: true,
-        value: (value_with(s, c) % 65536) as u16,
+        value: Some((value_with(s, c) % 65536) as u16),
+        ..s
     }
 }
 
@@ -112,10 +106,10 @@ fn end_number(s: Spot) -> Spot
     ensures reads { (p : Part) → Reads p s → Reads (numbered p) result }
     ensures count_bound { result.at + 2 * result.count ≤ s.at + 2 * s.count + 2 }
 {
-    if s.digits {
-        return fresh(s.at, s.count + 1);
+    match s.value {
+        Some(_) => fresh(s.at, s.count + 1),
+        None => s,
     }
-    fresh(s.at, s.count)
 }
 
 // The field is whole.
@@ -125,9 +119,10 @@ fn end_field(s: Spot) -> Spot
     ensures count_bound { result.at + 2 * result.count ≤ s.at + 2 * s.count + 1 }
 {
     if s.count == 0 {
-        return fresh(s.at, 0);
+        fresh(s.at, 0)
+    } else {
+        fresh(s.at + TAG_BYTES + NUMBER_BYTES * s.count, 0)
     }
-    fresh(s.at + TAG_BYTES + NUMBER_BYTES * s.count, 0)
 }
 
 // A dot behind the first number: a byte on its own, no field.
@@ -136,10 +131,7 @@ fn end_byte(s: Spot) -> Spot
     ensures reads { (p : Part) → Reads p s → Reads (dotted p) result }
     ensures count_bound { result.at + 2 * result.count ≤ s.at + 2 * s.count + 1 }
 {
-    if s.count != 1 {
-        return s;
-    }
-    fresh(s.at + 1, 0)
+    if s.count == 1 { fresh(s.at + 1, 0) } else { s }
 }
 
 // Behind one character more.
@@ -148,16 +140,15 @@ fn next(s: Spot, c: u8) -> Spot
     ensures reads { (p : Part) → Reads p s → Reads (after c p) result }
     ensures count_bound { result.at + 2 * result.count ≤ s.at + 2 * s.count + 3 }
 {
-    if is_digit(c) {
-        return with_digit(s, c);
+    if c.is_ascii_digit() {
+        with_digit(s, c)
+    } else if is_space(c) {
+        end_field(end_number(s))
+    } else if c == b'.' {
+        end_byte(end_number(s))
+    } else {
+        end_number(s)
     }
-    if is_space(c) {
-        return end_field(end_number(s));
-    }
-    if c == b'.' {
-        return end_byte(end_number(s));
-    }
-    end_number(s)
 }
 
 // ---- which texts are spelled right
@@ -170,48 +161,49 @@ fn largest(s: Spot) -> u32
 }
 
 // Behind a number, with so many before it in its field: a colon or a dot behind the first, a comma behind another.
+#[tactic(auto, unfolding(crate::specs::Notation::may_part))]
 fn may_part(c: u8, count: usize) -> bool
     ensures { result ≡ may_part c count }
 {
     if count == 0 {
-        return c == b':' || c == b'.';
+        matches!(c, b':' | b'.')
+    } else {
+        c == b',' && count <= MOST_BEFORE
     }
-    c == b',' && count <= MOST_BEFORE
 }
 
 // Whether a character may stand next.
 fn may_stand(s: Spot, c: u8) -> bool
     ensures { (p : Part) → Reads p s → result ≡ may_stand c p }
 {
-    if is_digit(c) {
-        return value_with(s, c) <= largest(s);
+    if c.is_ascii_digit() {
+        value_with(s, c) <= largest(s)
+    } else if s.value.is_some() {
+        is_space(c) || may_part(c, s.count)
+    } else {
+        is_space(c) && s.count == 0
     }
-    if s.digits {
-        return is_space(c) || may_part(c, s.count);
-    }
-    is_space(c) && s.count == 0
 }
 
 // Whether a text is spelled right.
-pub fn check(text: &[u8]) -> Spelling
+pub fn check(text: &[u8]) -> Result<(), Misspelling>
     ensures { result ≡ spelled text.now }
 {
     if MOST < text.len() {
-        return Spelling::Wrong(MOST);
+        return Err(Misspelling { place: MOST });
     }
     let mut s = fresh(0, 0);
-    let mut i = 0;
-    while i < text.len() {
-        if !may_stand(s, text[i]) {
-            return Spelling::Wrong(i);
+    for (place, &c) in text.iter().enumerate() {
+        if !may_stand(s, c) {
+            return Err(Misspelling { place });
         }
-        s = next(s, text[i]);
-        i += 1;
+        s = next(s, c);
     }
-    if !may_stand(s, b' ') {
-        return Spelling::Wrong(i);
+    if may_stand(s, b' ') {
+        Ok(())
+    } else {
+        Err(Misspelling { place: text.len() })
     }
-    Spelling::Right
 }
 
 // ---- from the notation to bytes
@@ -221,13 +213,12 @@ fn put_number(file: &mut [u8], s: Spot)
     requires { s.at + 2 * s.count ≤ 3000000000 }
     ensures { (out : List ℕ) (p : Part) → Reads p s → file.old ≡ file_of out p → file.new ≡ file_of out (numbered p) }
 {
-    if !s.digits {
-        return;
-    }
-    if s.count == 0 {
-        fields::put(file, s.at, (s.value % 256) as u8);
-    } else {
-        fields::put_two(file, s.at + TAG_BYTES + NUMBER_BYTES * s.count, s.value);
+    match s.value {
+        None => {}
+        Some(tag) if s.count == 0 => fields::put(file, s.at, (tag % 256) as u8),
+        Some(number) => {
+            fields::put_two(file, s.at + TAG_BYTES + NUMBER_BYTES * s.count, number);
+        }
     }
 }
 
@@ -250,7 +241,7 @@ fn put_character(file: &mut [u8], s: Spot, c: u8)
     requires { s.at + 2 * s.count ≤ 3000000000 }
     ensures { (out : List ℕ) (p : Part) → Reads p s → file.old ≡ file_of out p → file.new ≡ file_of out (after c p) }
 {
-    if is_digit(c) {
+    if c.is_ascii_digit() {
         return;
     }
     put_number(file, s);
@@ -269,17 +260,17 @@ pub fn encode(text: &[u8], file: &mut [u8]) -> usize
         return 0;
     }
     let mut s = fresh(0, 0);
-    let mut i = 0;
-    while i < text.len() {
-        put_character(file, s, text[i]);
-        s = next(s, text[i]);
-        i += 1;
+    for &c in text {
+        put_character(file, s, c);
+        s = next(s, c);
     }
     put_character(file, s, b' ');
     next(s, b' ').at
 }
 
 // ---- from bytes to the notation
+//
+// The bound on `at` shrinks by what a function puts, so each asks its own, and no type states one for all.
 
 // Puts a number at a place of a text, in decimal with at most so many digits; the place behind it.
 fn put_decimal(text: &mut [u8], at: usize, most: usize, n: u16) -> usize
@@ -305,7 +296,7 @@ fn put_byte(text: &mut [u8], at: usize, b: u8) -> usize
     ensures put { Put text.old at (shown_byte b) text.new result }
     ensures upper_bound { result ≤ at + 4 }
 {
-    let end = put_decimal(text, at, TAG_DIGITS, b as u16);
+    let end = put_decimal(text, at, TAG_DIGITS, u16::from(b));
     fields::put(text, end, b'.');
     end + 1
 }
@@ -316,10 +307,8 @@ fn put_bytes(bytes: &[u8], text: &mut [u8], at: usize) -> usize
     ensures { Put text.old at (shown_bytes bytes.now) text.new result }
 {
     let mut end = at;
-    let mut i = 0;
-    while i < bytes.len() {
-        end = put_byte(text, end, bytes[i]);
-        i += 1;
+    for &b in bytes {
+        end = put_byte(text, end, b);
     }
     end
 }
@@ -331,13 +320,12 @@ fn put_numbers(bytes: &[u8], text: &mut [u8], at: usize) -> usize
     ensures upper_bound { result ≤ at + 3 * length bytes.now }
 {
     let mut end = at;
-    let mut i = 0;
     let mut before = b':';
-    while i + 1 < bytes.len() {
+    for i in 0..bytes.len() / NUMBER_BYTES {
         fields::put(text, end, before);
-        end = put_decimal(text, end + 1, NUMBER_DIGITS, fields::read_two(bytes, i));
+        let number = fields::read_two(bytes, NUMBER_BYTES * i);
+        end = put_decimal(text, end + 1, NUMBER_DIGITS, number);
         before = b',';
-        i += NUMBER_BYTES;
     }
     end
 }
@@ -358,38 +346,37 @@ fn put_gap(rest: &[u8], text: &mut [u8], at: usize) -> usize
     ensures put { Put text.old at (gap rest.now) text.new result }
     ensures upper_bound { result ≤ at + 1 }
 {
-    if rest.len() == 0 {
-        return at;
+    if rest.is_empty() {
+        at
+    } else {
+        fields::put(text, at, b' ');
+        at + 1
     }
-    fields::put(text, at, b' ');
-    at + 1
 }
 
 // The bytes of the field that bytes begin with; none if it is cut, or its length is odd.
-fn whole_field(bytes: &[u8]) -> usize
-    ensures { result ≡ whole_field bytes.now }
+fn whole_field(bytes: &[u8]) -> Option<usize>
+    ensures { MatchOption result (whole_field bytes.now ≡ 0) (λ n. (n ≡ whole_field bytes.now) × (head_bytes ≤ n) × (n ≤ length bytes.now)) }
 {
     if bytes.len() < HEAD_BYTES {
-        return 0;
+        return None;
     }
-    let len = fields::read_two(bytes, TAG_BYTES) as usize;
-    if len % NUMBER_BYTES != 0 {
-        return 0;
+    let len = usize::from(fields::read_two(bytes, TAG_BYTES));
+    if len % NUMBER_BYTES == 0 && len <= bytes.len() - HEAD_BYTES {
+        Some(HEAD_BYTES + len)
+    } else {
+        None
     }
-    if bytes.len() - HEAD_BYTES < len {
-        return 0;
-    }
-    HEAD_BYTES + len
 }
 
-// The field of so many bytes that bytes begin with, and a space if something follows it.
-fn put_part(bytes: &[u8], n: usize, text: &mut [u8], at: usize) -> usize
-    requires { (head_bytes ≤ n) × (n ≤ length bytes.now) × (at + 4 * n ≤ 2000000000) }
-    ensures put { Put text.old at (shown_field (take n bytes.now) ++ gap (drop n bytes.now)) text.new result }
-    ensures upper_bound { result ≤ at + 4 * n }
+// A whole field, and a space if something follows it.
+fn put_part(field: &[u8], rest: &[u8], text: &mut [u8], at: usize) -> usize
+    requires { (head_bytes ≤ length field.now) × (at + 4 * length field.now ≤ 2000000000) }
+    ensures put { Put text.old at (shown_field field.now ++ gap rest.now) text.new result }
+    ensures upper_bound { result ≤ at + 4 * length field.now }
 {
-    let end = put_field(&bytes[..n], text, at);
-    put_gap(&bytes[n..], text, end)
+    let end = put_field(field, text, at);
+    put_gap(rest, text, end)
 }
 
 // Puts the text of a file at the start of the text, as much as it has room for, and answers how many characters there are: its fields, and,
@@ -401,16 +388,12 @@ pub fn show(file: &[u8], text: &mut [u8]) -> usize
     if MOST_SHOWN < file.len() {
         return 0;
     }
-    let mut at = 0;
+    let mut rest = file;
     let mut end = 0;
-    while at < file.len() {
-        let rest = &file[at..];
-        let n = whole_field(rest);
-        if n == 0 {
-            return put_bytes(rest, text, end);
-        }
-        end = put_part(rest, n, text, end);
-        at += n;
+    while let Some(n) = whole_field(rest) {
+        let (field, behind) = rest.split_at(n);
+        end = put_part(field, behind, text, end);
+        rest = behind;
     }
-    end
+    put_bytes(rest, text, end)
 }

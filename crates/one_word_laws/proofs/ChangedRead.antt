@@ -1,13 +1,13 @@
 -- THE CHANGED FILE IS READ: in the bytes of an accepted file one byte is the word, and with another word there they are read as the changed file.
 -- Assumes nothing.
-use Rattle.std.specs.Prelude.{◌≡◌, List, ℕ, zero, suc, ◌+◌, ◌*◌, ◌≤◌, ◌<◌, length, set, replicate}
+use Rattle.std.specs.Prelude.{Ok, ◌≡◌, List, ℕ, zero, suc, ◌+◌, ◌*◌, ◌≤◌, ◌<◌, length, set, replicate}
 use Rattle.std.proofs.Math.Path.{refl}
 use Rattle.std.proofs.Common.{sym, ap, subst, ◌∙◌, arith, length-set, get_or-set_same, get_or-set_other}
 use Rattle.std.proofs.lemmas.List.{length-replicate}
 use Rattle.meaning.specs.Tree.{Forest}
 use Rattle.meaning.specs.File.{File}
 use Rattle.meaning.specs.Mentions.{first_named, second_named, named, mentions}
-use Rattle.meaning.specs.Reading.{accepted, read_file}
+use Rattle.meaning.specs.Reading.{read_file}
 use Rattle.meaning.specs.Grammar.{two}
 use Rattle.meaning.specs.declared.Place.TheVariants.{Settings, Program}
 use Rattle.parsing.specs.Parsed.{Parsed, Levels, ParsedFile, AcceptedFile}
@@ -116,8 +116,8 @@ module _ (d : Forest) (f f' : File) (c : OneWord d f f') (b b' : List ℕ) (q ki
       }
 
 -- A WORD CHANGED IN AN ACCEPTED FILE, one byte, gives an accepted file.
-pub word_read : (d : Forest) (f f' : File) (b : List ℕ) → OneWord d f f' → read_file b ≡ accepted f
-    → (at : ℕ) × (kind : ℕ) × (read_file (set b at kind) ≡ accepted f')
+pub word_read : (d : Forest) (f f' : File) (b : List ℕ) → OneWord d f f' → read_file b ≡ Ok f
+    → (at : ℕ) × (kind : ℕ) × (read_file (set b at kind) ≡ Ok f')
 word_read d f f' b c read =
     let accepted_file = file_accepted b f read in
     let p = accepted_file.parsed in

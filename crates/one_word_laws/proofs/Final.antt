@@ -1,12 +1,12 @@
 -- THE FINAL FIGURES of two accepted files that differ in one word.
 -- Assumes nothing.
-use Rattle.std.specs.Prelude.{if◌then◌else◌, ◌≡◌, refl, Bool, true, false, not, ◌&&◌, List, [], ◌∷◌, ℕ, zero, suc, ◌+◌, ◌*◌, ◌≤◌, eqb, ltb}
+use Rattle.std.specs.Prelude.{Ok, if◌then◌else◌, ◌≡◌, refl, Bool, true, false, not, ◌&&◌, List, [], ◌∷◌, ℕ, zero, suc, ◌+◌, ◌*◌, ◌≤◌, eqb, ltb}
 use Rattle.std.proofs.Common.{ap₂, subst, arith, ltb-true}
 use Rattle.meaning.specs.Numbers.Tag
 use Rattle.meaning.specs.Numbers.Mode
 use Rattle.meaning.specs.Tree.{Forest, none, more, count, size}
 use Rattle.meaning.specs.File.{File}
-use Rattle.meaning.specs.Reading.{accepted, read_file}
+use Rattle.meaning.specs.Reading.{read_file}
 use Rattle.meaning.specs.Charges.{
   Line,
   helper,
@@ -108,7 +108,7 @@ module _ (d : Forest) (f f' : File) (c : OneWord d f f') where
   abbrev due : File → Figures
   due g = total (tree_lines g.symbols 0 g.tree)
 
-  module _ (b' : List ℕ) (read' : read_file b' ≡ accepted f') where
+  module _ (b' : List ℕ) (read' : read_file b' ≡ Ok f') where
     due_grown : Grown (initializers d) (due f) (due f')
     due_grown = rw (← c.symbols) (lines_grown d f.symbols 0 c.tree (accepted_fit b' f' read'))
 

@@ -1,6 +1,6 @@
 -- THE CONVERSE: what is parsed is accepted. So reading accepts exactly that.
 -- Assumes nothing.
-use Rattle.std.specs.Prelude.{◌≡◌, true, ◌&&◌, List, leb, length, get_or, replicate}
+use Rattle.std.specs.Prelude.{Ok, ◌≡◌, true, ◌&&◌, List, leb, length, get_or, replicate}
 use Rattle.std.proofs.Math.Path.{refl, sym}
 use Rattle.std.proofs.Common.{◌∙◌, arith}
 use Prim.Native.Nat.{ℕ, zero, suc, ◌+◌, ◌*◌}
@@ -9,16 +9,15 @@ use Rattle.meaning.specs.Tree.{Forest, count}
 use Rattle.meaning.specs.File.{File, numbers_of, field_bytes}
 use Rattle.meaning.specs.Mentions.{mentions}
 use Rattle.meaning.specs.Grammar.{two, field_of, field_at, unnamed}
-use Rattle.meaning.specs.Reading.{accepted, read_list, read_forest, wrong_count, read_file}
+use Rattle.meaning.specs.Reading.{read_list, read_forest, wrong_count, read_file}
 use Rattle.meaning.specs.declared.Place.{Place}
 use Rattle.meaning.specs.declared.Place.TheVariants.{Program}
-use Rattle.meaning.specs.declared.Reading.TheVariants.{Whole}
 use Rattle.parsing.specs.Parsed.{FieldAt, Parsed, parsed_none, parsed_more, Levels, ParsedFile, AcceptedFile}
 use Rattle.parsing.specs.Files.{settings_are}
 
 -- ---- the steps of the reader
 
-pub field_whole : {f : List ℕ} {p : Place} {at : ℕ} → FieldAt f p at → field_at f p at ≡ Whole (field_of f at)
+pub field_whole : {f : List ℕ} {p : Place} {at : ℕ} → FieldAt f p at → field_at f p at ≡ Ok (field_of f at)
 unfolding field_at field_of field_bytes
 field_whole {f} {p} {at} y =
     let ends = y.ends in
@@ -32,7 +31,7 @@ field_whole {f} {p} {at} y =
 module _ (f : List ℕ) (syms : ℕ) where
   abbrev AcceptedAs : ℕ → (ℕ → Place) → ℕ → ℕ → ℕ → List ℕ → Forest → ℕ → List ℕ → Type 0
   AcceptedAs l place cur i at m t next n =
-      read_forest l f syms place cur i (count t) at m ≡ accepted (record { forest = t; next = next; marks = n })
+      read_forest l f syms place cur i (count t) at m ≡ Ok (record { forest = t; next = next; marks = n })
 
   pub forest_accepted : (l : ℕ) {place : ℕ → Place} {cur i at next : ℕ} {m n : List ℕ} {t : Forest} → Levels l t
       → Parsed f syms place i cur at m t next n → AcceptedAs l place cur i at m t next n
@@ -55,10 +54,10 @@ module _ (f : List ℕ) (g : File) (q : ParsedFile f g) (levels : Levels 64 g.tr
 
   program_read
       : read_forest 64 f q.symbol_number_lem (λ _. Program) 0 0 1 q.root (replicate q.scope_number_lem 0)
-      ≡ accepted (record { forest = g.tree; next = length f; marks = q.marks })
+      ≡ Ok (record { forest = g.tree; next = length f; marks = q.marks })
   program_read = rw q.one_program at (forest_accepted f q.symbol_number_lem 64 levels q.tree)
 
-  whole_read : read_file f ≡ accepted g
+  whole_read : read_file f ≡ Ok g
   unfolding read_file
   whole_read =
       let s = settings_are f q.settings in
@@ -75,7 +74,7 @@ module _ (f : List ℕ) (g : File) (q : ParsedFile f g) (levels : Levels 64 g.tr
         le-leb q.symbol_number_lem (wrong_count f (λ y. mentions y g.tree) q.symbol_number_lem 1 q.first) q.all_counted_lem,
       )
       (λ i.
-      accepted
+      Ok
       (record {
         mode = (s.0 ∙ sym q.mode) i;
         is_module = (s.1 ∙ sym q.esm) i;
@@ -85,5 +84,5 @@ module _ (f : List ℕ) (g : File) (q : ParsedFile f g) (levels : Levels 64 g.tr
       }))
 
 -- WHAT IS PARSED, with at most 64 levels, is accepted.
-pub parsed_accepted : (f : List ℕ) (g : File) → AcceptedFile f g → read_file f ≡ accepted g
+pub parsed_accepted : (f : List ℕ) (g : File) → AcceptedFile f g → read_file f ≡ Ok g
 parsed_accepted f g a = whole_read f g a.parsed a.levels

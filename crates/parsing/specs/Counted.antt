@@ -1,25 +1,21 @@
 -- THE LAST CHECK EXACTLY: when the fifth numbers of the symbol rows refuse a file, and at which row (02, request 7).
 -- Assumes nothing.
-use Rattle.std.specs.Prelude.{if◌then◌else◌, ◌≡◌, Bool, true, false, ◌&&◌, List, length, replicate, eqb, leb}
+use Rattle.meaning.specs.declared.Reason.{Reason}
+use Rattle.meaning.specs.declared.Reason.TheVariants as Reason
+use Rattle.meaning.specs.Refusals.{Outcome, refused}
+use Rattle.std.specs.Prelude.{Ok, Err, if◌then◌else◌, ◌≡◌, Bool, true, false, ◌&&◌, List, length, replicate, eqb, leb}
 use Rattle.std.proofs.Math.Path.{refl}
 use Rattle.std.proofs.Common.{sym, ap, ◌∙◌, le_antisymm, lt_of_not-le, le_of_suc-le-suc, arith, eqb-true, leb-true, leb-false, le-leb}
 use Prim.Native.Nat.{ℕ, zero, suc, ◌+◌, ◌*◌, ◌-◌, ◌≤◌, ◌<◌}
 use Rattle.std.proofs.lemmas.Bool.{eqb-false, lt-leb}
 use Rattle.meaning.specs.Numbers.Mode
-use Rattle.meaning.specs.Numbers.Refusal
 use Rattle.meaning.specs.File.{File, settings_bytes, scope_bytes, symbol_bytes}
 use Rattle.meaning.specs.Mentions.{mentions}
 use Rattle.meaning.specs.Grammar.{two, field_at, unnamed}
 use Rattle.meaning.specs.Reading.{
-  Outcome,
-  accepted,
-  refused,
   ◌>>=◌,
   ◌>>◌,
   ensure,
-  field,
-  Counted,
-  rows,
   read_scopes,
   read_symbols,
   read_forest,
@@ -32,16 +28,14 @@ use Rattle.meaning.specs.Reading.{
 }
 use Rattle.meaning.specs.declared.Place.TheVariants.{Settings, Program}
 use Rattle.meaning.specs.declared.Field.{Field}
-use Rattle.meaning.specs.declared.Reading.{Reading}
-use Rattle.meaning.specs.declared.Reading.TheVariants.{Whole, Refused}
 use Rattle.meaning.specs.declared.Rows.{Rows}
-use Rattle.meaning.specs.declared.Rows.TheVariants.{Read, Refused as RefusedRows}
+use Rattle.spec_laws.specs.Refused.{same_refused}
 use Rattle.parsing.specs.Fields.{field_is, scopes_are}
 use Rattle.parsing.specs.Files.{settings_are, scopes_length, symbols_length}
 
 -- Reading without its last check.
 unfoldable pub read_uncounted : List ℕ → Outcome File
-read_uncounted f = read_through (read_forest most_levels) (λ tree n at. accepted tt) f
+read_uncounted f = read_through (read_forest most_levels) (λ tree n at. Ok tt) f
 
 -- the offset of the first symbol row, behind the settings and the scope rows; that of row y, counted from 1
 abbrev pub first_symbol : File → ℕ
@@ -70,10 +64,10 @@ pub record LowestWrong (f : List ℕ) (g : File) (y : ℕ) : Type 0 where
   pub below : (j : ℕ) → 1 ≤ j → j < y → CountRight f g j
 
 -- a refusal of the last check: 5 at that row
-pub record CountRefused (f : List ℕ) (g : File) (c p : ℕ) : Type 0 where
+pub record CountRefused (f : List ℕ) (g : File) (c : Reason) (p : ℕ) : Type 0 where
   pub row : ℕ
   pub lowest_wrong : LowestWrong f g row
-  pub number : c ≡ Refusal.WrongNumber
+  pub number : c ≡ Reason.WrongNumber
   pub place : p ≡ symbol_offset g row
 
 -- ---- the search for a wrong count
@@ -133,61 +127,53 @@ module _ (f : List ℕ) (count : ℕ → ℕ) where
 
 -- two readings whose steps are alike
 alike : {A B C : Type 0} (m : Outcome A) (g : A → Outcome C) (h : A → Outcome B) (k : B → Outcome C)
-    → ((a : A) → m ≡ accepted a → g a ≡ (h a >>= k)) → (m >>= g) ≡ ((m >>= h) >>= k)
-alike (accepted a) g h k e = e a refl
-alike (refused c p) g h k e = refl
-
-a_field : (d : Reading) (x : Field) → field d ≡ accepted x → d ≡ Whole x
-a_field (Whole y) x e = cc
-a_field (Refused c p) x e = cc
-
-some_rows : (d : Rows) (r : Counted) → rows d ≡ accepted r → d ≡ Read r.number r.next
-some_rows (Read k at) r e = cc
-some_rows (RefusedRows c p) r e = cc
+    → ((a : A) → m ≡ Ok a → g a ≡ (h a >>= k)) → (m >>= g) ≡ ((m >>= h) >>= k)
+alike (Ok a) g h k e = e a refl
+alike (Err r) g h k e = refl
 
 -- the first symbol row stands behind the settings and the scope rows
-behind_scopes : (f : List ℕ) (x : Field) (r : Counted) → field (field_at f Settings 0) ≡ accepted x
-    → rows (read_scopes f x.next) ≡ accepted r → r.next ≡ settings_bytes + scope_bytes * r.number
+behind_scopes : (f : List ℕ) (x : Field) (r : Rows) → field_at f Settings 0 ≡ Ok x
+    → read_scopes f x.next ≡ Ok r → r.next ≡ settings_bytes + scope_bytes * r.count
 behind_scopes f x r e d =
-    let (same, y) = field_is f Settings 0 x (a_field (field_at f Settings 0) x e) in
+    let (same, y) = field_is f Settings 0 x e in
     let next : x.next ≡ settings_bytes = ap (λ (v : Field). v.next) same ∙ (settings_are f y).2 in
     let inside : x.next ≤ length f = omega (arith, ap (λ (v : Field). v.next) same, y.ends) in
-    omega (arith, (scopes_are f x.next r.number r.next inside (some_rows (read_scopes f x.next) r d)).next_is)
+    omega (arith, (scopes_are f x.next r.count r.next inside d).next_is)
 
 -- the last check, of a file that the others accept
 abbrev pub counts_checked : List ℕ → File → Outcome File
 counts_checked f g = do
   check_counts f (λ y. mentions y g.tree) (length g.symbols) (first_symbol g)
-  accepted g
+  Ok g
 
 -- READING IS READING WITHOUT THE LAST CHECK, and then that check.
 pub counts_last : (f : List ℕ) → read_file f ≡ (read_uncounted f >>= counts_checked f)
 unfolding read_file read_uncounted
 counts_last f =
-    alike (ensure (leb (length f) most_bytes) Refusal.TooLong most_bytes) _ _ _ (λ _ _.
-    alike (field (field_at f Settings 0)) _ _ _ (λ x ex.
-    alike (ensure (leb x.a Mode.Inline && leb x.b 1) Refusal.WrongNumber 0) _ _ _ (λ _ _.
-    alike (rows (read_scopes f x.next)) _ _ _ (λ s es.
-    alike (rows (read_symbols f s.number s.next)) _ _ _ (λ y _.
-    alike (read_forest most_levels f y.number (λ _. Program) 0 0 1 y.next (replicate s.number 0)) _ _ _ (λ p _.
-    alike (ensure (leb (length f) p.next) Refusal.BytesBehind p.next) _ _ _ (λ _ _.
+    alike (ensure (leb (length f) most_bytes) Reason.TooLong most_bytes) _ _ _ (λ _ _.
+    alike (field_at f Settings 0) _ _ _ (λ x ex.
+    alike (ensure (leb x.a Mode.Inline && leb x.b 1) Reason.WrongNumber 0) _ _ _ (λ _ _.
+    alike (read_scopes f x.next) _ _ _ (λ s es.
+    alike (read_symbols f s.count s.next) _ _ _ (λ y _.
+    alike (read_forest most_levels f y.count (λ _. Program) 0 0 1 y.next (replicate s.count 0)) _ _ _ (λ p _.
+    alike (ensure (leb (length f) p.next) Reason.BytesBehind p.next) _ _ _ (λ _ _.
     alike
-    (ensure (leb s.number (unnamed p.marks)) Refusal.WrongNumber (settings_bytes + scope_bytes * unnamed p.marks)) _ _ _ (λ _ _.
-    rw (symbols_length f y.number s.next, scopes_length f s.number 1, behind_scopes f x s ex es)))))))))
+    (ensure (leb s.count (unnamed p.marks)) Reason.WrongNumber (settings_bytes + scope_bytes * unnamed p.marks)) _ _ _ (λ _ _.
+    rw (symbols_length f y.count s.next, scopes_length f s.count 1, behind_scopes f x s ex es)))))))))
 
 -- reading answers what the last check makes of it
 if_uncounted : (f : List ℕ) {o : Outcome File} → read_uncounted f ≡ o → read_file f ≡ (o >>= counts_checked f)
 if_uncounted f e = counts_last f ∙ ap (λ (o : Outcome File). o >>= counts_checked f) e
 
 -- a test that passed, and one that failed
-by_passed : (b : Bool) (q : ℕ) (h g : File) → (ensure b Refusal.WrongNumber q >> accepted h) ≡ accepted g → (b ≡ true) × (h ≡ g)
+by_passed : (b : Bool) (q : ℕ) (h g : File) → (ensure b Reason.WrongNumber q >> Ok h) ≡ Ok g → (b ≡ true) × (h ≡ g)
 by_passed true q h g e = (refl, cc)
 by_passed false q h g e = (cc, cc)
 
-by_failed : (b : Bool) (q c p : ℕ) (g : File) → (ensure b Refusal.WrongNumber q >> accepted g) ≡ refused c p
-    → (b ≡ false) × (c ≡ Refusal.WrongNumber) × (p ≡ q)
+by_failed : (b : Bool) (q : ℕ) (c : Reason) (p : ℕ) (g : File) → (ensure b Reason.WrongNumber q >> Ok g) ≡ refused c p
+    → (b ≡ false) × (c ≡ Reason.WrongNumber) × (p ≡ q)
 by_failed true q c p g e = (cc, cc, cc)
-by_failed false q c p g e = (refl, cc, cc)
+by_failed false q c p g e = let (reason, place) = same_refused e in (refl, sym reason, sym place)
 
 -- ---- the search in a file
 
@@ -232,19 +218,19 @@ module _ (f : List ℕ) (g : File) where
 
   -- the check passes, or refuses; and what it tells if it does
 
-  passes : length g.symbols ≤ searched → counts_checked f g ≡ accepted g
+  passes : length g.symbols ≤ searched → counts_checked f g ≡ Ok g
   passes l = rw (le-leb (length g.symbols) searched l)
 
-  refuses : searched < length g.symbols → counts_checked f g ≡ refused Refusal.WrongNumber (first_symbol g + symbol_bytes * searched)
+  refuses : searched < length g.symbols → counts_checked f g ≡ refused Reason.WrongNumber (first_symbol g + symbol_bytes * searched)
   refuses l = rw (lt-leb (length g.symbols) searched l)
 
-  passed : counts_checked f g ≡ accepted g → CountsRight f g
+  passed : counts_checked f g ≡ Ok g → CountsRight f g
   passed e =
       let n = length g.symbols in
       let all : n ≤ searched = leb-true n searched (by_passed (leb n searched) (first_symbol g + symbol_bytes * searched) g g e).0 in
       λ j l m. right_below searched (lowest f _ n 1 (first_symbol g)) j l (omega arith)
 
-  failed : (c p : ℕ) → counts_checked f g ≡ refused c p → CountRefused f g c p
+  failed : (c : Reason) (p : ℕ) → counts_checked f g ≡ refused c p → CountRefused f g c p
   failed c p e =
       let n = length g.symbols in
       let (b, number, place) = by_failed (leb n searched) (first_symbol g + symbol_bytes * searched) c p g e in
@@ -257,24 +243,24 @@ module _ (f : List ℕ) (g : File) where
       }
 
 -- the last check hands on the file that it was given
-uncounted_is : (f : List ℕ) (g : File) (o : Outcome File) → (o >>= counts_checked f) ≡ accepted g → o ≡ accepted g
-uncounted_is f g (accepted h) e =
-    ap accepted (by_passed (leb (length h.symbols) (searched f h)) (first_symbol h + symbol_bytes * searched f h) h g e).1
-uncounted_is f g (refused c p) e = e
+uncounted_is : (f : List ℕ) (g : File) (o : Outcome File) → (o >>= counts_checked f) ≡ Ok g → o ≡ Ok g
+uncounted_is f g (Ok h) e =
+    ap Ok (by_passed (leb (length h.symbols) (searched f h)) (first_symbol h + symbol_bytes * searched f h) h g e).1
+uncounted_is f g (Err r) e = e
 
 -- ---- when it refuses, and where
 
 -- What the checks before it refuse is refused as before.
-pub count_refused : (f : List ℕ) (c p : ℕ) → read_uncounted f ≡ refused c p → read_file f ≡ refused c p
+pub count_refused : (f : List ℕ) (c : Reason) (p : ℕ) → read_uncounted f ≡ refused c p → read_file f ≡ refused c p
 count_refused f c p e = if_uncounted f e
 
 -- A file that they accept is accepted if every symbol row has its count,
-pub counts_right : (f : List ℕ) (g : File) → read_uncounted f ≡ accepted g → CountsRight f g → read_file f ≡ accepted g
+pub counts_right : (f : List ℕ) (g : File) → read_uncounted f ≡ Ok g → CountsRight f g → read_file f ≡ Ok g
 counts_right f g e h = if_uncounted f e ∙ passes f g (omega (arith, only_lowest f _ (all_right f g h)))
 
 -- and else refused with 5 at the lowest row that has not.
-pub count_wrong : (f : List ℕ) (g : File) (y : ℕ) → read_uncounted f ≡ accepted g → LowestWrong f g y
-    → read_file f ≡ refused Refusal.WrongNumber (symbol_offset g y)
+pub count_wrong : (f : List ℕ) (g : File) (y : ℕ) → read_uncounted f ≡ Ok g → LowestWrong f g y
+    → read_file f ≡ refused Reason.WrongNumber (symbol_offset g y)
 count_wrong f g zero e q = absurd (omega (arith, q.from_one))
 count_wrong f g (suc k) e q =
     let w : searched f g ≡ k = only_lowest f _ (lowest_in f g k q) in
@@ -282,11 +268,11 @@ count_wrong f g (suc k) e q =
     if_uncounted f e ∙ refuses f g (omega (arith, q.a_row)) ∙ rw (w, back)
 
 -- So an accepted file passes them, and its counts are right;
-pub counts_accepted : (f : List ℕ) (g : File) → read_file f ≡ accepted g → (read_uncounted f ≡ accepted g) × CountsRight f g
+pub counts_accepted : (f : List ℕ) (g : File) → read_file f ≡ Ok g → (read_uncounted f ≡ Ok g) × CountsRight f g
 counts_accepted f g e =
     let u = uncounted_is f g (read_uncounted f) (sym (counts_last f) ∙ e) in
     (u, passed f g (sym (if_uncounted f u) ∙ e))
 
 -- and a file that they accept is refused for a wrong count only.
-pub count_lowest : (f : List ℕ) (g : File) (c p : ℕ) → read_uncounted f ≡ accepted g → read_file f ≡ refused c p → CountRefused f g c p
+pub count_lowest : (f : List ℕ) (g : File) (c : Reason) (p : ℕ) → read_uncounted f ≡ Ok g → read_file f ≡ refused c p → CountRefused f g c p
 count_lowest f g c p u e = failed f g c p (sym (if_uncounted f u) ∙ e)

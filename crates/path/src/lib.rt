@@ -4,7 +4,7 @@
 // how many of its children are still to be entered; both are 0 in all other rows. So a walk needs no stack, and no depth is assumed.
 #![tactic(auto)]
 
-ghost use Rattle.std.specs.Prelude.{◌≡◌};
+ghost use Rattle.std.specs.Prelude.{◌≡◌, List, Bool, ℕ, ◌-◌};
 ghost use Rattle.meaning.specs.Grammar.{scope_of};
 ghost use Rattle.tables.specs.Loops.{until};
 ghost use Rattle.tables.specs.Table.{head_f};
@@ -26,27 +26,28 @@ pub struct Walk {
 
 impl Walk {
     // So many rows are to be made: they take free ones.
+    #[tactic(auto, unfolding(crate::specs::Path::charged_f))]
     pub fn charge(mut self, rows: u16) -> Self
         ensures { result ≡ charged_f self rows }
     {
-        let gap = RecordId(tables::minus(self.gap.0, rows));
-        self.gap = gap;
+        self.gap = RecordId(self.gap.0.saturating_sub(rows));
         self
     }
 
     // The first row to visit is visited.
+    #[tactic(auto, unfolding(crate::specs::Path::stepped_f))]
     fn step(mut self) -> Self
         ensures { result ≡ stepped_f self }
     {
-        let next = RecordId(tables::plus(self.visited.0, 1));
-        let gap = RecordId(tables::plus(self.gap.0, 1));
+        let next = RecordId(self.visited.0.saturating_add(1));
         self.visited = next;
-        self.gap = gap;
+        self.gap = RecordId(self.gap.0.saturating_add(1));
         self.inner = next;
         self
     }
 
     // With another innermost open row.
+    #[tactic(auto, unfolding(crate::specs::Path::with_inner_f))]
     pub fn with_inner(mut self, inner: RecordId) -> Self
         ensures { result ≡ with_inner_f self inner.0 }
     {
@@ -55,17 +56,17 @@ impl Walk {
     }
 
     // What a cursor has written is visited.
+    #[tactic(auto, unfolding(crate::specs::Path::with_cursor_f))]
     pub fn with_cursor(mut self, q: Cursor) -> Self
         ensures { result ≡ with_cursor_f self q.read.0 q.written.0 }
     {
-        let gap = q.read;
-        let visited = q.written;
-        self.visited = visited;
-        self.gap = gap;
+        self.visited = q.written;
+        self.gap = q.read;
         self
     }
 
     // With other counters.
+    #[tactic(auto, unfolding(crate::specs::Path::with_ctx_f))]
     pub fn with_ctx(mut self, ctx: Ctx) -> Self
         ensures { result ≡ with_ctx_f self ctx }
     {
@@ -81,138 +82,133 @@ impl Walk {
 pub fn scope_of(r: Row) -> ScopeId
     ensures { result.0 ≡ scope_of (head_f r) }
 {
-    let tag = r.tag;
-    match tag {
-        tag::PROGRAM => ScopeId(r.a),
-        tag::BLOCK => ScopeId(r.a),
-        tag::PLAIN => ScopeId(r.a),
-        tag::FOR => ScopeId(r.a),
-        tag::FOR_OF => ScopeId(r.a),
-        tag::SWITCH => ScopeId(r.a),
-        tag::CATCH => ScopeId(r.a),
-        tag::FUNCTION => ScopeId(r.b),
-        tag::CLASS => ScopeId(r.b),
-        tag::STATIC_BLOCK => ScopeId(r.a),
-        _ => ScopeId(0),
-    }
+    ScopeId(match r.tag {
+        tag::PROGRAM
+        | tag::BLOCK
+        | tag::PLAIN
+        | tag::FOR
+        | tag::FOR_OF
+        | tag::SWITCH
+        | tag::CATCH
+        | tag::STATIC_BLOCK => r.a,
+        tag::FUNCTION | tag::CLASS => r.b,
+        _ => 0,
+    })
 }
 
-// The scope that a row has, or 0.
+// The row before another.
+fn before(at: RecordId) -> RecordId
+    ensures { result.0 ≡ at.0 - 1 }
+{
+    RecordId(at.0.saturating_sub(1))
+}
+
+// The scope that a row has, or 0: the tables too have 0 for none, so that an `Option` would only add a second one.
+#[tactic(auto, unfolding(crate::specs::Path::scope_at_f))]
 fn scope_at(records: &[u16], at: RecordId) -> ScopeId
     ensures { result.0 ≡ scope_at_f records.now at.0 }
 {
-    let n = at.0;
-    if n == 0 {
+    if at.0 == 0 {
         return ScopeId(0);
     }
-    scope_of(tables::row_after(records, RecordId(n - 1)))
-}
-
-// The row has a scope of its own, or there is none.
-fn has_scope(records: &[u16], at: RecordId) -> bool
-    ensures { result ≡ has_scope_f records.now at.0 }
-{
-    let n = at.0;
-    if n == 0 {
-        return true;
-    }
-    let s = scope_at(records, RecordId(n));
-    s.0 != 0
+    scope_of(tables::row_after(records, before(at)))
 }
 
 // The row around an open one.
+#[tactic(auto, unfolding(crate::specs::Path::up_f))]
 fn up(records: &[u16], at: RecordId) -> RecordId
     ensures { result.0 ≡ up_f records.now at.0 }
 {
-    RecordId(tables::column(records, RecordId(tables::minus(at.0, 1)), record::UP))
+    RecordId(tables::column(records, before(at), record::UP))
 }
 
-// The nearest open record with a scope, after `count` steps outwards at most.
-fn nearest_scope(records: &[u16], inner: RecordId, count: u16) -> RecordId
-    ensures { result.0 ≡ until count (has_scope_f records.now) (up_f records.now) inner.0 }
+// What is looked for on the way outwards.
+trait Sought {
+    ghost found: { List ℕ → ℕ → Bool };
+
+    // The row is one, or there is none.
+    fn found(records: &[u16], at: RecordId) -> bool
+        ensures { result ≡ found records.now at.0 };
+}
+
+// A row with a scope of its own.
+struct Scoped;
+
+impl Sought for Scoped {
+    ghost found = { has_scope_f };
+
+    #[tactic(auto, unfolding(crate::specs::Path::has_scope_f))]
+    fn found(records: &[u16], at: RecordId) -> bool {
+        at.0 == 0 || scope_at(records, at).0 != 0
+    }
+}
+
+// A Program, a Function or a StaticBlock.
+struct Hoist;
+
+impl Sought for Hoist {
+    ghost found = { is_hoist_f };
+
+    #[tactic(auto, unfolding(crate::specs::Path::is_hoist_f))]
+    fn found(records: &[u16], at: RecordId) -> bool {
+        at.0 == 0
+            || matches!(
+                tables::column(records, before(at), record::TAG),
+                tag::PROGRAM | tag::FUNCTION | tag::STATIC_BLOCK
+            )
+    }
+}
+
+// The nearest open row that is looked for, after `count` steps outwards at most.
+fn nearest<S: Sought>(records: &[u16], inner: RecordId, count: u16) -> RecordId
+    ensures { result.0 ≡ until count (S.found records.now) (up_f records.now) inner.0 }
 {
     let mut at = inner;
-    let mut k: u16 = 0;
-    while k < count {
-        if has_scope(records, at) {
+    for _ in 0..count {
+        if S::found(records, at) {
             break;
         }
         at = up(records, at);
-        k += 1;
     }
     at
 }
 
 // The current scope: that of the nearest open record with one, after `count` steps outwards at most.
+#[tactic(auto, unfolding(crate::specs::Path::current_scope_f))]
 pub fn current_scope(records: &[u16], inner: RecordId, count: u16) -> ScopeId
     ensures { result.0 ≡ current_scope_f records.now inner.0 count }
 {
-    scope_at(records, nearest_scope(records, inner, count))
-}
-
-// A Program, a Function or a StaticBlock.
-fn is_hoist(records: &[u16], at: RecordId) -> bool
-    ensures { result ≡ is_hoist_f records.now at.0 }
-{
-    let n = at.0;
-    if n == 0 {
-        return true;
-    }
-    let tag = tables::column(records, RecordId(n - 1), record::TAG);
-    match tag {
-        tag::PROGRAM => true,
-        tag::FUNCTION => true,
-        tag::STATIC_BLOCK => true,
-        _ => false,
-    }
-}
-
-// The nearest open Program, Function or StaticBlock, after `count` steps outwards at most.
-fn nearest_hoist(records: &[u16], inner: RecordId, count: u16) -> RecordId
-    ensures { result.0 ≡ until count (is_hoist_f records.now) (up_f records.now) inner.0 }
-{
-    let mut at = inner;
-    let mut k: u16 = 0;
-    while k < count {
-        if is_hoist(records, at) {
-            break;
-        }
-        at = up(records, at);
-        k += 1;
-    }
-    at
+    scope_at(records, nearest::<Scoped>(records, inner, count))
 }
 
 // The hoist scope: that of the nearest open Program, Function or StaticBlock.
+#[tactic(auto, unfolding(crate::specs::Path::hoist_scope_f))]
 pub fn hoist_scope(records: &[u16], inner: RecordId, count: u16) -> ScopeId
     ensures { result.0 ≡ hoist_scope_f records.now inner.0 count }
 {
-    scope_at(records, nearest_hoist(records, inner, count))
+    scope_at(records, nearest::<Hoist>(records, inner, count))
 }
 
 // ---- entering and leaving
 
 // An open row is left; the row around it.
+#[tactic(auto, unfolding(crate::specs::Path::close_f))]
 pub fn close(records: &mut [u16], at: RecordId) -> RecordId
     ensures { open_rows records.new result.0 ≡ close_f (open_rows records.old at.0) }
 {
     let around = up(records, at);
-    tables::put_column(records, RecordId(tables::minus(at.0, 1)), record::UP, 0);
+    tables::put_column(records, before(at), record::UP, 0);
     around
 }
 
 // The row has children to enter, or is a StaticBlock, whose leaving is a visit; or there is none.
+#[tactic(auto, unfolding(crate::specs::Path::stays_f))]
 fn stays(records: &[u16], at: RecordId) -> bool
     ensures { result ≡ stays_f records.now at.0 }
 {
-    let n = at.0;
-    if n == 0 {
-        return true;
-    }
-    if tables::column(records, RecordId(n - 1), record::LEFT) != 0 {
-        return true;
-    }
-    tables::column(records, RecordId(n - 1), record::TAG) == tag::STATIC_BLOCK
+    at.0 == 0
+        || tables::column(records, before(at), record::LEFT) != 0
+        || tables::column(records, before(at), record::TAG) == tag::STATIC_BLOCK
 }
 
 // Rows whose children are all entered are left, `count` at most.
@@ -220,30 +216,23 @@ pub fn settle(records: &mut [u16], inner: RecordId, count: u16) -> RecordId
     ensures { open_rows records.new result.0 ≡ settle_f count (open_rows records.old inner.0) }
 {
     let mut at = inner;
-    let mut k: u16 = 0;
-    while k < count {
+    for _ in 0..count {
         if stays(records, at) {
             break;
         }
         at = close(records, at);
-        k += 1;
     }
     at
 }
 
 // One child less to enter.
+#[tactic(auto, unfolding(crate::specs::Path::count_down_f))]
 fn count_down(records: &mut [u16], at: RecordId)
     ensures { records.new ≡ count_down_f records.old at.0 }
 {
-    let n = at.0;
-    if n != 0 {
-        let left = tables::column(records, RecordId(n - 1), record::LEFT);
-        tables::put_column(
-            records,
-            RecordId(n - 1),
-            record::LEFT,
-            tables::minus(left, 1),
-        );
+    if at.0 != 0 {
+        let left = tables::column(records, before(at), record::LEFT);
+        tables::put_column(records, before(at), record::LEFT, left.saturating_sub(1));
     }
 }
 
@@ -252,25 +241,21 @@ fn open_row(r: Row, around: RecordId) -> Row
     ensures { result ≡ open_row_f r around.0 }
 {
     Row {
-        tag: r.tag,
-        a: r.a,
-        b: r.b,
-        c: r.c,
-        n: r.n,
         up: around.0,
         left: r.n,
+        ..r
     }
 }
 
 // The first row to visit becomes the innermost open row.
+#[tactic(auto, unfolding(crate::specs::Path::enter_f))]
 pub fn enter(records: &mut [u16], w: Walk) -> Walk
     ensures { on_records records.new result ≡ enter_f (on_records records.old w) }
 {
     let around = w.inner;
     count_down(records, around);
     let r = tables::row_after(records, w.gap);
-    tables::clear_row(records, w.gap);
-    tables::put_row(records, w.visited, open_row(r, around));
+    tables::move_row(records, w.gap, w.visited, open_row(r, around));
     let v = w.step();
     let inner = settle(records, v.inner, v.visited.0);
     v.with_inner(inner)

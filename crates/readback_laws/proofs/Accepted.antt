@@ -1,12 +1,12 @@
 -- An accepted file and its walk, read back: the records have tags of records, and the tree that is read is the tree that the bytes say.
 -- Assumes nothing.
-use Rattle.std.specs.Prelude.{if◌then◌else◌, ◌≡◌, refl, Bool, true, false, List, [], ℕ, suc, ltb}
+use Rattle.std.specs.Prelude.{Ok, if◌then◌else◌, ◌≡◌, refl, Bool, true, false, List, [], ℕ, suc, ltb}
 use Rattle.std.proofs.Common.{sym, ap, subst, ◌∙◌, le-leb}
 use Rattle.meaning.specs.Numbers.Tag
 use Rattle.meaning.specs.Tree.{Forest, none, more, ◌&◌}
 use Rattle.meaning.specs.File.{File, own_numbers}
 use Rattle.meaning.specs.Grammar.{place_of, head_of}
-use Rattle.meaning.specs.Reading.{accepted, read_file}
+use Rattle.meaning.specs.Reading.{read_file}
 use Rattle.meaning.specs.Walk.{visits, store_of, start, plug, tree_at}
 use Rattle.meaning.specs.ImportLine.{completed}
 use Rattle.meaning.specs.declared.Place.{Place}
@@ -32,7 +32,7 @@ within_tagged none p = tt
 within_tagged (more h k r) p = (le-leb h.tag Tag.Step p.0.0, within_tagged k p.1, within_tagged r p.2)
 
 -- Wherever calls for visits lead, all records have tags of records.
-pub calls_tagged : (b : List ℕ) (f : File) (k : ℕ) → Bytes b → read_file b ≡ accepted f → Tagged (tree_at (completed (visits k (start f))))
+pub calls_tagged : (b : List ℕ) (f : File) (k : ℕ) → Bytes b → read_file b ≡ Ok f → Tagged (tree_at (completed (visits k (start f))))
 calls_tagged b f k bytes e = within_tagged (tree_at (completed (visits k (start f)))) (calls_fit b f k bytes e)
 
 -- ---- the tree just read
@@ -42,7 +42,7 @@ pub just_read : (P : Forest → Type 0) (f : File) → P (tree_at (completed (vi
 unfolding visits start plug ◌&◌
 just_read P f p = subst P (ap tree_at (start_complete f) ∙ (settled [] none f.tree (store_of f)).0) p
 
-pub read_tagged : (b : List ℕ) (f : File) → Bytes b → read_file b ≡ accepted f → Tagged f.tree
+pub read_tagged : (b : List ℕ) (f : File) → Bytes b → read_file b ≡ Ok f → Tagged f.tree
 read_tagged b f bytes e = just_read Tagged f (calls_tagged b f 0 bytes e)
 
 -- it has no numbers that are not written
@@ -64,7 +64,7 @@ plain_read syms (more h k r) place i q =
     rw (e, plain_read syms k (place_of (place i) q.0) 0 q.2, plain_read syms r place (suc i) q.3)
 
 -- THE TREE OF AN ACCEPTED FILE is the one that its bytes say.
-pub tree_read : (b : List ℕ) (f : File) → Bytes b → read_file b ≡ accepted f → tree_in b ≡ f.tree
+pub tree_read : (b : List ℕ) (f : File) → Bytes b → read_file b ≡ Ok f → tree_in b ≡ f.tree
 tree_read b f bytes e =
     let q = accepted_placed b f e in
     ap tree_in (sym (file_written b f bytes e))

@@ -1,11 +1,11 @@
 -- At every spot of an accepted file's walk, records without n have no children.
 -- Assumes nothing.
-use Rattle.std.specs.Prelude.{◌≡◌, refl, true, false, List, [], ◌∷◌, ℕ, zero, suc}
+use Rattle.std.specs.Prelude.{Ok, ◌≡◌, refl, true, false, List, [], ◌∷◌, ℕ, zero, suc}
 use Rattle.std.proofs.Common.{sym, ap, subst, ◌∙◌, arith}
 use Rattle.meaning.specs.Tree.{Head, Forest, none, more, one, count, single, ◌&◌}
 use Rattle.meaning.specs.File.{File, has_children}
 use Rattle.meaning.specs.Grammar.{children_of, place_of}
-use Rattle.meaning.specs.Reading.{accepted, read_file}
+use Rattle.meaning.specs.Reading.{read_file}
 use Rattle.meaning.specs.Walk.{enter, leave, Crumb, crumb, Spot, at, leaving, over, current_scope, hoist_scope, visit, visits, store_of, start, plug, tree_at}
 use Rattle.meaning.specs.ImportLine.{with_import, completed}
 use Rattle.meaning.specs.declared.Place.{Place}
@@ -90,7 +90,7 @@ visits_childless zero s q p = p
 visits_childless (suc k) s q p = visits_childless k (visit s) (pending_visit s q) (visit_childless s q p)
 
 -- At every spot of an accepted file's walk, records without n have no children.
-pub accepted_childless : (b : List ℕ) (f : File) (k : ℕ) → read_file b ≡ accepted f → Childless (tree_at (visits k (start f)))
+pub accepted_childless : (b : List ℕ) (f : File) (k : ℕ) → read_file b ≡ Ok f → Childless (tree_at (visits k (start f)))
 unfolding start plug ◌&◌
 accepted_childless b f k e =
     let q = accepted_placed b f e in
@@ -109,7 +109,7 @@ import_childless y (more h k r) e q = (
 )
 
 -- The same where calls for visits lead.
-pub calls_childless : (b : List ℕ) (f : File) (k : ℕ) → read_file b ≡ accepted f → Childless (tree_at (completed (visits k (start f))))
+pub calls_childless : (b : List ℕ) (f : File) (k : ℕ) → read_file b ≡ Ok f → Childless (tree_at (completed (visits k (start f))))
 unfolding has_children
 calls_childless b f k e =
     let q = accepted_childless b f k e in

@@ -1,6 +1,6 @@
 -- A file with no number above 65,535 is written in bytes, and so is what the walk of an accepted file leaves.
 -- Assumes nothing.
-use Rattle.std.specs.Prelude.{if◌then◌else◌, ◌≡◌, Bool, true, false, List, [], ◌∷◌, ◌++◌, ℕ, zero, suc, ◌*◌, ◌≤◌, length, take}
+use Rattle.std.specs.Prelude.{Ok, if◌then◌else◌, ◌≡◌, Bool, true, false, List, [], ◌∷◌, ◌++◌, ℕ, zero, suc, ◌*◌, ◌≤◌, length, take}
 use Rattle.std.proofs.Common.{arith, length-append}
 use Rattle.meaning.specs.Numbers.Tag
 use Rattle.meaning.specs.Tree.{Forest, none, more, Row, size, flatten}
@@ -19,7 +19,7 @@ use Rattle.meaning.specs.File.{
   record_fields,
   written,
 }
-use Rattle.meaning.specs.Reading.{accepted, read_file}
+use Rattle.meaning.specs.Reading.{read_file}
 use Rattle.meaning.specs.Walk.{Spot, visits, start, tree_at, store_at, file_at}
 use Rattle.meaning.specs.ImportLine.{completed}
 use Rattle.spec_laws.specs.Trees.{Bytes}
@@ -141,7 +141,7 @@ small_bytes g q =
     (all_++ (UpTo 255) (field Tag.Settings (g.mode ∷ g.is_module ∷ [])) _ settings
     (all_++ (UpTo 255) (scope_fields g.scopes) _ ss (all_++ (UpTo 255) (symbol_fields count 1 g.symbols) _ ys rs)))
 
-module _ (b : List ℕ) (f : File) (k : ℕ) (bytes : Bytes b) (e : read_file b ≡ accepted f) where
+module _ (b : List ℕ) (f : File) (k : ℕ) (bytes : Bytes b) (e : read_file b ≡ Ok f) where
   abbrev spot : Spot
   spot = completed (visits k (start f))
 

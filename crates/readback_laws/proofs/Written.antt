@@ -1,6 +1,6 @@
 -- An accepted file is written as it was read: its bytes are those that writing makes of what is read.
 -- Assumes nothing.
-use Rattle.std.specs.Prelude.{if◌then◌else◌, ◌≡◌, Bool, true, false, not, length, take, eqb, leb, ltb}
+use Rattle.std.specs.Prelude.{Ok, if◌then◌else◌, ◌≡◌, Bool, true, false, not, length, take, eqb, leb, ltb}
 use Rattle.std.proofs.Math.Path.{refl, ap}
 use Rattle.std.proofs.Common.{sym, ap₂, subst, ◌∙◌, eqb-true, ne_eqb, leb-true, le-leb}
 use mathlib.Core.List.{List, [], ◌∷◌, ◌++◌, append_assoc, append-nil}
@@ -13,7 +13,7 @@ use Rattle.meaning.specs.Tree.{Head, Forest, count, Row, row, flatten}
 use Rattle.meaning.specs.File.{scope_bytes, symbol_bytes, File, numbers_of, has_children, own_numbers, field_bytes, two_bytes, field, record_numbers, scope_fields, symbol_fields, record_fields, written}
 use Rattle.meaning.specs.Grammar.{tags_of, two, number, field_of, children_of, head_of, parent_in}
 use Rattle.meaning.specs.Mentions.{mentions}
-use Rattle.meaning.specs.Reading.{accepted, scopes_in, symbols_in, wrong_count, read_file}
+use Rattle.meaning.specs.Reading.{scopes_in, symbols_in, wrong_count, read_file}
 use Rattle.meaning.specs.declared.Place.{Place}
 use Rattle.meaning.specs.declared.Place.TheVariants.{Settings, ScopeRow, SymbolRow}
 use Rattle.meaning.specs.declared.Field.{Field}
@@ -279,5 +279,5 @@ parsed_written f g bytes q =
     rw (q.mode, q.esm, q.scopes, q.symbols) (sym (whole ∙ ap (λ (xs : List ℕ). (head ++ (ss ++ (ys ++ rs))) ++ xs) (no_more f) ∙ append-nil _))
 
 -- AN ACCEPTED FILE IS WRITTEN AS IT WAS READ.
-pub file_written : (bytes : List ℕ) (f : File) → Bytes bytes → read_file bytes ≡ accepted f → written f ≡ bytes
+pub file_written : (bytes : List ℕ) (f : File) → Bytes bytes → read_file bytes ≡ Ok f → written f ≡ bytes
 file_written bytes f b e = parsed_written bytes f b (file_parsed bytes f e)

@@ -1,6 +1,6 @@
 -- Numbers given one after another; the column of a scope table, lent and back.
 -- Assumes nothing.
-use mathlib.Core.Path.{◌≡◌, sym, ◌∙◌}
+use mathlib.Core.Path.{◌≡◌, refl, sym, ◌∙◌}
 use mathlib.Core.List.{List, ◌++◌, append-nil}
 use Prim.Native.Nat.{ℕ, ◌+◌, ◌-◌, ◌≤◌, ◌<◌}
 use native.Mathlib.Omega.{arith}
@@ -8,11 +8,26 @@ use lib.ListN.{length, take, drop, length-drop}
 use lib.Seq.{take-length, drop-length}
 use Rattle.meaning.specs.Tree.{Head}
 use Rattle.meaning.specs.Renumbering.{scope_named}
+use Rattle.meaning.specs.Grammar.{scope_of}
+use borrow.Author.Tests.{eq-eqb, ne_eqb}
 use Rattle.tables.specs.Table.{row_f, head_f, new_numbers_at}
 use Rattle.tables.specs.Loops.{one_less}
 use Rattle.tables.specs.declared.Row.{Row}
-use Rattle.renumbering.specs.Numbers.{named_in, numbers_f, numbered_f}
+use Rattle.renumbering.specs.Numbers.{number_f, named_in, numbers_f, numbered_f}
 use Rattle.renumbering.specs.Laws.{numbers_++, named_most}
+
+-- a row that names no scope, and one that does
+abbrev pub RowNumbered : Head → ℕ → ℕ → List ℕ → List ℕ → Type 0
+RowNumbered h named named' t t' = (t' ≡ numbers_f (named + 1) (scope_named h) t) × (named' ≡ named + length (scope_named h))
+
+pub row_passed : (h : Head) (s named : ℕ) (t : List ℕ) → s ≡ scope_of h → s ≡ 0 → RowNumbered h named named t t
+unfolding scope_named numbers_f
+row_passed h s named t is none = rw (eq-eqb _ 0 (sym is ∙ none)) (refl, omega arith)
+
+pub row_numbered : (h : Head) (s named : ℕ) (t t' : List ℕ) → s ≡ scope_of h → (s ≡ 0 → ⊥) → t' ≡ number_f t s (named + 1)
+    → RowNumbered h named (named + 1) t t'
+unfolding scope_named numbers_f
+row_numbered h s named t t' is some d = rw (← is, ne_eqb s 0 some) (d, omega arith)
 
 -- the next row's
 pub named_turn : (r : List ℕ) (row : Row) (t t' t₀ : List ℕ) (named named' k n : ℕ) → t₀ ≡ numbers_f (named + 1) (named_in r k (n - k)) t → k < n

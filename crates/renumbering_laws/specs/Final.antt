@@ -1,11 +1,11 @@
 -- THE FILE THAT LOWERING WRITES: what the last call for a visit leaves, its scopes numbered in tree order.
 -- Assumes nothing.
-use Rattle.std.specs.Prelude.{◌≡◌, List, ℕ, ◌+◌, ◌*◌, length}
+use Rattle.std.specs.Prelude.{Ok, ◌≡◌, List, ℕ, ◌+◌, ◌*◌, length}
 use Rattle.std.proofs.Math.Path.{ap}
 use Rattle.std.proofs.Common.{◌∙◌}
 use native.Mathlib.Omega.{arith}
 use Rattle.meaning.specs.File.{File, written}
-use Rattle.meaning.specs.Reading.{accepted, read_file}
+use Rattle.meaning.specs.Reading.{read_file}
 use Rattle.meaning.specs.Agreement.{ScopesAgree}
 use Rattle.meaning.specs.Renumbering.{named_scopes, new_number, renumbered}
 use Rattle.meaning.specs.Walk.{visits, start, file_at}
@@ -31,7 +31,7 @@ use Rattle.renumbering_laws.specs.Order.{up_from}
 use Rattle.renumbering_laws.specs.Trees.{plain_named, renumbered_tagged, renumbered_childless, renumbered_loads, renumbered_gives}
 use Rattle.renumbering_laws.specs.Files.{renumbered_figures, renumbered_small, in_order}
 
-module _ (b : List ℕ) (f : File) (read : read_file b ≡ accepted f) where
+module _ (b : List ℕ) (f : File) (read : read_file b ≡ Ok f) where
   abbrev left : File
   left = file_at (final_spot f)
 

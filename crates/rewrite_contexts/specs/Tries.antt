@@ -18,7 +18,7 @@ use Rattle.creation.specs.Kinds.{for_try_part_f}
 use Rattle.path.specs.Path.{Tables, tables, charged_f, with_ctx_f}
 use Rattle.rewrite_contexts.specs.Lists.{list_scope, current_in, hoist_in, wrapped_rows_f}
 use Rattle.rewrite_contexts.specs.declared.LastChild.{LastChild}
-use Rattle.rewrite_contexts.specs.declared.Parting.{Parting}
+use Rattle.scoping.specs.declared.Rewriting.{Rewriting}
 
 -- a Try's rows on their way, with the scopes, the symbols and the counters
 pub record PartingF : Type 0 where
@@ -30,7 +30,7 @@ pub record PartingF : Type 0 where
 abbrev pub parting_f : Buf → List ℕ → List ℕ → Ctx → PartingF
 parting_f b s y x = record { buf = b; scopes = s; symbols = y; ctx = x }
 
-abbrev pub parting : List ℕ → List ℕ → List ℕ → Parting → PartingF
+abbrev pub parting : List ℕ → List ℕ → List ℕ → Rewriting → PartingF
 parting t s y p = parting_f (buf t p.at) s y p.ctx
 
 -- ---- one part

@@ -19,7 +19,7 @@ use Rattle.scoping.specs.declared.Ctx.{Ctx}
 use Rattle.statements.specs.Try.{declare_f}
 use Rattle.rewrite_items.specs.Kinds.{item_f}
 use Rattle.rewrite_items.specs.Names.{count_names_f, flag_names_f, specifiers_f}
-use Rattle.rewrite_items.specs.declared.Passing.{Passing}
+use Rattle.scoping.specs.declared.Rewriting.{Rewriting}
 use Rattle.rewrite_items.specs.declared.Item.{Item}
 use Rattle.rewrite_items.specs.declared.Item.TheVariants.{
   Kept,
@@ -63,7 +63,7 @@ pub record PassingF : Type 0 where
 abbrev pub passing_f : Buf → List ℕ → Ctx → PassingF
 passing_f b y x = record { buf = b; symbols = y; ctx = x }
 
-abbrev pub passing : List ℕ → List ℕ → Passing → PassingF
+abbrev pub passing : List ℕ → List ℕ → Rewriting → PassingF
 passing t y s = passing_f (buf t s.at) y s.ctx
 
 unfoldable pub copied_f : PassingF → PassingF

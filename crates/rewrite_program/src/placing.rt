@@ -7,6 +7,7 @@ use meaning::RecordId;
 use tables::record;
 
 // The rows after i and after j others change places.
+#[tactic(auto, unfolding(crate::specs::Placing::exchange_f))]
 fn exchange(records: &mut [u16], i: RecordId, j: RecordId)
     ensures { records.new ≡ exchange_f records.old i.0 j.0 }
 {
@@ -17,12 +18,13 @@ fn exchange(records: &mut [u16], i: RecordId, j: RecordId)
 }
 
 // The row after i others is passed if it stands in its place, and else put there.
+#[tactic(auto, unfolding(crate::specs::Placing::place_one_f))]
 fn place_one(records: &mut [u16], i: RecordId) -> RecordId
     ensures { rows_at records.new result.0 ≡ place_one_f (rows_at records.old i.0) }
 {
     let p = RecordId(tables::column(records, i, record::UP));
     if p.0 == i.0 {
-        RecordId(tables::plus(i.0, 1))
+        RecordId(i.0.saturating_add(1))
     } else {
         exchange(records, i, p);
         i
@@ -34,44 +36,36 @@ const TURNS: u32 = 131070;
 
 // The rows after `from` up to `to` come to stand in their places. Each turn passes a row or puts one in its place, so that two for each row
 // are enough; the count ends the loop for any numbers.
+#[tactic(auto, unfolding(crate::specs::Placing::place_f), using(tables::specs::Loops::go_on, tables::specs::Loops::run_out, tables::specs::Loops::stopped))]
 pub fn place(records: &mut [u16], from: RecordId, to: RecordId)
     ensures { records.new ≡ place_f records.old from.0 to.0 }
 {
     let mut at = from;
-    let mut k: u32 = 0;
-    while k < TURNS {
+    for _ in 0..TURNS {
         if to.0 <= at.0 {
             break;
         }
         at = place_one(records, at);
-        k += 1;
     }
 }
 
 // n rows after `from` get the places `first`, `first` + 1 and so on.
+#[tactic(auto, unfolding(crate::specs::Placing::number_rows_f), using(tables::specs::Loops::last_turn))]
 pub fn number_rows(records: &mut [u16], from: RecordId, n: u16, first: RecordId)
     ensures { records.new ≡ number_rows_f records.old from.0 n first.0 }
 {
-    let mut at = from;
-    let mut next = first;
-    let mut k: u16 = 0;
-    while k < n {
-        tables::put_column(records, at, record::UP, next.0);
-        at = RecordId(tables::plus(at.0, 1));
-        next = RecordId(tables::plus(next.0, 1));
-        k += 1;
+    for k in 0..n {
+        let at = RecordId(from.0.saturating_add(k));
+        tables::put_column(records, at, record::UP, first.0.saturating_add(k));
     }
 }
 
 // n rows after `from` carry no places any more.
+#[tactic(auto, unfolding(crate::specs::Placing::clear_places_f), using(tables::specs::Loops::last_turn))]
 pub fn clear_places(records: &mut [u16], from: RecordId, n: u16)
     ensures { records.new ≡ clear_places_f records.old from.0 n }
 {
-    let mut at = from;
-    let mut k: u16 = 0;
-    while k < n {
-        tables::put_column(records, at, record::UP, 0);
-        at = RecordId(tables::plus(at.0, 1));
-        k += 1;
+    for k in 0..n {
+        tables::put_column(records, RecordId(from.0.saturating_add(k)), record::UP, 0);
     }
 }

@@ -1,14 +1,13 @@
 // The rules of a record's numbers, by its tag and place.
 #![tactic(auto)]
 
-ghost use Rattle.std.specs.Prelude.{if◌then◌else◌, ◌≡◌, ◌&&◌, ◌||◌, not, ℕ, ◌+◌, ◌*◌, ◌≤◌, leb, eqb, ltb};
+ghost use Rattle.std.specs.Prelude.{if◌then◌else◌, ◌≡◌, ◌&&◌, not, ◌+◌, leb, eqb, ltb};
 ghost use Rattle.meaning.specs.Numbers.Letter;
 ghost use Rattle.meaning.specs.Numbers.Mode;
 ghost use Rattle.meaning.specs.Numbers.Parts;
 ghost use Rattle.meaning.specs.Numbers.StepForm;
-ghost use Rattle.meaning.specs.Tree.{one_of};
 ghost use Rattle.meaning.specs.File.{has_children, own_numbers};
-ghost use Rattle.meaning.specs.Grammar.{index, is, form_fits, is_row, scope_right, symbol_right, declaration_right, declarator_right, try_right, function_right, class_right, module_line_right, right, children_of, place_of, head_of, scope_of, below};
+ghost use Rattle.meaning.specs.Grammar.{form_fits, is_row, scope_right, symbol_right, declaration_right, declarator_right, try_right, function_right, class_right, module_line_right, right, children_of, place_of, head_of, scope_of, below};
 
 use meaning::{
     Field, Place, ScopeId, SymbolId, form, kind, letter, line_form, mode, parts, scope_flag,
@@ -32,61 +31,19 @@ const SYMBOL_FLAGS: u16 = symbol_flag::FUNCTION_SCOPED
 
 // ---- places
 
-// A place's number: the places are told apart by their order.
-#[tactic(auto, unfolding(meaning::specs::Grammar::index))]
-fn index_of(place: Place) -> u8
-    ensures { result ≡ index place }
-{
-    match place {
-        Place::Settings => 0,
-        Place::ScopeRow => 1,
-        Place::SymbolRow => 2,
-        Place::Program => 3,
-        Place::ProgramItem => 4,
-        Place::ListItem => 5,
-        Place::Statement => 6,
-        Place::PlainItem => 7,
-        Place::Declarator => 8,
-        Place::ForOfDeclarator => 9,
-        Place::Name => 10,
-        Place::ForLeft => 11,
-        Place::ForOfLeft => 12,
-        Place::Expression => 13,
-        Place::SwitchExpression => 14,
-        Place::Case => 15,
-        Place::TryPart => 16,
-        Place::Catch => 17,
-        Place::Body => 18,
-        Place::ClassItem => 19,
-        Place::DefaultExport => 20,
-        Place::ExportedDeclaration => 21,
-        Place::Specifier => 22,
-    }
-}
-
-// Whether two places are one.
-fn is_place(place: Place, other: Place) -> bool
-    ensures { result ≡ is place other }
-{
-    index_of(place) == index_of(other)
-}
-
 // Whether a Function or Class of this form may stand at a place.
 #[tactic(auto, unfolding(meaning::specs::Grammar::form_fits, meaning::specs::Grammar::forms_of))]
 fn form_fits(place: Place, form: u16) -> bool
     ensures { result ≡ form_fits place form }
 {
     match place {
-        Place::ProgramItem => form == form::DECLARATION,
-        Place::ListItem => form == form::DECLARATION,
-        Place::Statement => form == form::DECLARATION,
-        Place::PlainItem => form <= form::EXPRESSION,
-        Place::ForLeft => form == form::EXPRESSION,
-        Place::ForOfLeft => form == form::EXPRESSION,
-        Place::Expression => form == form::EXPRESSION,
-        Place::ClassItem => form == form::EXPRESSION,
-        Place::DefaultExport => form <= form::EXPRESSION,
-        Place::ExportedDeclaration => form == form::DECLARATION,
+        Place::ProgramItem | Place::ListItem | Place::Statement | Place::ExportedDeclaration => {
+            form == form::DECLARATION
+        }
+        Place::ForLeft | Place::ForOfLeft | Place::Expression | Place::ClassItem => {
+            form == form::EXPRESSION
+        }
+        Place::PlainItem | Place::DefaultExport => form <= form::EXPRESSION,
         Place::Settings
         | Place::ScopeRow
         | Place::SymbolRow
@@ -109,58 +66,31 @@ fn form_fits(place: Place, form: u16) -> bool
 fn is_row(symbols: usize, s: SymbolId) -> bool
     ensures { result ≡ is_row symbols s.0 }
 {
-    if s.0 < 1 {
-        return false;
-    }
-    (s.0 as usize) <= symbols
+    1 <= s.0 && (s.0 as usize) <= symbols
 }
 
 // Scope row k, counted from 0: the first has no parent, and every other one has.
+#[tactic(auto, unfolding(meaning::specs::Grammar::scope_right))]
 pub fn scope_right(k: usize, x: Field) -> bool
     ensures { result ≡ scope_right k x }
 {
-    if k == 0 {
-        if x.a != 0 {
-            return false;
-        }
-        return x.b <= SCOPE_FLAGS;
-    }
-    if x.a < 1 {
-        return false;
-    }
-    x.b <= SCOPE_FLAGS
+    (x.a == 0) == (k == 0) && x.b <= SCOPE_FLAGS
 }
 
 // A symbol row: a name, flags, one of so many scope rows, and whether it was made.
+#[tactic(auto, unfolding(meaning::specs::Grammar::symbol_right))]
 pub fn symbol_right(scopes: usize, x: Field) -> bool
     ensures { result ≡ symbol_right scopes x }
 {
-    if x.a < 1 {
-        return false;
-    }
-    if SYMBOL_FLAGS < x.b {
-        return false;
-    }
-    if x.c < 1 {
-        return false;
-    }
-    if scopes < (x.c as usize) {
-        return false;
-    }
-    x.d <= 1
+    1 <= x.a && x.b <= SYMBOL_FLAGS && 1 <= x.c && (x.c as usize) <= scopes && x.d <= 1
 }
 
 // A Declaration: a kind, and at least one Declarator; left in a ForOf exactly one.
+#[tactic(auto, unfolding(meaning::specs::Grammar::declaration_right, meaning::specs::Grammar::index))]
 fn declaration_right(place: Place, x: Field) -> bool
     ensures { result ≡ declaration_right place x }
 {
-    if kind::AWAIT_USING < x.a {
-        return false;
-    }
-    if is_place(place, Place::ForOfLeft) {
-        return x.b == 1;
-    }
-    1 <= x.b
+    x.a <= kind::AWAIT_USING && (x.b == 1 || (1 <= x.b && place != Place::ForOfLeft))
 }
 
 // A Declarator: pattern 0 has one Name. An initializer may follow the Names, but not left in a ForOf.
@@ -168,18 +98,8 @@ fn declaration_right(place: Place, x: Field) -> bool
 fn declarator_right(place: Place, x: Field) -> bool
     ensures { result ≡ declarator_right place x }
 {
-    if x.a == 0 {
-        if x.b != 1 {
-            return false;
-        }
-    }
-    if x.c == x.b {
-        return true;
-    }
-    if is_place(place, Place::ForOfDeclarator) {
-        return false;
-    }
-    (x.c as usize) == (x.b as usize) + 1
+    (x.a != 0 || x.b == 1)
+        && (x.c == x.b || (place != Place::ForOfDeclarator && (x.c as usize) == (x.b as usize) + 1))
 }
 
 // A Try: its Block, and one part more or two.
@@ -187,8 +107,7 @@ fn declarator_right(place: Place, x: Field) -> bool
 fn try_right(x: Field) -> bool
     ensures { result ≡ try_right x }
 {
-    let parts = x.a;
-    match parts {
+    match x.a {
         parts::BOTH => x.b == 3,
         parts::HANDLER | parts::FINALIZER => x.b == 2,
         _ => false,
@@ -196,153 +115,93 @@ fn try_right(x: Field) -> bool
 }
 
 // A Function: a form that fits, a scope, a symbol or none, and two children.
+#[tactic(auto, unfolding(meaning::specs::Grammar::function_right))]
 fn function_right(place: Place, symbols: usize, x: Field) -> bool
     ensures { result ≡ function_right place symbols x }
 {
-    if !form_fits(place, x.a) {
-        return false;
-    }
-    if x.b < 1 {
-        return false;
-    }
-    if symbols < (x.c as usize) {
-        return false;
-    }
-    x.d == 2
+    form_fits(place, x.a) && 1 <= x.b && (x.c as usize) <= symbols && x.d == 2
 }
 
 // A Class: a form that fits, a scope, and a symbol; an expression or a default export may have none.
+#[tactic(auto, unfolding(meaning::specs::Grammar::class_right, meaning::specs::Grammar::index))]
 fn class_right(place: Place, symbols: usize, x: Field) -> bool
     ensures { result ≡ class_right place symbols x }
 {
-    if !form_fits(place, x.a) {
-        return false;
-    }
-    if x.b < 1 {
-        return false;
-    }
-    if symbols < (x.c as usize) {
-        return false;
-    }
-    if x.a == form::EXPRESSION {
-        return true;
-    }
-    if 1 <= x.c {
-        return true;
-    }
-    is_place(place, Place::DefaultExport)
+    form_fits(place, x.a)
+        && 1 <= x.b
+        && (x.c as usize) <= symbols
+        && (x.a == form::EXPRESSION || 1 <= x.c || place == Place::DefaultExport)
 }
 
 // A Call: a letter, the context's symbol, and one argument.
 fn call_right(symbols: usize, x: Field) -> bool
     ensures { result ≡ (leb x.a Letter.A && is_row symbols x.b && eqb x.c 1) }
 {
-    if letter::A < x.a {
-        return false;
-    }
-    if !is_row(symbols, SymbolId(x.b)) {
-        return false;
-    }
-    x.c == 1
+    x.a <= letter::A && is_row(symbols, SymbolId(x.b)) && x.c == 1
 }
 
 // A Load: the runtime or the external form, and a symbol or none.
 fn load_right(symbols: usize, x: Field) -> bool
     ensures { result ≡ (leb x.a Mode.External && leb x.b symbols) }
 {
-    if mode::EXTERNAL < x.a {
-        return false;
-    }
-    (x.b as usize) <= symbols
+    x.a <= mode::EXTERNAL && (x.b as usize) <= symbols
 }
 
 // A Step: a form, the context's symbol, and another one or none.
 fn step_right(symbols: usize, x: Field) -> bool
     ensures { result ≡ (leb x.a StepForm.AwaitDispose && is_row symbols x.b && leb x.c symbols) }
 {
-    if step_form::AWAIT_DISPOSE < x.a {
-        return false;
-    }
-    if !is_row(symbols, SymbolId(x.b)) {
-        return false;
-    }
-    (x.c as usize) <= symbols
+    x.a <= step_form::AWAIT_DISPOSE && is_row(symbols, SymbolId(x.b)) && (x.c as usize) <= symbols
 }
 
 // A For: a scope, and three children.
 fn for_right(x: Field) -> bool
     ensures { result ≡ (leb 1 x.a && eqb x.b 3) }
 {
-    if x.a < 1 {
-        return false;
-    }
-    x.b == 3
+    1 <= x.a && x.b == 3
 }
 
 // A ForOf: a scope, await or not, and three children.
 fn for_of_right(x: Field) -> bool
     ensures { result ≡ (leb 1 x.a && leb x.b 1 && eqb x.c 3) }
 {
-    if x.a < 1 {
-        return false;
-    }
-    if 1 < x.b {
-        return false;
-    }
-    x.c == 3
+    1 <= x.a && x.b <= 1 && x.c == 3
 }
 
 // A Switch: a scope, and its expression before the Cases.
 fn switch_right(x: Field) -> bool
     ensures { result ≡ (leb 1 x.a && leb 1 x.b) }
 {
-    if x.a < 1 {
-        return false;
-    }
-    1 <= x.b
+    1 <= x.a && 1 <= x.b
 }
 
 // A Case: with a test or without, and the test is its first child.
 fn case_right(x: Field) -> bool
     ensures { result ≡ (leb x.a 1 && leb x.a x.b) }
 {
-    if 1 < x.a {
-        return false;
-    }
-    x.a <= x.b
+    x.a <= 1 && x.a <= x.b
 }
 
 // A Catch: a scope, and its Block behind the Names.
 fn catch_right(x: Field) -> bool
     ensures { result ≡ (leb 1 x.a && eqb x.d (x.b + 1)) }
 {
-    if x.a < 1 {
-        return false;
-    }
-    (x.d as usize) == (x.b as usize) + 1
+    1 <= x.a && (x.d as usize) == (x.b as usize) + 1
 }
 
 // A Specifier: a symbol, and a name that it is exported by.
 fn specifier_right(symbols: usize, x: Field) -> bool
     ensures { result ≡ (is_row symbols x.a && leb 1 x.b) }
 {
-    if !is_row(symbols, SymbolId(x.a)) {
-        return false;
-    }
-    1 <= x.b
+    is_row(symbols, SymbolId(x.a)) && 1 <= x.b
 }
 
 // A Module line: a form, with any number of Specifiers; the helper's import has one.
+#[tactic(auto, unfolding(meaning::specs::Grammar::module_line_right))]
 fn module_line_right(x: Field) -> bool
     ensures { result ≡ module_line_right x }
 {
-    if x.a <= line_form::EXPORT_FROM {
-        return true;
-    }
-    if x.a != line_form::IMPORT_HELPER {
-        return false;
-    }
-    x.c == 1
+    x.a <= line_form::EXPORT_FROM || (x.a == line_form::IMPORT_HELPER && x.c == 1)
 }
 
 // The numbers of a record are right at its place; its scope row apart.
@@ -350,11 +209,11 @@ fn module_line_right(x: Field) -> bool
 pub fn is_right(place: Place, symbols: usize, x: Field) -> bool
     ensures { result ≡ right place symbols x }
 {
-    let tag = x.tag;
-    match tag {
-        tag::PROGRAM => x.a == 1,
-        tag::BLOCK => 1 <= x.a,
-        tag::PLAIN => true,
+    match x.tag {
+        tag::PLAIN | tag::BODY | tag::EXPRESSION => true,
+        tag::PROGRAM | tag::DEFAULT_EXPORT | tag::EXPORTED_DECLARATION => x.a == 1,
+        tag::BLOCK | tag::STATIC_BLOCK => 1 <= x.a,
+        tag::READ | tag::NAME => is_row(symbols, SymbolId(x.a)),
         tag::LABEL => x.b == 1,
         tag::DECLARATION => declaration_right(place, x),
         tag::DECLARATOR => declarator_right(place, x),
@@ -365,16 +224,9 @@ pub fn is_right(place: Place, symbols: usize, x: Field) -> bool
         tag::TRY => try_right(x),
         tag::CATCH => catch_right(x),
         tag::FUNCTION => function_right(place, symbols, x),
-        tag::BODY => true,
         tag::CLASS => class_right(place, symbols, x),
-        tag::STATIC_BLOCK => 1 <= x.a,
         tag::MODULE_LINE => module_line_right(x),
-        tag::DEFAULT_EXPORT => x.a == 1,
-        tag::EXPORTED_DECLARATION => x.a == 1,
         tag::SPECIFIER => specifier_right(symbols, x),
-        tag::EXPRESSION => true,
-        tag::READ => is_row(symbols, SymbolId(x.a)),
-        tag::NAME => is_row(symbols, SymbolId(x.a)),
         tag::CALL => call_right(symbols, x),
         tag::LOAD => load_right(symbols, x),
         tag::STEP => step_right(symbols, x),
@@ -389,18 +241,16 @@ pub fn is_right(place: Place, symbols: usize, x: Field) -> bool
 pub fn scope_in(x: Field) -> ScopeId
     ensures { result.0 ≡ scope_of (head_of x) }
 {
-    let tag = x.tag;
-    match tag {
-        tag::PROGRAM => ScopeId(x.a),
-        tag::BLOCK => ScopeId(x.a),
-        tag::PLAIN => ScopeId(x.a),
-        tag::FOR => ScopeId(x.a),
-        tag::FOR_OF => ScopeId(x.a),
-        tag::SWITCH => ScopeId(x.a),
-        tag::CATCH => ScopeId(x.a),
-        tag::FUNCTION => ScopeId(x.b),
-        tag::CLASS => ScopeId(x.b),
-        tag::STATIC_BLOCK => ScopeId(x.a),
+    match x.tag {
+        tag::PROGRAM
+        | tag::BLOCK
+        | tag::PLAIN
+        | tag::FOR
+        | tag::FOR_OF
+        | tag::SWITCH
+        | tag::CATCH
+        | tag::STATIC_BLOCK => ScopeId(x.a),
+        tag::FUNCTION | tag::CLASS => ScopeId(x.b),
         _ => ScopeId(0),
     }
 }
@@ -409,40 +259,26 @@ pub fn scope_in(x: Field) -> ScopeId
 pub fn scope_below(cur: ScopeId, s: ScopeId) -> ScopeId
     ensures { result.0 ≡ below cur.0 s.0 }
 {
-    if s.0 == 0 {
-        return cur;
-    }
-    s
+    if s.0 == 0 { cur } else { s }
 }
 
 // Whether a record's last number counts its children.
+#[tactic(auto, unfolding(meaning::specs::File::has_children))]
 pub fn has_children(tag: u16) -> bool
     ensures { result ≡ has_children tag }
 {
-    if tag == 0 {
-        return false;
-    }
-    if tag <= tag::EXPORTED_DECLARATION {
-        return true;
-    }
-    if tag == tag::EXPRESSION {
-        return true;
-    }
-    tag == tag::CALL
+    matches!(
+        tag,
+        1..=tag::EXPORTED_DECLARATION | tag::EXPRESSION | tag::CALL
+    )
 }
 
 // How many numbers a record has besides the count of its children.
+#[tactic(auto, unfolding(meaning::specs::File::own_numbers))]
 pub fn own_numbers(tag: u16) -> u8
     ensures { result ≡ own_numbers tag }
 {
-    let len = fields::numbers_of(tag);
-    if has_children(tag) {
-        if len == 0 {
-            return 0;
-        }
-        return len - 1;
-    }
-    len
+    fields::numbers_of(tag).saturating_sub(u8::from(has_children(tag)))
 }
 
 // How many children a record has.
@@ -450,29 +286,20 @@ pub fn own_numbers(tag: u16) -> u8
 pub fn children_of(x: Field) -> u16
     ensures { result ≡ children_of x }
 {
-    let tag = x.tag;
-    match tag {
-        tag::PROGRAM => x.b,
-        tag::BLOCK => x.b,
-        tag::PLAIN => x.c,
-        tag::LABEL => x.b,
-        tag::DECLARATION => x.b,
-        tag::DECLARATOR => x.c,
-        tag::FOR => x.b,
-        tag::FOR_OF => x.c,
-        tag::SWITCH => x.b,
-        tag::CASE => x.b,
-        tag::TRY => x.b,
-        tag::CATCH => x.d,
-        tag::FUNCTION => x.d,
-        tag::BODY => x.a,
-        tag::CLASS => x.d,
-        tag::STATIC_BLOCK => x.b,
-        tag::MODULE_LINE => x.c,
-        tag::DEFAULT_EXPORT => x.a,
-        tag::EXPORTED_DECLARATION => x.a,
-        tag::EXPRESSION => x.b,
-        tag::CALL => x.c,
+    match x.tag {
+        tag::BODY | tag::DEFAULT_EXPORT | tag::EXPORTED_DECLARATION => x.a,
+        tag::PROGRAM
+        | tag::BLOCK
+        | tag::LABEL
+        | tag::DECLARATION
+        | tag::FOR
+        | tag::SWITCH
+        | tag::CASE
+        | tag::TRY
+        | tag::STATIC_BLOCK
+        | tag::EXPRESSION => x.b,
+        tag::PLAIN | tag::DECLARATOR | tag::FOR_OF | tag::MODULE_LINE | tag::CALL => x.c,
+        tag::CATCH | tag::FUNCTION | tag::CLASS => x.d,
         _ => 0,
     }
 }
@@ -492,43 +319,25 @@ fn by_turn(k: u16, first: Place, second: Place, others: Place) -> Place
 fn first_or(k: u16, first: Place, others: Place) -> Place
     ensures { result ≡ (if eqb k 0 then first else others) }
 {
-    if k == 0 {
-        return first;
-    }
-    others
+    if k == 0 { first } else { others }
 }
 
 // One place for the first m children, and another for the rest.
 fn up_to(k: u16, m: u16, early: Place, late: Place) -> Place
     ensures { result ≡ (if ltb k m then early else late) }
 {
-    if k < m {
-        return early;
-    }
-    late
+    if k < m { early } else { late }
 }
 
 // The second part of a Try is its handler, unless it has only a finalizer.
 fn try_place(k: u16, parts: u16) -> Place
     ensures { result ≡ (if eqb k 1 && not (eqb parts Parts.Finalizer) then Place.Catch else Place.TryPart) }
 {
-    if k != 1 {
-        return Place::TryPart;
+    if k == 1 && parts != parts::FINALIZER {
+        Place::Catch
+    } else {
+        Place::TryPart
     }
-    if parts == parts::FINALIZER {
-        return Place::TryPart;
-    }
-    Place::Catch
-}
-
-// One of two places, by whether a record stands at the place `key`.
-fn by_place(place: Place, key: Place, there: Place, elsewhere: Place) -> Place
-    ensures { result ≡ (if is place key then there else elsewhere) }
-{
-    if is_place(place, key) {
-        return there;
-    }
-    elsewhere
 }
 
 // The place of child k of a record that stands at `place`.
@@ -536,18 +345,13 @@ fn by_place(place: Place, key: Place, there: Place, elsewhere: Place) -> Place
 pub fn place_of(place: Place, x: Field, k: u16) -> Place
     ensures { result ≡ place_of place x k }
 {
-    let tag = x.tag;
-    match tag {
+    match x.tag {
         tag::PROGRAM => Place::ProgramItem,
-        tag::BLOCK => Place::ListItem,
+        tag::BLOCK | tag::BODY | tag::STATIC_BLOCK => Place::ListItem,
         tag::PLAIN => Place::PlainItem,
         tag::LABEL => Place::Statement,
-        tag::DECLARATION => by_place(
-            place,
-            Place::ForOfLeft,
-            Place::ForOfDeclarator,
-            Place::Declarator,
-        ),
+        tag::DECLARATION if place == Place::ForOfLeft => Place::ForOfDeclarator,
+        tag::DECLARATION => Place::Declarator,
         tag::DECLARATOR => up_to(k, x.b, Place::Name, Place::Expression),
         tag::FOR => by_turn(k, Place::ForLeft, Place::Expression, Place::Statement),
         tag::FOR_OF => by_turn(k, Place::ForOfLeft, Place::Expression, Place::Statement),
@@ -556,17 +360,11 @@ pub fn place_of(place: Place, x: Field, k: u16) -> Place
         tag::TRY => try_place(k, x.a),
         tag::CATCH => up_to(k, x.b, Place::Name, Place::TryPart),
         tag::FUNCTION => first_or(k, Place::Expression, Place::Body),
-        tag::BODY => Place::ListItem,
         tag::CLASS => Place::ClassItem,
-        tag::STATIC_BLOCK => Place::ListItem,
         tag::MODULE_LINE => Place::Specifier,
         tag::DEFAULT_EXPORT => Place::DefaultExport,
         tag::EXPORTED_DECLARATION => Place::ExportedDeclaration,
-        _ => by_place(
-            place,
-            Place::SwitchExpression,
-            Place::SwitchExpression,
-            Place::Expression,
-        ),
+        _ if place == Place::SwitchExpression => Place::SwitchExpression,
+        _ => Place::Expression,
     }
 }

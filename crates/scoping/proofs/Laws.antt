@@ -28,7 +28,7 @@ module _ (t : List ℕ) (f n scope name : ℕ) where
 
   pub binding_turn : (i found more : ℕ)
       → i < n → n ≤ 65535 → more ≡ (if binds (symbol_at t f i) scope name then capped i 1 else found) → from i found ≡ from (i + 1) more
-  unfolding symbols_f last_binding capped
+  unfolding symbols_f last_binding
   binding_turn i found more h m e =
       let s : n - i ≡ suc (n - (i + 1)) = omega arith in
       let c : capped i 1 ≡ suc i = omega arith in

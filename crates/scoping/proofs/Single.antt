@@ -14,9 +14,12 @@ use Rattle.meaning.specs.Scoping.{binds, last_binding, get_binding, find_binding
 use Rattle.tables.specs.Loops.{one_less}
 use Rattle.tables.specs.Table.{capped}
 use Rattle.scoping.specs.Rows.{scope_number, symbol_at, symbols_f, store_f}
-use Rattle.scoping.specs.Candidates.{no_candidate, add_candidate_f, candidates_f, climbs_f}
+use Rattle.scoping.specs.Candidates.{one_more, add_candidate_f, candidates_f, climbs_f}
 use Rattle.scoping.specs.declared.Ctx.{Ctx}
 use Rattle.scoping.specs.declared.Candidates.{Candidates}
+use Rattle.scoping.specs.declared.Candidates.TheVariants.{NoRow, OneRow, MoreRows}
+use Rattle.meaning.specs.declared.SymbolId.{SymbolId}
+use Rattle.meaning.specs.declared.ScopeId.{ScopeId}
 use Rattle.scoping.proofs.Laws.{parent_is}
 
 -- ---- the turns of the pass over the rows
@@ -26,12 +29,12 @@ module _ (t : List ℕ) (n name : ℕ) where
   abbrev pub candidates_from : ℕ → Candidates → Candidates
   candidates_from i seen = candidates_f (symbols_f t 2 (n - i) i) name (suc i) seen
 
-  pub candidates_first : candidates_f (symbols_f t 2 n 0) name 1 no_candidate ≡ candidates_from 0 no_candidate
+  pub candidates_first : candidates_f (symbols_f t 2 n 0) name 1 NoRow ≡ candidates_from 0 NoRow
   candidates_first = let s : n - 0 ≡ n = omega arith in rw s
 
   pub candidates_turn : (i : ℕ) (seen more : Candidates)
       → i < n → n ≤ 65535 → more ≡ add_candidate_f (symbol_at t 2 i) name (capped i 1) seen → candidates_from i seen ≡ candidates_from (i + 1) more
-  unfolding symbols_f candidates_f capped
+  unfolding symbols_f candidates_f
   candidates_turn i seen more h m e =
       let s : n - i ≡ suc (n - (i + 1)) = omega arith in
       let c : capped i 1 ≡ suc i = omega arith in
@@ -43,68 +46,58 @@ module _ (t : List ℕ) (n name : ℕ) where
 
 -- ---- what is bound where, if there is at most one candidate
 
--- if there is none, the number is 0
-abbrev Sound : Candidates → Type 0
-Sound seen = seen.count ≡ 0 → seen.row.0 ≡ 0
+abbrev few : Candidates → Bool
+few NoRow = true
+few (OneRow r s) = true
+few MoreRows = false
 
--- what the last candidate binds in a scope
+-- what the candidates bind in a scope
 abbrev bound_in : ℕ → Candidates → ℕ
-bound_in scope seen = if eqb seen.scope.0 scope then seen.row.0 else 0
+bound_in scope NoRow = 0
+bound_in scope (OneRow r s) = if eqb s.0 scope then r.0 else 0
+bound_in scope MoreRows = 0
 
 same_if : (b : Bool) (x : ℕ) → (if b then x else x) ≡ x
 same_if true x = refl
 same_if false x = refl
 
+-- with at most one in the end there were no more before
+few_before : (b : Bool) (i s : ℕ) (seen : Candidates) → few (if b then one_more i s seen else seen) ≡ true → few seen ≡ true
+unfolding one_more
+few_before true i s NoRow h = refl
+few_before true i s (OneRow r q) h = refl
+few_before true i s MoreRows h = h
+few_before false i s seen h = h
+
 -- a row goes by three tests: it has the name, it has made 0, it is in the scope
-row_turn : (named made here : Bool) (scope i : ℕ) (seen more : Candidates)
-    → more.row.0 ≡ i → eqb more.scope.0 scope ≡ here → (named && made ≡ true → seen.row.0 ≡ 0)
-    → (if made && here && named then i else bound_in scope seen) ≡ bound_in scope (if named && made then more else seen)
-row_turn true true true scope i seen more r s z = rw (s, r)
-row_turn true true false scope i seen more r s z = rw (s, z refl, same_if (eqb seen.scope.0 scope) 0)
-row_turn true false here scope i seen more r s z = refl
-row_turn false true true scope i seen more r s z = refl
-row_turn false true false scope i seen more r s z = refl
-row_turn false false here scope i seen more r s z = refl
-
--- a row is added or not: with at most one in the end there were no more before, and none before one that is added
-module _ (seen more : Candidates) (e : more.count ≡ capped seen.count 1) where
-  few_before : (b : Bool) → (if b then more else seen).count ≤ 1 → seen.count ≤ 1
-  unfolding capped
-  few_before true h = omega arith
-  few_before false h = h
-
-  none_before : (b : Bool) → (if b then more else seen).count ≤ 1 → b ≡ true → seen.count ≡ 0
-  unfolding capped
-  none_before true h q = omega arith
-  none_before false h q = cc
-
-  still_sound : (b : Bool) → Sound seen → Sound (if b then more else seen)
-  unfolding capped
-  still_sound true z = λ h. absurd (omega arith)
-  still_sound false z = z
+row_turn : (named made here : Bool) (scope i s : ℕ) (seen : Candidates) → eqb s scope ≡ here → few (if named && made then one_more i s seen else seen) ≡ true
+    → (if made && here && named then i else bound_in scope seen) ≡ bound_in scope (if named && made then one_more i s seen else seen)
+unfolding one_more
+row_turn true true true scope i s NoRow e h = rw e
+row_turn true true false scope i s NoRow e h = rw e
+row_turn true true here scope i s (OneRow r q) e h = cc
+row_turn true true here scope i s MoreRows e h = cc
+row_turn true false here scope i s seen e h = refl
+row_turn false true true scope i s seen e h = refl
+row_turn false true false scope i s seen e h = refl
+row_turn false false here scope i s seen e h = refl
 
 module _ (name : ℕ) where
   abbrev has : Symbol → Bool
   has y = eqb y.name name && eqb y.made 0
 
-  few_first : (ys : List Symbol) (i : ℕ) (seen : Candidates) → (candidates_f ys name i seen).count ≤ 1 → seen.count ≤ 1
+  few_first : (ys : List Symbol) (i : ℕ) (seen : Candidates) → few (candidates_f ys name i seen) ≡ true → few seen ≡ true
   unfolding candidates_f add_candidate_f
   few_first [] i seen h = h
-  few_first (y ∷ ys) i seen h = few_before seen _ refl (has y) (few_first ys (suc i) _ h)
+  few_first (y ∷ ys) i seen h = few_before (has y) i y.scope seen (few_first ys (suc i) _ h)
 
-  all_sound : (ys : List Symbol) (i : ℕ) (seen : Candidates) → Sound seen → Sound (candidates_f ys name i seen)
-  unfolding candidates_f add_candidate_f
-  all_sound [] i seen z = z
-  all_sound (y ∷ ys) i seen z = all_sound ys (suc i) _ (still_sound seen _ refl (has y) z)
-
-  last_bound : (ys : List Symbol) (scope i : ℕ) (seen : Candidates) → Sound seen → (candidates_f ys name i seen).count ≤ 1
+  last_bound : (ys : List Symbol) (scope i : ℕ) (seen : Candidates) → few (candidates_f ys name i seen) ≡ true
       → last_binding ys scope name i (bound_in scope seen) ≡ bound_in scope (candidates_f ys name i seen)
   unfolding candidates_f add_candidate_f last_binding binds
-  last_bound [] scope i seen z h = refl
-  last_bound (y ∷ ys) scope i seen z h =
-      let none = none_before seen _ refl (has y) (few_first ys (suc i) _ h) in
-      rw (row_turn (eqb y.name name) (eqb y.made 0) (eqb y.scope scope) scope i seen _ refl refl (λ q. z (none q)))
-      (last_bound ys scope (suc i) _ (still_sound seen _ refl (has y) z) h)
+  last_bound [] scope i seen h = refl
+  last_bound (y ∷ ys) scope i seen h =
+      rw (row_turn (eqb y.name name) (eqb y.made 0) (eqb y.scope scope) scope i y.scope seen refl (few_first ys (suc i) _ h))
+      (last_bound ys scope (suc i) _ h)
 
 -- ---- the way outwards
 
@@ -157,26 +150,25 @@ module _ (ss ys : List ℕ) (x : Ctx) (name : ℕ) where
       rw (e s, parent_is ss x.scopes s)
       (scope_turn (eqb to s) (eqb s 0) row _ _ d (see_one to row d e m (scope_number ss x.scopes s 0)))
 
-  module _ (seen : Candidates) (all : seen ≡ candidates_f rows name 1 no_candidate) where
-    -- at most one row binds the name: what each scope binds
-    bound_is : seen.count ≤ 1 → (s : ℕ) → get_binding rows s name ≡ bound_in s seen
-    bound_is h s = rw all (rw (same_if (eqb 0 s) 0) at (last_bound name rows s 1 no_candidate (λ z. refl) (rw all at h)))
+  -- at most one row binds the name: what each scope binds
+  bound_is : (seen : Candidates) → seen ≡ candidates_f rows name 1 NoRow → few seen ≡ true → (s : ℕ) → get_binding rows s name ≡ bound_in s seen
+  bound_is seen all h s = rw all (last_bound name rows s 1 NoRow (rw all at h))
 
-    bound_none : seen.count ≤ 1 → seen.row.0 ≡ 0 → (s : ℕ) → get_binding rows s name ≡ 0
-    bound_none h r s = rw (bound_is h s, r) (same_if (eqb seen.scope.0 s) 0)
+  -- no row: nothing is seen
+  pub find_nothing : NoRow ≡ candidates_f rows name 1 NoRow → (m s : ℕ) → sees m s ≡ 0
+  find_nothing all = see_nothing (bound_is NoRow all refl)
 
-    -- no row: nothing is seen
-    pub find_nothing : seen.count ≡ 0 → (m s : ℕ) → sees m s ≡ 0
-    find_nothing h = see_nothing (bound_none (omega arith) (rw (← all) at (all_sound name rows 1 no_candidate (λ z. refl)) h))
+  module _ (row : SymbolId) (scope : ScopeId) (all : OneRow row scope ≡ candidates_f rows name 1 NoRow) where
+    bound_here : (s : ℕ) → get_binding rows s name ≡ (if eqb scope.0 s then row.0 else 0)
+    bound_here = bound_is (OneRow row scope) all refl
 
-    by_row : (b : Bool) → eqb seen.row.0 0 ≡ b → seen.count ≤ 1
-        → (m s : ℕ) → sees m s ≡ (if climbs_f m ss x.scopes s seen.scope.0 then seen.row.0 else 0)
-    by_row true q h m s =
-        let r : seen.row.0 ≡ 0 = eqb-true seen.row.0 0 q in
-        rw (see_nothing (bound_none h r) m s, r) (sym (same_if (climbs_f m ss x.scopes s seen.scope.0) 0))
-    by_row false q h m s = see_one seen.scope.0 seen.row.0 (eqb-false seen.row.0 0 q) (bound_is h) m s
+    by_row : (b : Bool) → eqb row.0 0 ≡ b → (m s : ℕ) → sees m s ≡ (if climbs_f m ss x.scopes s scope.0 then row.0 else 0)
+    by_row true q m s =
+        let r : row.0 ≡ 0 = eqb-true row.0 0 q in
+        let none : (k : ℕ) → get_binding rows k name ≡ 0 = λ k. rw (bound_here k, r) (same_if (eqb scope.0 k) 0) in
+        rw (see_nothing none m s, r) (sym (same_if (climbs_f m ss x.scopes s scope.0) 0))
+    by_row false q m s = see_one scope.0 row.0 (eqb-false row.0 0 q) bound_here m s
 
-    -- at most one: its number is seen from where its scope is met
-    pub find_one : (b met : Bool) (m s : ℕ) → met ≡ b → met ≡ climbs_f m ss x.scopes s seen.scope.0 → seen.count ≤ 1
-        → sees m s ≡ (if b then seen.row.0 else 0)
-    find_one b met m s e c h = rw (← e, c) (by_row (eqb seen.row.0 0) refl h m s)
+    -- one: its number is seen from where its scope is met
+    pub find_one : (b met : Bool) (m s : ℕ) → met ≡ b → met ≡ climbs_f m ss x.scopes s scope.0 → sees m s ≡ (if b then row.0 else 0)
+    find_one b met m s e c = rw (← e, c) (by_row (eqb row.0 0) refl m s)

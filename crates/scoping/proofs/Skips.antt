@@ -27,6 +27,10 @@ if_after : (b : Bool) (i r : ℕ) → i ≤ r → i ≤ (if b then i else r)
 if_after true i r h = omega arith
 if_after false i r h = h
 
+if_within : (b : Bool) (i r n : ℕ) → i ≤ n → r ≤ n → (if b then i else r) ≤ n
+if_within true i r n h g = h
+if_within false i r n h g = g
+
 by_test : {X : Type 0} (F : ℕ → X) (i r : ℕ) (b : Bool) → (b ≡ false → F i ≡ F r) → F i ≡ F (if b then i else r)
 by_test F i r true g = refl
 by_test F i r false g = g refl
@@ -52,8 +56,15 @@ module _ (t : List ℕ) (f want n : ℕ) where
   next_after zero i = omega arith
   next_after (suc m) i = if_after (eqb (get_or t (i * SymbolTable.Numbers + f) 0) want) i _ (omega (arith, next_after m (suc i)))
 
-  pub next_less : (i r : ℕ) → i < n → r ≡ next_row_f t f want (n - (i + 1)) (i + 1) → n - r < n - i
-  next_less i r h e = omega (arith, next_after (n - (i + 1)) (i + 1))
+  -- and among the m, or right behind them
+  pub next_within : (m i : ℕ) → next_row_f t f want m i ≤ i + m
+  unfolding next_row_f
+  next_within zero i = omega arith
+  next_within (suc m) i =
+      if_within (eqb (get_or t (i * SymbolTable.Numbers + f) 0) want) i _ _ (omega arith) (omega (arith, next_within m (suc i)))
+
+  pub next_less : (i r : ℕ) → r < n → r ≡ next_row_f t f want (n - i) i → n - (r + 1) < n - i
+  next_less i r h e = omega (arith, next_after (n - i) i)
 
   -- what no row without the number changes is the same at the next row with it
   next_same : {X : Type 0} (F : ℕ → X) → ((j : ℕ) → j < n → (get_or t (j * SymbolTable.Numbers + f) 0 ≡ want → ⊥) → F j ≡ F (j + 1))
@@ -103,7 +114,6 @@ module _ (t : List ℕ) (f n scope name : ℕ) (m : n ≤ 65535) where
 
   -- what was found before a row that binds the name does not matter
   from_row : (i : ℕ) → i < n → binds (symbol_at t f i) scope name ≡ true → (k j found : ℕ) → j + k ≡ i → from j found ≡ from (i + 1) (i + 1)
-  unfolding capped
   from_row i h b zero j found e =
       let q : j ≡ i = omega arith in
       let y : i + 1 ≡ capped i 1 = omega arith in
@@ -118,7 +128,7 @@ module _ (t : List ℕ) (f n scope name : ℕ) (m : n ≤ 65535) where
 pub bound_last : (t : List ℕ) (n scope name i last : ℕ) → i < n → n ≤ 65535 → get_or t (i * SymbolTable.Numbers + 2) 0 ≡ scope → get_or t (i * SymbolTable.Numbers + 3) 0 ≡ 0
     → get_or t (i * SymbolTable.Numbers) 0 ≡ name → last ≡ binding_from t 2 n scope name (i + 1) (i + 1)
     → eqb last (i + 1) ≡ is_among_bindings (symbols_f t 2 n 0) scope (capped i 1) (symbol_at t 2 i)
-unfolding is_among_bindings binds symbol_at capped
+unfolding is_among_bindings binds symbol_at
 bound_last t n scope name i last h m s z e l =
     let y : capped i 1 ≡ i + 1 = omega arith in
     let b : binds (symbol_at t 2 i) scope name ≡ true = rw (eq-eqb _ _ z, eq-eqb _ _ s, eq-eqb _ _ e) in

@@ -3,19 +3,19 @@
 use Rattle.std.specs.Prelude.{if◌then◌else◌, List, [], ◌∷◌, Bool, true, false, ◌&&◌, ℕ, zero, suc, eqb}
 use Rattle.meaning.specs.File.{Symbol}
 use Rattle.tables.specs.Columns.ScopeTable
-use Rattle.tables.specs.Table.{capped}
 use Rattle.scoping.specs.Rows.{scope_number}
 use Rattle.scoping.specs.declared.Candidates.{Candidates}
+use Rattle.scoping.specs.declared.Candidates.TheVariants.{NoRow, OneRow, MoreRows}
 
-abbrev pub no_candidate : Candidates
-no_candidate = record { count = 0; row = record { 0 = 0 }; scope = record { 0 = 0 } }
+-- one row more, in a scope; i is the row's number
+unfoldable pub one_more : ℕ → ℕ → Candidates → Candidates
+one_more i scope NoRow = OneRow (record { 0 = i }) (record { 0 = scope })
+one_more i scope (OneRow r s) = MoreRows
+one_more i scope MoreRows = MoreRows
 
--- a row binds a name in its scope if it has the name and made 0; i is the row's number
+-- a row binds a name in its scope if it has the name and made 0
 unfoldable pub add_candidate_f : Symbol → ℕ → ℕ → Candidates → Candidates
-add_candidate_f y name i seen =
-    if eqb y.name name && eqb y.made 0
-    then record { count = capped seen.count 1; row = record { 0 = i }; scope = record { 0 = y.scope } }
-    else seen
+add_candidate_f y name i seen = if eqb y.name name && eqb y.made 0 then one_more i y.scope seen else seen
 
 -- rows are numbered from i on
 unfoldable pub candidates_f : List Symbol → ℕ → ℕ → Candidates → Candidates

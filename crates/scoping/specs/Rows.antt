@@ -65,17 +65,24 @@ with_helper x y =
 
 -- ---- numbers of the first n rows, numbered from 1
 
+-- w numbers to a row
+abbrev pub number_f : ℕ → List ℕ → ℕ → ℕ → ℕ → ℕ
+number_f w t n i f = if eqb i 0 then 0 else if leb i n then get_or t ((i - 1) * w + f) 0 else 0
+
 unfoldable pub scope_number : List ℕ → ℕ → ℕ → ℕ → ℕ
-scope_number t n s f = if eqb s 0 then 0 else if leb s n then get_or t ((s - 1) * ScopeTable.Numbers + f) 0 else 0
+scope_number t n s f = number_f ScopeTable.Numbers t n s f
 
 unfoldable pub symbol_number : List ℕ → ℕ → ℕ → ℕ → ℕ
-symbol_number t n y f = if eqb y 0 then 0 else if leb y n then get_or t ((y - 1) * SymbolTable.Numbers + f) 0 else 0
+symbol_number t n y f = number_f SymbolTable.Numbers t n y f
+
+abbrev pub set_number_f : ℕ → List ℕ → ℕ → ℕ → ℕ → ℕ → List ℕ
+set_number_f w t n i f v = if eqb i 0 then t else if leb i n then set t ((i - 1) * w + f) v else t
 
 unfoldable pub set_scope_f : List ℕ → ℕ → ℕ → ℕ → ℕ → List ℕ
-set_scope_f t n s f v = if eqb s 0 then t else if leb s n then set t ((s - 1) * ScopeTable.Numbers + f) v else t
+set_scope_f t n s f v = set_number_f ScopeTable.Numbers t n s f v
 
 unfoldable pub set_symbol_f : List ℕ → ℕ → ℕ → ℕ → ℕ → List ℕ
-set_symbol_f t n y f v = if eqb y 0 then t else if leb y n then set t ((y - 1) * SymbolTable.Numbers + f) v else t
+set_symbol_f t n y f v = set_number_f SymbolTable.Numbers t n y f v
 
 -- ---- rows
 

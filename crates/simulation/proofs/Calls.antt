@@ -1,6 +1,6 @@
 -- Calls for visits on tables are 01's: the import line is put where 01 puts it (02, request 1).
 -- Assumes nothing.
-use Rattle.std.specs.Prelude.{if◌then◌else◌, ◌≡◌, Bool, length}
+use Rattle.std.specs.Prelude.{Ok, if◌then◌else◌, ◌≡◌, Bool, length}
 use Rattle.std.proofs.Math.Path.{refl, sym, ap}
 use Rattle.std.proofs.Common.{◌∙◌}
 use Rattle.std.proofs.Math.Bool.{true, false}
@@ -14,7 +14,7 @@ use Rattle.meaning.specs.Tree.{Head, hd, Forest, none, more, count, size, ◌&�
 use Rattle.meaning.specs.Mentions.{mentions}
 use Rattle.meaning.specs.File.{File}
 use Rattle.meaning.specs.Scoping.{Store}
-use Rattle.meaning.specs.Reading.{accepted, read_file}
+use Rattle.meaning.specs.Reading.{read_file}
 use Rattle.meaning.specs.Walk.{Spot, at, leaving, over, is_over, visits, start, tree_at, store_at}
 use Rattle.meaning.specs.ImportLine.{import_due, with_import, completed}
 use Rattle.meaning.specs.Charges.{Figures, final_figures}
@@ -249,7 +249,7 @@ module _ (x : Figures) (z : Rest) (n : ℕ) (small : x.records ≤ 65535) (place
 
 -- ---- a file
 
-module _ (b : List ℕ) (f : File) (e : read_file b ≡ accepted f) (z : Rest) (n : ℕ) (placed : Placed (final_figures f) z n) where
+module _ (b : List ℕ) (f : File) (e : read_file b ≡ Ok f) (z : Rest) (n : ℕ) (placed : Placed (final_figures f) z n) where
   abbrev x : Figures
   x = final_figures f
 

@@ -1,6 +1,6 @@
 -- The visits on the tables that start leaves.
 -- Assumes nothing.
-use Rattle.std.specs.Prelude.{◌≡◌, refl, List, [], ◌∷◌, ℕ, zero, suc, ◌+◌, ◌*◌, ◌-◌, ◌≤◌, replicate}
+use Rattle.std.specs.Prelude.{Ok, ◌≡◌, refl, List, [], ◌∷◌, ℕ, zero, suc, ◌+◌, ◌*◌, ◌-◌, ◌≤◌, replicate}
 use Rattle.std.proofs.Common.{ap, ◌∙◌, zero-add, arith}
 use Rattle.std.proofs.Math.ListN.{length, length-replicate}
 use Rattle.tables.specs.Columns.RecordTable
@@ -10,7 +10,6 @@ use Rattle.tables.specs.Columns.SymbolTable
 use Rattle.meaning.specs.Tree.{none, size, ◌&◌}
 use Rattle.meaning.specs.Mentions.{mentions}
 use Rattle.meaning.specs.File.{File}
-use Rattle.meaning.specs.Reading.{accepted}
 use Rattle.meaning.specs.Walk.{Spot, store_of, start, visits, plug, tree_at, store_at}
 use Rattle.meaning.specs.ImportLine.{completed}
 use Rattle.meaning.specs.Charges.{final_figures}
@@ -81,7 +80,7 @@ start_store : (f : File) → store_at (start f) ≡ store_of f
 unfolding start
 start_store f = store_settled (store_of f) [] none f.tree
 
-module _ (bytes r s y : List ℕ) (f : File) (e : admit bytes (lent_in r s y) ≡ accepted f) where
+module _ (bytes r s y : List ℕ) (f : File) (e : admit bytes (lent_in r s y) ≡ Ok f) where
   started : held (start f) (free_rows f) (zeros_behind f r s y) ≡ held_in (final_figures f) (zeros_after f r s y) (start f)
   unfolding free_rows zeros_behind lent_in store_of visits
   started =

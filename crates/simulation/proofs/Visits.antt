@@ -1,6 +1,6 @@
 -- After any number of visits the tables hold what 01 has after so many.
 -- Assumes nothing.
-use Rattle.std.specs.Prelude.{◌≡◌, length, take}
+use Rattle.std.specs.Prelude.{Ok, ◌≡◌, length, take}
 use Rattle.std.proofs.Math.Path.{refl, ap}
 use Rattle.std.proofs.Common.{sym, ◌∙◌}
 use mathlib.Core.List.{List, [], ◌∷◌}
@@ -8,7 +8,7 @@ use Prim.Native.Nat.{ℕ, zero, suc, ◌+◌, ◌-◌, ◌≤◌}
 use native.Mathlib.Omega.{arith}
 use Rattle.meaning.specs.Tree.{none, size}
 use Rattle.meaning.specs.File.{Symbol, File}
-use Rattle.meaning.specs.Reading.{accepted, read_file}
+use Rattle.meaning.specs.Reading.{read_file}
 use Rattle.meaning.specs.Walk.{Spot, visit, visits, store_of, start, tree_at, store_at}
 use Rattle.meaning.specs.Charges.{
   ContextKind,
@@ -129,7 +129,7 @@ same_rows : (ys : List Symbol) → Agrees ys ys
 same_rows [] = tt
 same_rows (y ∷ ys) = (refl, refl, same_rows ys)
 
-module _ (b : List ℕ) (f : File) (e : read_file b ≡ accepted f) where
+module _ (b : List ℕ) (f : File) (e : read_file b ≡ Ok f) where
   abbrev spot : ℕ → Spot
   spot k = visits k (start f)
 

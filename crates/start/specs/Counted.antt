@@ -1,6 +1,6 @@
 -- The counts of symbols that start leaves are those of the tree just read.
 -- Assumes nothing.
-use Rattle.std.specs.Prelude.{◌≡◌, ℕ, ◌*◌, ◌-◌, ◌≤◌}
+use Rattle.std.specs.Prelude.{Ok, ◌≡◌, ℕ, ◌*◌, ◌-◌, ◌≤◌}
 use Rattle.std.proofs.Math.Path.{sym, ap}
 use Rattle.std.proofs.Common.{◌∙◌}
 use mathlib.Core.List.{List, [], ◌++◌, append-nil}
@@ -9,7 +9,6 @@ use Rattle.std.proofs.Math.ListN.{length, replicate, length-append, length-repli
 use Rattle.meaning.specs.Tree.{none}
 use Rattle.meaning.specs.Mentions.{mentions}
 use Rattle.meaning.specs.File.{File}
-use Rattle.meaning.specs.Reading.{accepted}
 use Rattle.meaning.specs.Walk.{store_at, store_of, start}
 use Rattle.meaning.specs.Lowering.{admit}
 use Rattle.parsing.specs.Counts.{size_bytes}
@@ -28,7 +27,7 @@ use Rattle.start.specs.Start.{lent_in, free_rows, zeros_behind, counts_behind}
 use Rattle.start.specs.Flat.{counted_f}
 use Rattle.start.specs.Filled.{read_most, admitted}
 
-module _ (bytes r s y : List ℕ) (f : File) (e : admit bytes (lent_in r s y) ≡ accepted f) where
+module _ (bytes r s y : List ℕ) (f : File) (e : admit bytes (lent_in r s y) ≡ Ok f) where
   few_mentions : (n : ℕ) → mentions n f.tree ≤ 65535
   few_mentions n =
       let room = accepted_room bytes f (admitted bytes r s y f e).0 in

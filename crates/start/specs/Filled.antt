@@ -1,6 +1,8 @@
 -- The tables that are filled hold the file just read.
 -- Assumes nothing.
-use Rattle.std.specs.Prelude.{◌≡◌, Bool, true, false, List, [], ◌++◌, leb}
+use Rattle.meaning.specs.declared.Reason.TheVariants as Reason
+use Rattle.meaning.specs.Refusals.{Outcome, refused}
+use Rattle.std.specs.Prelude.{Ok, Err, ◌≡◌, Bool, true, false, List, [], ◌++◌, leb}
 use Rattle.std.proofs.Math.Path.{refl}
 use Rattle.std.proofs.Common.{ap, subst, append-nil, zero-add, leb-true}
 use Prim.Native.Nat.{ℕ, ◌+◌, ◌-◌, ◌/◌, ◌≤◌, min}
@@ -9,7 +11,7 @@ use Rattle.std.proofs.Math.ListN.{length}
 use Rattle.meaning.specs.Tree.{Forest, none, more, size}
 use Rattle.meaning.specs.File.{File}
 use Rattle.meaning.specs.Scoping.{Store}
-use Rattle.meaning.specs.Reading.{Outcome, accepted, refused, ◌>>◌, ensure, read_file}
+use Rattle.meaning.specs.Reading.{◌>>◌, ensure, read_file}
 use Rattle.meaning.specs.Walk.{settle, store_at, store_of, start}
 use Rattle.meaning.specs.Charges.{figures_in, walk_figures, final_figures}
 use Rattle.meaning.specs.Lowering.{Lent, check_mode, check_rows, check_file, admit}
@@ -111,16 +113,16 @@ module _ (b : List ℕ) (f : File) (q : ParsedFile b f)
 abbrev pub Admitted : List ℕ → Lent → File → Type 0
 Admitted bytes lent f =
     let x = final_figures f in
-    (read_file bytes ≡ accepted f) × (x.records ≤ lent.records) × (x.scopes ≤ lent.scopes) × (x.symbols ≤ lent.symbols)
+    (read_file bytes ≡ Ok f) × (x.records ≤ lent.records) × (x.scopes ≤ lent.scopes) × (x.symbols ≤ lent.symbols)
 
 module _ (bytes : List ℕ) (lent : Lent) where
-  itself : (o : Outcome File) → read_file bytes ≡ o → Holds (λ f. read_file bytes ≡ accepted f) o
-  itself (accepted f) e = e
-  itself (refused c p) e = tt
+  itself : (o : Outcome File) → read_file bytes ≡ o → Holds (λ f. read_file bytes ≡ Ok f) o
+  itself (Ok f) e = e
+  itself (Err r) e = tt
 
   by_rows_lem : (f : File) (b₁ b₂ b₃ : Bool) → leb (final_figures f).records lent.records ≡ b₁
-      → leb (final_figures f).scopes lent.scopes ≡ b₂ → leb (final_figures f).symbols lent.symbols ≡ b₃ → read_file bytes ≡ accepted f
-      → Holds (Admitted bytes lent) ((ensure b₁ 9 0 >> (ensure b₂ 9 1 >> ensure b₃ 9 2)) >> accepted f)
+      → leb (final_figures f).scopes lent.scopes ≡ b₂ → leb (final_figures f).symbols lent.symbols ≡ b₃ → read_file bytes ≡ Ok f
+      → Holds (Admitted bytes lent) ((ensure b₁ Reason.FewRows 0 >> (ensure b₂ Reason.FewRows 1 >> ensure b₃ Reason.FewRows 2)) >> Ok f)
   by_rows_lem f true true true e₁ e₂ e₃ e = (e, leb-true _ _ e₁, leb-true _ _ e₂, leb-true _ _ e₃)
   by_rows_lem f true true false e₁ e₂ e₃ e = tt
   by_rows_lem f true false b₃ e₁ e₂ e₃ e = tt
@@ -130,14 +132,14 @@ module _ (bytes : List ℕ) (lent : Lent) where
   admits : Holds (Admitted bytes lent) (admit bytes lent)
   unfolding admit check_file check_rows
   admits =
-      let Is : File → Type 0 = λ f. read_file bytes ≡ accepted f in
+      let Is : File → Type 0 = λ f. read_file bytes ≡ Ok f in
       bind Is (Admitted bytes lent) (check_file bytes) _
       (bind Is Is (read_file bytes) _ (itself (read_file bytes) refl) (λ f e. bind_any Is (check_mode f) _ (λ _. e)))
       (λ f e. by_rows_lem f _ _ _ refl refl refl e)
 
 -- ---- its tables
 
-module _ (bytes r s y : List ℕ) (f : File) (e : admit bytes (lent_in r s y) ≡ accepted f) where
+module _ (bytes r s y : List ℕ) (f : File) (e : admit bytes (lent_in r s y) ≡ Ok f) where
   pub admitted : Admitted bytes (lent_in r s y) f
   admitted = subst (Holds (Admitted bytes (lent_in r s y))) e (admits bytes (lent_in r s y))
 

@@ -1,12 +1,13 @@
 -- What the code of this crate computes.
 -- Assumes nothing.
-use Rattle.std.specs.Prelude.{if◌then◌else◌, List, ℕ, ◌+◌, ◌*◌, ◌-◌, ◌/◌, min, leb, length, set, replicate}
-use Rattle.meaning.specs.Numbers.Refusal
+use Rattle.meaning.specs.declared.Reason.TheVariants as Reason
+use Rattle.std.specs.Prelude.{Ok, Err, if◌then◌else◌, List, ℕ, ◌+◌, ◌*◌, ◌-◌, ◌/◌, min, leb, length, set, replicate}
 use Rattle.meaning.specs.File.{scope_bytes, symbol_bytes}
 use Rattle.meaning.specs.Grammar.{two, field_of}
+use Rattle.meaning.specs.Refusals.{Outcome, refused}
 use Rattle.checking.specs.declared.Layout.{Layout}
 use Rattle.checking.specs.declared.Surveyed.{Surveyed}
-use Rattle.checking.specs.declared.Surveyed.TheVariants.{Fine, Refused as RefusedSurvey}
+use Rattle.checking.specs.Survey.{fine}
 use Rattle.tables.specs.Columns.RecordTable
 use Rattle.tables.specs.Columns.ScopeTable
 use Rattle.tables.specs.Columns.SymbolTable
@@ -17,7 +18,6 @@ use Rattle.mentions.specs.Counters.{add_rows_f, on_counts}
 use Rattle.path.specs.declared.Walk.{Walk}
 use Rattle.path.specs.Path.{Tables, tables}
 use Rattle.start.specs.Start.{Begun, begun, ready}
-use Rattle.start.specs.declared.Started.TheVariants.{Refused}
 
 -- ---- scope and symbol rows
 
@@ -110,14 +110,14 @@ fill_f f l end r s y =
     (walk_f l free end)
 
 -- by the survey of a file: the rows that are lent
-unfoldable pub admit_by : Surveyed → List ℕ → List ℕ → List ℕ → Surveyed
-admit_by (Fine l g) r s y =
-    if leb g.records (length r / RecordTable.Numbers)
-    then (if leb g.scopes (length s / ScopeTable.Lent)
-    then (if leb g.symbols (length y / SymbolTable.Lent) then Fine l g else RefusedSurvey Refusal.FewRows 2)
-    else RefusedSurvey Refusal.FewRows 1)
-    else RefusedSurvey Refusal.FewRows 0
-admit_by (RefusedSurvey c p) r s y = RefusedSurvey c p
+unfoldable pub admit_by : Outcome Surveyed → List ℕ → List ℕ → List ℕ → Outcome Surveyed
+admit_by (Ok q) r s y =
+    if leb q.figures.records (length r / RecordTable.Numbers)
+    then (if leb q.figures.scopes (length s / ScopeTable.Lent)
+    then (if leb q.figures.symbols (length y / SymbolTable.Lent) then fine q.layout q.figures else refused Reason.FewRows 2)
+    else refused Reason.FewRows 1)
+    else refused Reason.FewRows 0
+admit_by (Err why) r s y = Err why
 
 -- the counts of the symbols, of all rows to visit
 unfoldable pub counted_f : Tables → Tables
@@ -126,6 +126,6 @@ counted_f q =
     tables q.records q.scopes (on_counts (add_rows_f q.records w.gap.0 w.end.0) q.symbols) w
 
 -- and the tables
-unfoldable pub start_by : Surveyed → List ℕ → List ℕ → List ℕ → List ℕ → Begun
-start_by (Fine l g) bytes r s y = ready (counted_f (fill_f bytes l (min g.records 65535) r s y))
-start_by (RefusedSurvey c p) bytes r s y = begun (Refused c p) r s y
+unfoldable pub start_by : Outcome Surveyed → List ℕ → List ℕ → List ℕ → List ℕ → Begun
+start_by (Ok q) bytes r s y = ready (counted_f (fill_f bytes q.layout (min q.figures.records 65535) r s y))
+start_by (Err why) bytes r s y = begun (Err why) r s y

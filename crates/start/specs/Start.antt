@@ -1,10 +1,10 @@
 -- What start answers and leaves in the lent tables.
 -- Assumes nothing.
-use Rattle.std.specs.Prelude.{List, ◌++◌, ℕ, ◌*◌, ◌-◌, ◌/◌, length, replicate}
+use Rattle.meaning.specs.Refusals.{Outcome, refused}
+use Rattle.std.specs.Prelude.{Ok, Err, List, ◌++◌, ℕ, ◌*◌, ◌-◌, ◌/◌, length, replicate}
 use Rattle.meaning.specs.Tree.{size}
 use Rattle.meaning.specs.Mentions.{mentions}
 use Rattle.meaning.specs.File.{File}
-use Rattle.meaning.specs.Reading.{Outcome, accepted, refused}
 use Rattle.meaning.specs.Walk.{start}
 use Rattle.meaning.specs.Charges.{final_figures}
 use Rattle.meaning.specs.Lowering.{Lent, admit}
@@ -13,19 +13,18 @@ use Rattle.tables.specs.Columns.ScopeTable
 use Rattle.tables.specs.Columns.SymbolTable
 use Rattle.tables.specs.Table.{counts_at}
 use Rattle.mentions.specs.Sums.{counts_from}
+use Rattle.path.specs.declared.Walk.{Walk}
 use Rattle.path.specs.Path.{Tables}
 use Rattle.representation.specs.Spots.Spots.{Rest, held}
-use Rattle.start.specs.declared.Started.{Started}
-use Rattle.start.specs.declared.Started.TheVariants.{Ready, Refused}
 
 -- the answer and the tables
 pub record Begun : Type 0 where
-  pub answer : Started
+  pub answer : Outcome Walk
   pub records : List ℕ
   pub scopes : List ℕ
   pub symbols : List ℕ
 
-abbrev pub begun : Started → List ℕ → List ℕ → List ℕ → Begun
+abbrev pub begun : Outcome Walk → List ℕ → List ℕ → List ℕ → Begun
 begun a r s y = record { answer = a; records = r; scopes = s; symbols = y }
 
 -- the rows of the tables
@@ -58,12 +57,12 @@ counts_behind f r s y =
     }
 
 abbrev pub ready : Tables → Begun
-ready t = begun (Ready t.walk) t.records t.scopes t.symbols
+ready t = begun (Ok t.walk) t.records t.scopes t.symbols
 
 -- an accepted file before its first visit; a refused one changes nothing
 abbrev pub start_of : Outcome File → List ℕ → List ℕ → List ℕ → Begun
-start_of (accepted f) r s y = ready (held (start f) (free_rows f) (counts_behind f r s y))
-start_of (refused c p) r s y = begun (Refused c p) r s y
+start_of (Ok f) r s y = ready (held (start f) (free_rows f) (counts_behind f r s y))
+start_of (Err why) r s y = begun (Err why) r s y
 
 unfoldable pub start_f : List ℕ → List ℕ → List ℕ → List ℕ → Begun
 start_f bytes r s y = start_of (admit bytes (lent_in r s y)) r s y

@@ -14,24 +14,13 @@ ghost use Rattle.start.specs.Start.{begun, lent_in, start_f};
 
 use checking::{Layout, Surveyed};
 use fields::{NUMBER_A, NUMBER_B, NUMBER_C, NUMBER_D, SCOPE_BYTES, SYMBOL_BYTES};
-use meaning::{Field, RecordId, SymbolId, refusal};
+use meaning::{Field, Reason, RecordId, Refusal, SymbolId};
 use path::Walk;
 use scoping::Ctx;
 use tables::{Row, record, scope, symbol};
 
-// What start answers: where the walk stands, or a refusal's number and place.
-#[derive(Clone, Copy)]
-pub enum Started {
-    Ready(Walk),
-    Refused(u8, usize),
-}
-
-// A number, or the largest that fits.
-pub fn capped(x: u64) -> u16
-    ensures { result ≡ min x 65535 }
-{
-    if x <= 65535 { x as u16 } else { 65535 }
-}
+// A table names no more records.
+const MOST_RECORDS: u64 = tables::LARGEST as u64;
 
 // ---- scope and symbol rows
 
@@ -39,12 +28,7 @@ pub fn capped(x: u64) -> u16
 pub fn clear(table: &mut [u16])
     ensures { table.new ≡ replicate (length table.old) 0 }
 {
-    let n = table.len();
-    let mut i = 0;
-    while i < n {
-        table[i] = 0;
-        i += 1;
-    }
+    table.fill(0);
 }
 
 // Scope row k, counted from 0.
@@ -60,10 +44,8 @@ fn put_scope(file: &[u8], scopes: &mut [u16], k: u16)
 fn put_scopes(file: &[u8], scopes: &mut [u16], count: u16)
     ensures { scopes.new ≡ scopes_f file.now count scopes.old }
 {
-    let mut k: u16 = 0;
-    while k < count {
+    for k in 0..count {
         put_scope(file, scopes, k);
-        k += 1;
     }
 }
 
@@ -84,10 +66,8 @@ fn put_symbol(file: &[u8], symbols: &mut [u16], first: u16, k: u16)
 fn put_symbols(file: &[u8], symbols: &mut [u16], first: u16, count: u16)
     ensures { symbols.new ≡ symbols_f file.now first count symbols.old }
 {
-    let mut k: u16 = 0;
-    while k < count {
+    for k in 0..count {
         put_symbol(file, symbols, first, k);
-        k += 1;
     }
 }
 
@@ -97,10 +77,7 @@ fn put_symbols(file: &[u8], symbols: &mut [u16], first: u16, count: u16)
 fn own_number(count: u8, i: u8, v: u16) -> u16
     ensures { result ≡ (if ltb i count then v else 0) }
 {
-    if i < count {
-        return v;
-    }
-    0
+    if i < count { v } else { 0 }
 }
 
 // The row of a record that is not open.
@@ -123,12 +100,10 @@ fn put_records(file: &[u8], records: &mut [u16], free: u16, end: u16, tree: u16)
     ensures { records.new ≡ records_f file.now free end tree records.old }
 {
     let mut at = tree as usize;
-    let mut k = free;
-    while k < end {
+    for k in free..end {
         let x = fields::field_of(file, at as u32);
         tables::put_row(records, RecordId(k), row_of(x));
         at = x.next;
-        k += 1;
     }
 }
 
@@ -171,7 +146,7 @@ pub fn fill(
     put_scopes(file, scopes, l.scopes);
     clear(symbols);
     put_symbols(file, symbols, l.first, l.symbols);
-    let free = tables::minus(end, l.records);
+    let free = end.saturating_sub(l.records);
     clear(records);
     put_records(file, records, free, end, l.tree);
     walk_of(l, free, end)
@@ -180,37 +155,51 @@ pub fn fill(
 // ---- public
 
 // The layout and the figures of a file that is accepted and for which enough rows are lent: 01's refusals 1 to 9.
-pub fn admit(file: &[u8], records: &[u16], scopes: &[u16], symbols: &[u16]) -> Surveyed
+pub fn admit(
+    file: &[u8],
+    records: &[u16],
+    scopes: &[u16],
+    symbols: &[u16],
+) -> Result<Surveyed, Refusal>
     ensures { result
         ≡ surveyed_of (lowering.admit file.now (lent_in records.now scopes.now symbols.now)) }
 {
-    let f = checking::survey(file);
-    let Surveyed::Fine(l, g) = f else {
-        return f;
-    };
-    if ((records.len() / record::NUMBERS) as u64) < g.records {
-        return Surveyed::Refused(refusal::FEW_ROWS, 0);
+    let surveyed = checking::survey(file)?;
+    let needed = surveyed.figures;
+    if ((records.len() / record::NUMBERS) as u64) < needed.records {
+        return Err(Refusal {
+            reason: Reason::FewRows,
+            place: 0,
+        });
     }
-    if ((scopes.len() / scope::LENT) as u64) < g.scopes {
-        return Surveyed::Refused(refusal::FEW_ROWS, 1);
+    if ((scopes.len() / scope::LENT) as u64) < needed.scopes {
+        return Err(Refusal {
+            reason: Reason::FewRows,
+            place: 1,
+        });
     }
-    if ((symbols.len() / symbol::LENT) as u64) < g.symbols {
-        return Surveyed::Refused(refusal::FEW_ROWS, 2);
+    if ((symbols.len() / symbol::LENT) as u64) < needed.symbols {
+        return Err(Refusal {
+            reason: Reason::FewRows,
+            place: 2,
+        });
     }
-    Surveyed::Fine(l, g)
+    Ok(surveyed)
 }
 
 // Reads an accepted file into the tables: 01's refusals 1 to 9, or the walk before its first visit.
-pub fn start(file: &[u8], records: &mut [u16], scopes: &mut [u16], symbols: &mut [u16]) -> Started
+pub fn start(
+    file: &[u8],
+    records: &mut [u16],
+    scopes: &mut [u16],
+    symbols: &mut [u16],
+) -> Result<Walk, Refusal>
     ensures { begun result records.new scopes.new symbols.new
         ≡ start_f file.now records.old scopes.old symbols.old }
 {
-    match admit(file, records, scopes, symbols) {
-        Surveyed::Fine(l, g) => {
-            let walk = fill(file, l, capped(g.records), records, scopes, symbols);
-            mentions::count_rows(symbols, records, walk.gap, walk.end);
-            Started::Ready(walk)
-        }
-        Surveyed::Refused(c, p) => Started::Refused(c, p),
-    }
+    let admitted = admit(file, records, scopes, symbols)?;
+    let end = admitted.figures.records.min(MOST_RECORDS) as u16;
+    let walk = fill(file, admitted.layout, end, records, scopes, symbols);
+    mentions::count_rows(symbols, records, walk.gap, walk.end);
+    Ok(walk)
 }

@@ -54,3 +54,7 @@ open_try_f scope n b = emit_f (emit_f b (closed_row_f Tag.Try TryParts.Both 0 0 
 -- what follows for a list of n items
 unfoldable pub transform_list_f : ℕ → Parts → Buf → Buf
 transform_list_f n p b = handlers_f p (take_up_f n p.context.0 (declare_context_f p b))
+
+-- a Module line of a form, with one Specifier
+unfoldable pub line_f : ℕ → ℕ → ℕ → Buf → Buf
+line_f form y name b = emit_f (emit_f b (closed_row_f Tag.ModuleLine form 0 0 1)) (closed_row_f Tag.Specifier y name 0 0)

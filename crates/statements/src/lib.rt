@@ -1,13 +1,13 @@
 // Usings taken up by a context, and the rows of the Try around them.
 #![tactic(auto)]
 
-ghost use Rattle.std.specs.Prelude.{if◌then◌else◌, ◌≡◌, false};
+ghost use Rattle.std.specs.Prelude.{◌≡◌};
 ghost use Rattle.meaning.specs.Statements.{is_using, is_await_using, letter_if};
-ghost use Rattle.tables.specs.Table.{head_f};
+ghost use Rattle.tables.specs.Table.{capped, head_f};
 ghost use Rattle.tables.specs.Stream.{buf};
 ghost use Rattle.statements.specs.TakeUp.{is_using_kind_f, has_initializer_f, as_const_f, take_up_declarator_f, take_up_declarators_f, take_up_item_f, take_up_f};
 ghost use Rattle.statements.specs.Plan.{count_one_f, initializers_f, wraps_f, plan_one_f, plan_f, no_plan};
-ghost use Rattle.statements.specs.Try.{step_form, declare_f, declare_context_f, catch_clause_f, finally_block_f, handlers_f, open_try_f, transform_list_f};
+ghost use Rattle.statements.specs.Try.{line_f, step_form, declare_f, declare_context_f, catch_clause_f, finally_block_f, handlers_f, open_try_f, transform_list_f};
 
 use meaning::{RecordId, ScopeId, SymbolId, kind, letter, parts, step_form, tag};
 use tables::{Cursor, Row};
@@ -53,37 +53,23 @@ pub struct Plan {
 fn is_using_kind(kind: u16) -> bool
     ensures { result ≡ is_using_kind_f kind }
 {
-    match kind {
-        kind::USING => true,
-        kind::AWAIT_USING => true,
-        _ => false,
-    }
+    matches!(kind, kind::USING | kind::AWAIT_USING)
 }
 
 // A Declaration that is a using, or is recorded as one.
+#[tactic(auto, unfolding(meaning::specs::Statements::is_using))]
 pub fn is_using(r: Row) -> bool
     ensures { result ≡ is_using (head_f r) }
 {
-    if r.tag != tag::DECLARATION {
-        return false;
-    }
-    if is_using_kind(r.a) {
-        return true;
-    }
-    is_using_kind(r.b)
+    r.tag == tag::DECLARATION && (is_using_kind(r.a) || is_using_kind(r.b))
 }
 
 // A Declaration that is an `await using`, or is recorded as one.
+#[tactic(auto, unfolding(meaning::specs::Statements::is_await_using))]
 pub fn is_await_using(r: Row) -> bool
     ensures { result ≡ is_await_using (head_f r) }
 {
-    if r.tag != tag::DECLARATION {
-        return false;
-    }
-    if r.a == kind::AWAIT_USING {
-        return true;
-    }
-    r.b == kind::AWAIT_USING
+    r.tag == tag::DECLARATION && (r.a == kind::AWAIT_USING || r.b == kind::AWAIT_USING)
 }
 
 // The letter of a Call, by whether it is awaited.
@@ -94,18 +80,17 @@ fn letter_if(awaited: bool) -> u16
 }
 
 // A Declarator with a child behind its Names.
+#[tactic(auto, unfolding(crate::specs::TakeUp::has_initializer_f))]
 fn has_initializer(r: Row) -> bool
     ensures { result ≡ has_initializer_f r }
 {
-    if r.tag != tag::DECLARATOR {
-        return false;
-    }
-    r.b < r.n
+    r.tag == tag::DECLARATOR && r.b < r.n
 }
 
 // ---- taking up
 
 // A Declarator; its initializer is called through the context.
+#[tactic(auto, unfolding(crate::specs::TakeUp::take_up_declarator_f))]
 fn take_up_declarator(records: &mut [u16], q: Cursor, letter: u16, context: SymbolId) -> Cursor
     ensures { buf records.new result ≡ take_up_declarator_f letter context.0 (buf records.old q) }
 {
@@ -118,13 +103,14 @@ fn take_up_declarator(records: &mut [u16], q: Cursor, letter: u16, context: Symb
             q2,
             tables::closed_row(tag::CALL, letter, context.0, 0, 1),
         );
-        tables::copy(records, q3, tables::minus(r.n, r.b))
+        tables::copy(records, q3, r.n.saturating_sub(r.b))
     } else {
         tables::copy(records, q1, r.n)
     }
 }
 
 // The n Declarators of a using; their initializers are called through the context.
+#[tactic(auto, unfolding(crate::specs::TakeUp::take_up_declarators_f), using(tables::specs::Loops::next_turn, tables::specs::Loops::last_turn))]
 fn take_up_declarators(
     records: &mut [u16],
     start: Cursor,
@@ -135,26 +121,23 @@ fn take_up_declarators(
     ensures { buf records.new result ≡ take_up_declarators_f n letter context.0 (buf records.old start) }
 {
     let mut q = start;
-    let mut k: u16 = 0;
-    while k < n {
+    for _ in 0..n {
         q = take_up_declarator(records, q, letter, context);
-        k += 1;
     }
     q
 }
 
 // A using becomes const; a recorded one is var already, and loses its mark.
+#[tactic(auto, unfolding(crate::specs::TakeUp::as_const_f))]
 fn as_const(r: Row) -> Row
     ensures { result ≡ as_const_f r }
 {
-    if r.b == 0 {
-        tables::closed_row(tag::DECLARATION, kind::CONST, 0, 0, r.n)
-    } else {
-        tables::closed_row(tag::DECLARATION, kind::VAR, 0, 0, r.n)
-    }
+    let kind = if r.b == 0 { kind::CONST } else { kind::VAR };
+    tables::closed_row(tag::DECLARATION, kind, 0, 0, r.n)
 }
 
 // An item of a list: a using is taken up with the letter of its own kind.
+#[tactic(auto, unfolding(crate::specs::TakeUp::take_up_item_f))]
 fn take_up_item(records: &mut [u16], q: Cursor, context: SymbolId) -> Cursor
     ensures { buf records.new result ≡ take_up_item_f context.0 (buf records.old q) }
 {
@@ -169,85 +152,78 @@ fn take_up_item(records: &mut [u16], q: Cursor, context: SymbolId) -> Cursor
 }
 
 // The usings of a list of n items.
+#[tactic(auto, unfolding(crate::specs::TakeUp::take_up_f), using(tables::specs::Loops::next_turn, tables::specs::Loops::last_turn))]
 pub fn take_up(records: &mut [u16], start: Cursor, n: u16, context: SymbolId) -> Cursor
     ensures { buf records.new result ≡ take_up_f n context.0 (buf records.old start) }
 {
     let mut q = start;
-    let mut k: u16 = 0;
-    while k < n {
+    for _ in 0..n {
         q = take_up_item(records, q, context);
-        k += 1;
     }
     q
 }
 
 // ---- counting first
 
-// 1 for true.
-fn number_if(b: bool) -> u16
-    ensures { result ≡ (if b then 1 else 0) }
-{
-    if b { 1 } else { 0 }
-}
-
 // One Declarator more: counted if it has an initializer.
+#[tactic(auto, unfolding(crate::specs::Plan::count_one_f))]
 fn count_one(records: &[u16], s: Counting) -> Counting
     ensures { result ≡ count_one_f records.now s }
 {
     let r = tables::row_after(records, s.at);
     Counting {
         at: tables::end_after(records, s.at, 1),
-        sum: tables::plus(s.sum, number_if(has_initializer(r))),
+        sum: s.sum.saturating_add(u16::from(has_initializer(r))),
     }
 }
 
 // The initializers of n Declarators.
+#[tactic(auto, unfolding(crate::specs::Plan::initializers_f), using(tables::specs::Loops::next_turn, tables::specs::Loops::last_turn))]
 fn initializers(records: &[u16], after: RecordId, n: u16) -> u16
     ensures { result ≡ initializers_f records.now after.0 n }
 {
     let mut s = Counting { at: after, sum: 0 };
-    let mut k: u16 = 0;
-    while k < n {
+    for _ in 0..n {
         s = count_one(records, s);
-        k += 1;
     }
     s.sum
 }
 
 // What taking up the item after a row wraps.
+#[tactic(auto, unfolding(crate::specs::Plan::wraps_f))]
 fn wraps(records: &[u16], after: RecordId) -> u16
     ensures { result ≡ wraps_f records.now after.0 }
 {
     let r = tables::row_after(records, after);
     if is_using(r) {
-        initializers(records, RecordId(tables::plus(after.0, 1)), r.n)
+        initializers(records, RecordId(after.0.saturating_add(1)), r.n)
     } else {
         0
     }
 }
 
 // One item more.
+#[tactic(auto, unfolding(crate::specs::Plan::plan_one_f))]
 fn plan_one(records: &[u16], p: Plan) -> Plan
     ensures { result ≡ plan_one_f records.now p }
 {
     let r = tables::row_after(records, p.at);
     Plan {
         at: tables::end_after(records, p.at, 1),
-        usings: tables::plus(p.usings, number_if(is_using(r))),
-        awaits: tables::plus(p.awaits, number_if(is_await_using(r))),
-        wraps: tables::plus(p.wraps, wraps(records, p.at)),
+        usings: p.usings.saturating_add(u16::from(is_using(r))),
+        awaits: p.awaits.saturating_add(u16::from(is_await_using(r))),
+        wraps: p.wraps.saturating_add(wraps(records, p.at)),
     }
 }
 
 // Counted on from a plan: n items after its last row.
+#[tactic(auto, unfolding(crate::specs::Plan::plan_f), using(tables::specs::Loops::next_turn, tables::specs::Loops::last_turn))]
 pub fn plan_list(records: &[u16], start: Plan, n: u16) -> Plan
     ensures { result ≡ plan_f records.now start n }
 {
     let mut p = start;
-    let mut k: u16 = 0;
-    while k < n {
+    for _ in 0..n {
         p = plan_one(records, p);
-        k += 1;
     }
     p
 }
@@ -264,9 +240,18 @@ pub fn no_plan(after: RecordId) -> Plan
     }
 }
 
+// What the first n children of the record after a row come to.
+pub fn plan_children(records: &[u16], after: RecordId, n: u16) -> Plan
+    ensures { result ≡ plan_f records.now (no_plan (capped after.0 1)) n }
+{
+    let first = RecordId(after.0.saturating_add(1));
+    plan_list(records, no_plan(first), n)
+}
+
 // ---- the rows of a Try
 
 // `_usingCtx.d()` or `await _usingCtx.d()`
+#[tactic(auto, unfolding(crate::specs::Try::step_form))]
 pub fn step_form(awaits: u16) -> u16
     ensures { result ≡ step_form awaits }
 {
@@ -278,6 +263,7 @@ pub fn step_form(awaits: u16) -> u16
 }
 
 // A Declaration of a name, up to its initializer.
+#[tactic(auto, unfolding(crate::specs::Try::declare_f))]
 pub fn declare(records: &mut [u16], q: Cursor, kind: u16, y: SymbolId) -> Cursor
     ensures { buf records.new result ≡ declare_f kind y.0 (buf records.old q) }
 {
@@ -291,6 +277,7 @@ pub fn declare(records: &mut [u16], q: Cursor, kind: u16, y: SymbolId) -> Cursor
 }
 
 // `var _usingCtx = using_ctx();`
+#[tactic(auto, unfolding(crate::specs::Try::declare_context_f))]
 pub fn declare_context(records: &mut [u16], q: Cursor, p: Parts) -> Cursor
     ensures { buf records.new result ≡ declare_context_f p (buf records.old q) }
 {
@@ -303,6 +290,7 @@ pub fn declare_context(records: &mut [u16], q: Cursor, p: Parts) -> Cursor
 }
 
 // `catch (_) { _usingCtx.e = _; }`
+#[tactic(auto, unfolding(crate::specs::Try::catch_clause_f))]
 fn write_catch_clause(records: &mut [u16], q: Cursor, p: Parts) -> Cursor
     ensures { buf records.new result ≡ catch_clause_f p (buf records.old q) }
 {
@@ -319,7 +307,7 @@ fn write_catch_clause(records: &mut [u16], q: Cursor, p: Parts) -> Cursor
     let q3 = tables::emit(
         records,
         q2,
-        tables::closed_row(tag::BLOCK, tables::plus(p.scope.0, 1), 0, 0, 1),
+        tables::closed_row(tag::BLOCK, p.scope.0.saturating_add(1), 0, 0, 1),
     );
     tables::emit(
         records,
@@ -329,13 +317,14 @@ fn write_catch_clause(records: &mut [u16], q: Cursor, p: Parts) -> Cursor
 }
 
 // `finally { _usingCtx.d(); }`
+#[tactic(auto, unfolding(crate::specs::Try::finally_block_f))]
 fn write_finally_block(records: &mut [u16], q: Cursor, p: Parts) -> Cursor
     ensures { buf records.new result ≡ finally_block_f p (buf records.old q) }
 {
     let q1 = tables::emit(
         records,
         q,
-        tables::closed_row(tag::BLOCK, tables::plus(p.scope.0, 2), 0, 0, 1),
+        tables::closed_row(tag::BLOCK, p.scope.0.saturating_add(2), 0, 0, 1),
     );
     tables::emit(
         records,
@@ -345,6 +334,7 @@ fn write_finally_block(records: &mut [u16], q: Cursor, p: Parts) -> Cursor
 }
 
 // The Catch and the last Block.
+#[tactic(auto, unfolding(crate::specs::Try::handlers_f))]
 pub fn write_handlers(records: &mut [u16], q: Cursor, p: Parts) -> Cursor
     ensures { buf records.new result ≡ handlers_f p (buf records.old q) }
 {
@@ -353,6 +343,7 @@ pub fn write_handlers(records: &mut [u16], q: Cursor, p: Parts) -> Cursor
 }
 
 // The Try's row and that of its first Block, with n children.
+#[tactic(auto, unfolding(crate::specs::Try::open_try_f))]
 pub fn open_try(records: &mut [u16], q: Cursor, scope: ScopeId, n: u16) -> Cursor
     ensures { buf records.new result ≡ open_try_f scope.0 n (buf records.old q) }
 {
@@ -368,7 +359,25 @@ pub fn open_try(records: &mut [u16], q: Cursor, scope: ScopeId, n: u16) -> Curso
     )
 }
 
+// A Module line of a form, with one Specifier.
+#[tactic(auto, unfolding(crate::specs::Try::line_f))]
+pub fn write_line(records: &mut [u16], q: Cursor, form: u16, y: SymbolId, name: u16) -> Cursor
+    ensures { buf records.new result ≡ line_f form y.0 name (buf records.old q) }
+{
+    let q1 = tables::emit(
+        records,
+        q,
+        tables::closed_row(tag::MODULE_LINE, form, 0, 0, 1),
+    );
+    tables::emit(
+        records,
+        q1,
+        tables::closed_row(tag::SPECIFIER, y.0, name, 0, 0),
+    )
+}
+
 // What stands in a Try around a list of n items, from its first Block's row on: the context, the list taken up, the handlers.
+#[tactic(auto, unfolding(crate::specs::Try::transform_list_f))]
 pub fn transform_list(records: &mut [u16], q: Cursor, n: u16, p: Parts) -> Cursor
     ensures { buf records.new result ≡ transform_list_f n p (buf records.old q) }
 {

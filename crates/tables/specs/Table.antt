@@ -14,11 +14,10 @@ abbrev pub largest : ℕ
 largest = 65535
 
 -- the sum, at most the largest number
-unfoldable pub capped : ℕ → ℕ → ℕ
+abbrev pub capped : ℕ → ℕ → ℕ
 capped x k = min (x + k) largest
 
 pub cap_one : (x : ℕ) → x < largest → capped x 1 ≡ x + 1
-unfolding capped
 cap_one x h = omega arith
 
 -- column f of the row after i others, or 0 past the end

@@ -12,8 +12,8 @@ pub mod record;
 pub mod scope;
 pub mod symbol;
 
-ghost use Rattle.std.specs.Prelude.{◌≡◌, ◌-◌, get_or, set};
-ghost use Rattle.tables.specs.Table.{capped, column_f, row_f, set_column_f, set_row_f, closed_row_f, move_row_f, end_f, new_numbers_at, counts_at};
+ghost use Rattle.std.specs.Prelude.{◌≡◌, get_or, set};
+ghost use Rattle.tables.specs.Table.{column_f, row_f, set_column_f, set_row_f, closed_row_f, move_row_f, end_f, new_numbers_at, counts_at};
 ghost use Rattle.tables.specs.Stream.{buf, emit_f, replace_row_f, copy_row_f, copy_f, unread_row_f, take_back_f};
 
 use meaning::RecordId;
@@ -22,7 +22,7 @@ use meaning::RecordId;
 pub const LARGEST: u16 = 65535;
 
 // A row of the record table.
-#[derive(Clone, Copy)]
+#[derive(Clone, Copy, Default, PartialEq, Eq, Debug)]
 pub struct Row {
     pub tag: u16,
     pub a: u16,
@@ -46,30 +46,17 @@ pub struct Cursor {
 pub fn get(table: &[u16], at: usize) -> u16
     ensures { result ≡ get_or table.now at 0 }
 {
-    if at < table.len() { table[at] } else { 0 }
+    table.get(at).copied().unwrap_or(0)
 }
 
 // Stores a number; past the end nothing happens.
 pub fn put(table: &mut [u16], at: usize, v: u16)
     ensures { table.new ≡ set table.old at v }
 {
+    // By index: of the slice after a `get_mut` the library promises nothing.
     if at < table.len() {
         table[at] = v;
     }
-}
-
-// The sum, or the largest number where it does not fit.
-pub fn plus(x: u16, k: u16) -> u16
-    ensures { result ≡ capped x k }
-{
-    if k <= LARGEST - x { x + k } else { LARGEST }
-}
-
-// The difference, or 0.
-pub fn minus(x: u16, k: u16) -> u16
-    ensures { result ≡ x - k }
-{
-    if k <= x { x - k } else { 0 }
 }
 
 // ---- rows
@@ -88,6 +75,7 @@ const UP: usize = record::UP as usize;
 const LEFT: usize = record::LEFT as usize;
 
 // The number in a column of the row after another.
+#[tactic(auto, unfolding(crate::specs::Table::column_f))]
 pub fn column(records: &[u16], after: RecordId, f: u16) -> u16
     ensures { result ≡ column_f records.now after.0 f }
 {
@@ -95,6 +83,7 @@ pub fn column(records: &[u16], after: RecordId, f: u16) -> u16
 }
 
 // Stores a number in a column of the row after another.
+#[tactic(auto, unfolding(crate::specs::Table::set_column_f))]
 pub fn put_column(records: &mut [u16], after: RecordId, f: u16, v: u16)
     ensures { records.new ≡ set_column_f records.old after.0 f v }
 {
@@ -106,6 +95,7 @@ pub fn put_column(records: &mut [u16], after: RecordId, f: u16, v: u16)
 }
 
 // The row after another, where the table may end inside it.
+#[tactic(auto, unfolding(crate::specs::Table::row_f))]
 fn row_by_column(records: &[u16], after: RecordId) -> Row
     ensures { result ≡ row_f records.now after.0 }
 {
@@ -121,6 +111,7 @@ fn row_by_column(records: &[u16], after: RecordId) -> Row
 }
 
 // The row after another.
+#[tactic(auto, unfolding(crate::specs::Table::row_f, crate::specs::Table::column_f))]
 pub fn row_after(records: &[u16], after: RecordId) -> Row
     ensures { result ≡ row_f records.now after.0 }
 {
@@ -140,6 +131,7 @@ pub fn row_after(records: &[u16], after: RecordId) -> Row
 }
 
 // Stores the row after another, where the table may end inside it.
+#[tactic(auto, unfolding(crate::specs::Table::set_row_f))]
 fn put_by_column(records: &mut [u16], after: RecordId, r: Row)
     ensures { records.new ≡ set_row_f records.old after.0 r }
 {
@@ -153,6 +145,7 @@ fn put_by_column(records: &mut [u16], after: RecordId, r: Row)
 }
 
 // Stores the row after another.
+#[tactic(auto, unfolding(crate::specs::Table::set_row_f, crate::specs::Table::set_column_f))]
 pub fn put_row(records: &mut [u16], after: RecordId, r: Row)
     ensures { records.new ≡ set_row_f records.old after.0 r }
 {
@@ -180,37 +173,19 @@ pub fn closed_row(tag: u16, a: u16, b: u16, c: u16, n: u16) -> Row
         b,
         c,
         n,
-        up: 0,
-        left: 0,
+        ..Row::default()
     }
-}
-
-// Clears the row after another, where the table may end inside it.
-fn clear_by_column(records: &mut [u16], after: RecordId)
-    ensures { records.new ≡ set_row_f records.old after.0 (closed_row_f 0 0 0 0 0) }
-{
-    put_by_column(records, after, closed_row(0, 0, 0, 0, 0));
 }
 
 // Clears the row after another: a free row's numbers are 0.
 pub fn clear_row(records: &mut [u16], after: RecordId)
     ensures { records.new ≡ set_row_f records.old after.0 (closed_row_f 0 0 0 0 0) }
 {
-    let at = (after.0 as usize) * record::NUMBERS;
-    if records.len() < at + record::NUMBERS {
-        clear_by_column(records, after);
-    } else {
-        records[at] = 0;
-        records[at + A] = 0;
-        records[at + B] = 0;
-        records[at + C] = 0;
-        records[at + N] = 0;
-        records[at + UP] = 0;
-        records[at + LEFT] = 0;
-    }
+    put_row(records, after, Row::default());
 }
 
 // Clears the row after one place and stores a row after another.
+#[tactic(auto, unfolding(crate::specs::Table::move_row_f))]
 pub fn move_row(records: &mut [u16], from: RecordId, to: RecordId, r: Row)
     ensures { records.new ≡ move_row_f records.old from.0 to.0 r }
 {
@@ -222,21 +197,20 @@ pub fn move_row(records: &mut [u16], from: RecordId, to: RecordId, r: Row)
 pub fn end_after(records: &[u16], after: RecordId, count: u16) -> RecordId
     ensures { result.0 ≡ end_f records.now after.0 count }
 {
-    let mut at = after.0;
     let mut pending = count as usize;
-    while at < LARGEST {
+    for at in after.0..LARGEST {
         if pending == 0 {
-            break;
+            return RecordId(at);
         }
         pending = pending - 1 + (column(records, RecordId(at), record::N) as usize);
-        at += 1;
     }
-    RecordId(at)
+    RecordId(LARGEST)
 }
 
 // ---- behind the rows of the other tables
 
 // Where the new numbers of scopes stand: behind the rows for which the table has numbers.
+#[tactic(auto, unfolding(crate::specs::Table::new_numbers_at))]
 pub fn new_numbers_at(scopes: &[u16]) -> usize
     ensures { result ≡ new_numbers_at scopes.now }
 {
@@ -244,6 +218,7 @@ pub fn new_numbers_at(scopes: &[u16]) -> usize
 }
 
 // Where the counts of symbols stand: behind the rows for which the table has numbers.
+#[tactic(auto, unfolding(crate::specs::Table::counts_at))]
 pub fn counts_at(symbols: &[u16]) -> usize
     ensures { result ≡ counts_at symbols.now }
 {
@@ -253,29 +228,31 @@ pub fn counts_at(symbols: &[u16]) -> usize
 // ---- streaming
 
 // Writes a new row.
+#[tactic(auto, unfolding(crate::specs::Stream::emit_f))]
 pub fn emit(records: &mut [u16], q: Cursor, r: Row) -> Cursor
     ensures { buf records.new result ≡ emit_f (buf records.old q) r }
 {
-    let read = q.read;
     put_row(records, q.written, r);
     Cursor {
-        read,
-        written: RecordId(plus(q.written.0, 1)),
+        written: RecordId(q.written.0.saturating_add(1)),
+        ..q
     }
 }
 
 // Writes a row in the place of the next one.
+#[tactic(auto, unfolding(crate::specs::Stream::replace_row_f))]
 pub fn replace_row(records: &mut [u16], q: Cursor, r: Row) -> Cursor
     ensures { buf records.new result ≡ replace_row_f (buf records.old q) r }
 {
     move_row(records, q.read, q.written, r);
     Cursor {
-        read: RecordId(plus(q.read.0, 1)),
-        written: RecordId(plus(q.written.0, 1)),
+        read: RecordId(q.read.0.saturating_add(1)),
+        written: RecordId(q.written.0.saturating_add(1)),
     }
 }
 
 // Copies the next row.
+#[tactic(auto, unfolding(crate::specs::Stream::copy_row_f))]
 pub fn copy_row(records: &mut [u16], q: Cursor) -> Cursor
     ensures { buf records.new result ≡ copy_row_f (buf records.old q) }
 {
@@ -283,36 +260,38 @@ pub fn copy_row(records: &mut [u16], q: Cursor) -> Cursor
     replace_row(records, q, r)
 }
 
-// Copies `count` whole subtrees.
+// Copies `count` whole subtrees. Not by `copy_row`, which would be called for each row, with its N read once more.
 pub fn copy(records: &mut [u16], q: Cursor, count: u16) -> Cursor
     ensures { buf records.new result ≡ copy_f (buf records.old q) count }
 {
-    let mut read = q.read.0;
-    let mut written = q.written.0;
+    let mut written = q.written;
     let mut pending = count as usize;
-    while read < LARGEST {
+    for read in q.read.0..LARGEST {
         if pending == 0 {
-            break;
+            return Cursor {
+                read: RecordId(read),
+                written,
+            };
         }
         let r = row_after(records, RecordId(read));
         clear_row(records, RecordId(read));
-        put_row(records, RecordId(written), r);
-        read += 1;
-        written = plus(written, 1);
+        put_row(records, written, r);
+        written = RecordId(written.0.saturating_add(1));
         pending = pending - 1 + (r.n as usize);
     }
     Cursor {
-        read: RecordId(read),
-        written: RecordId(written),
+        read: RecordId(LARGEST),
+        written,
     }
 }
 
 // The last row written goes behind the free rows again.
+#[tactic(auto, unfolding(crate::specs::Stream::unread_row_f))]
 pub fn unread_row(records: &mut [u16], q: Cursor) -> Cursor
     ensures { buf records.new result ≡ unread_row_f (buf records.old q) }
 {
-    let from = RecordId(minus(q.written.0, 1));
-    let to = RecordId(minus(q.read.0, 1));
+    let from = RecordId(q.written.0.saturating_sub(1));
+    let to = RecordId(q.read.0.saturating_sub(1));
     let r = row_after(records, from);
     move_row(records, from, to, r);
     Cursor {
@@ -326,10 +305,8 @@ pub fn take_back(records: &mut [u16], start: Cursor, n: u16) -> Cursor
     ensures { buf records.new result ≡ take_back_f n (buf records.old start) }
 {
     let mut q = start;
-    let mut k: u16 = 0;
-    while k < n {
+    for _ in 0..n {
         q = unread_row(records, q);
-        k += 1;
     }
     q
 }

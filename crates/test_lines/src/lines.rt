@@ -2,6 +2,7 @@
 ghost use Rattle.std.specs.Prelude.{◌≤◌, length, IfOk};
 
 use figures::FinalFigures;
+use meaning::Refusal;
 use std::io;
 use std::io::Read;
 
@@ -255,16 +256,16 @@ pub fn is_fine(text: &[u8], at: usize) -> bool {
     byte(text, at) == b'o'
 }
 
-pub fn same_refusal(text: &[u8], at: usize, number: u8, place: usize) -> bool {
+pub fn same_refusal(text: &[u8], at: usize, refusal: Refusal) -> bool {
     if byte(text, at) != b'r' {
         return false;
     }
     let n = read_number(text, behind(text, at, b' '));
-    if n.value != (number as usize) {
+    if n.value != (u8::from(refusal.reason) as usize) {
         return false;
     }
     let p = read_number(text, n.next);
-    p.value == place
+    p.value == refusal.place
 }
 
 // The place behind `ok` and the four figures before the bytes, if they are these; 0 if not.

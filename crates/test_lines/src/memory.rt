@@ -1,6 +1,7 @@
 // The memory lent to `lower`, filled before a call and compared after it.
 use crate::lines;
 use figures::FinalFigures;
+use meaning::Refusal;
 
 // A file has fewer bytes. So many are lent for a file, for what is written and for its text.
 pub const LARGE: usize = 65536;
@@ -71,8 +72,8 @@ pub fn written_agrees(line: &[u8], at: usize, g: FinalFigures, out: &[u8]) -> bo
     kept_behind(out, n)
 }
 
-pub fn refusal_agrees(line: &[u8], at: usize, number: u8, place: usize, out: &[u8]) -> bool {
-    if !lines::same_refusal(line, at, number, place) {
+pub fn refusal_agrees(line: &[u8], at: usize, refusal: Refusal, out: &[u8]) -> bool {
+    if !lines::same_refusal(line, at, refusal) {
         return false;
     }
     kept_behind(out, 0)

@@ -1,9 +1,8 @@
 // The state that a line of a walk tells (test_vectors, walks.rt), held against the tables.
 use crate::lines;
 use crate::lines::Seen;
-use meaning::{RecordId, tag};
+use meaning::{RecordId, Refusal, tag};
 use path::Walk;
-use start::Started;
 use tables::Row;
 
 // How many rows of each kind there are.
@@ -95,7 +94,7 @@ fn no_rows() -> Rows {
 fn rows_of(w: Walk) -> Rows {
     let x = w.ctx;
     Rows {
-        records: tables::plus(w.visited.0, tables::minus(w.end.0, w.gap.0)),
+        records: w.visited.0.saturating_add(w.end.0.saturating_sub(w.gap.0)),
         scopes: x.scopes,
         symbols: x.symbols,
     }
@@ -116,16 +115,16 @@ fn counted(rows: Rows, t: u16) -> Rows {
     match t {
         tag::SCOPE => Rows {
             records: rows.records,
-            scopes: tables::plus(rows.scopes, 1),
+            scopes: rows.scopes.saturating_add(1),
             symbols: rows.symbols,
         },
         tag::SYMBOL => Rows {
             records: rows.records,
             scopes: rows.scopes,
-            symbols: tables::plus(rows.symbols, 1),
+            symbols: rows.symbols.saturating_add(1),
         },
         _ => Rows {
-            records: tables::plus(rows.records, 1),
+            records: rows.records.saturating_add(1),
             scopes: rows.scopes,
             symbols: rows.symbols,
         },
@@ -137,8 +136,8 @@ fn record(records: &[u16], w: Walk, k: u16) -> Row {
     if k < w.visited.0 {
         return tables::row_after(records, RecordId(k));
     }
-    let free = tables::minus(w.gap.0, w.visited.0);
-    tables::row_after(records, RecordId(tables::plus(k, free)))
+    let free = w.gap.0.saturating_sub(w.visited.0);
+    tables::row_after(records, RecordId(k.saturating_add(free)))
 }
 
 // The row of a field, with so many before it.
@@ -242,14 +241,7 @@ pub fn is_state(text: &[u8], at: usize) -> bool {
     c <= b'9'
 }
 
-// What `start` makes of a file.
-#[derive(Clone, Copy)]
-pub enum Begun {
-    Walking(Stand),
-    Refused,
-}
-
-// Before the first visit, with the states told from a place on.
+// Before the first visit, with the states told from a place on; or the refusal.
 pub fn begin(
     file: &[u8],
     at: usize,
@@ -257,15 +249,13 @@ pub fn begin(
     records: &mut [u16],
     scopes: &mut [u16],
     symbols: &mut [u16],
-) -> Begun {
-    match start::start(file, records, scopes, symbols) {
-        Started::Ready(w) => Begun::Walking(Stand {
-            last: at,
-            next: at,
-            len: 0,
-            seen: seen,
-            walk: w,
-        }),
-        Started::Refused(_, _) => Begun::Refused,
-    }
+) -> Result<Stand, Refusal> {
+    let walk = start::start(file, records, scopes, symbols)?;
+    Ok(Stand {
+        last: at,
+        next: at,
+        len: 0,
+        seen,
+        walk,
+    })
 }

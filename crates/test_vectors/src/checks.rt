@@ -1,13 +1,12 @@
 // A line is `FILE|CHECK|FIGURES`: a file, and the answers of `check` and `figures`. An answer is `refused NUMBER PLACE` or `ok`, for `figures`
 // with records, scopes, symbols, contexts and bytes.
-use checking::Checked;
-use figures::{Figured, FinalFigures};
+use figures::FinalFigures;
 use test_lines::{lines, memory};
 
 fn check_agrees(file: &[u8], line: &[u8], at: usize) -> bool {
     match checking::check(file) {
-        Checked::Fine => lines::is_fine(line, at),
-        Checked::Refused(number, place) => lines::same_refusal(line, at, number, place),
+        Ok(()) => lines::is_fine(line, at),
+        Err(refusal) => lines::same_refusal(line, at, refusal),
     }
 }
 
@@ -22,8 +21,8 @@ fn same_figures(line: &[u8], at: usize, g: FinalFigures) -> bool {
 
 fn figures_agree(file: &[u8], line: &[u8], at: usize) -> bool {
     match checking::figures(file) {
-        Figured::Fine(g) => same_figures(line, at, g),
-        Figured::Refused(number, place) => lines::same_refusal(line, at, number, place),
+        Ok(figures) => same_figures(line, at, figures),
+        Err(refusal) => lines::same_refusal(line, at, refusal),
     }
 }
 

@@ -2,7 +2,7 @@
 // empty one the empty file. What comes of it is printed. The tables lent have 64 records, 24 scopes and 16 symbols, the output 724 bytes:
 // enough for every case but those that show refusals 9 and 10.
 use figures::FinalFigures;
-use lowering::Lowered;
+use meaning::Refusal;
 use std::io;
 use test_lines::lines::Seen;
 use test_lines::{lines, memory};
@@ -32,10 +32,8 @@ fn show_written(rt: &impl Print, f: FinalFigures, out: &[u8]) -> io::Result<()> 
     show_figures(rt, f)
 }
 
-fn show_refusal(rt: &impl Print, number: u8, place: usize) -> io::Result<()> {
-    lines::put_number(rt, b"  refused ", number as u64)?;
-    lines::put_number(rt, b" at ", place as u64)?;
-    lines::put(rt, b"\n")
+fn show_refusal(rt: &impl Print, refusal: Refusal) -> io::Result<()> {
+    println!(rt; "  {refusal}")
 }
 
 fn show_lowered(rt: &impl Print, file: &[u8]) -> io::Result<()> {
@@ -44,8 +42,8 @@ fn show_lowered(rt: &impl Print, file: &[u8]) -> io::Result<()> {
     let mut symbols = [0u16; 96];
     let mut out = [0u8; 724];
     match lowering::lower(file, &mut records, &mut scopes, &mut symbols, &mut out) {
-        Lowered::Written(f) => show_written(rt, f, &out),
-        Lowered::Refused(number, place) => show_refusal(rt, number, place),
+        Ok(figures) => show_written(rt, figures, &out),
+        Err(refusal) => show_refusal(rt, refusal),
     }
 }
 

@@ -1,12 +1,13 @@
 // A line is `R S Y OUT|FILE|ANSWER`: the rows and output bytes that are lent, a file, and what `lower` answers: `refused NUMBER PLACE`, or `ok`
 // with records, scopes, symbols, contexts and the written file.
-use lowering::Lowered;
+use figures::FinalFigures;
+use meaning::Refusal;
 use test_lines::{lines, memory};
 
 // ---- answers
 
 fn answer_agrees(
-    answer: Lowered,
+    answer: Result<FinalFigures, Refusal>,
     line: &[u8],
     at: usize,
     records: &[u16],
@@ -15,14 +16,14 @@ fn answer_agrees(
     out: &[u8],
 ) -> bool {
     match answer {
-        Lowered::Written(g) => {
+        Ok(g) => {
             if !memory::written_agrees(line, at, g, out) {
                 return false;
             }
             memory::all_tables(records, scopes, symbols, 0)
         }
-        Lowered::Refused(number, place) => {
-            if !memory::refusal_agrees(line, at, number, place, out) {
+        Err(refusal) => {
+            if !memory::refusal_agrees(line, at, refusal, out) {
                 return false;
             }
             memory::all_tables(records, scopes, symbols, memory::NUMBER)

@@ -1,9 +1,7 @@
 // The file of a vector is lowered with the memory that the desk lends. What is written, if reading accepts it, is lowered again with just the
 // rows and bytes that it has, and must come out as it went in; with one byte less of output it must be refused.
-use checking::Checked;
 use figures::FinalFigures;
-use lowering::Lowered;
-use meaning::refusal;
+use meaning::{Reason, Refusal};
 use std::io;
 use test_lines::lines::Seen;
 use test_lines::{lines, memory};
@@ -11,10 +9,7 @@ use test_lines::{lines, memory};
 // ---- the second answer
 
 fn is_read(file: &[u8]) -> bool {
-    match checking::check(file) {
-        Checked::Fine => true,
-        Checked::Refused(_, _) => false,
-    }
+    checking::check(file).is_ok()
 }
 
 // The figures of the first lowering, and no context.
@@ -47,27 +42,27 @@ fn same_bytes(file: &[u8], out: &[u8]) -> bool {
     true
 }
 
-fn is_itself(answer: Lowered, first: FinalFigures, file: &[u8], out: &[u8]) -> bool {
+fn is_itself(
+    answer: Result<FinalFigures, Refusal>,
+    first: FinalFigures,
+    file: &[u8],
+    out: &[u8],
+) -> bool {
     match answer {
-        Lowered::Written(g) => {
+        Ok(g) => {
             if !same_figures(first, g) {
                 return false;
             }
             same_bytes(file, out)
         }
-        Lowered::Refused(_, _) => false,
+        Err(_) => false,
     }
 }
 
-fn is_short(answer: Lowered, length: usize) -> bool {
+fn is_short(answer: Result<FinalFigures, Refusal>, length: usize) -> bool {
     match answer {
-        Lowered::Written(_) => false,
-        Lowered::Refused(number, place) => {
-            if number != refusal::SHORT_OUTPUT {
-                return false;
-            }
-            place == length
-        }
+        Ok(_) => false,
+        Err(refusal) => refusal.reason == Reason::ShortOutput && refusal.place == length,
     }
 }
 
@@ -180,8 +175,8 @@ fn add_file(rt: &impl Print, file: &[u8], seen: Seen) -> io::Result<Seen> {
     let mut symbols = [0u16; 6144];
     let mut out = [0u8; memory::LARGE];
     match lowering::lower(file, &mut records, &mut scopes, &mut symbols, &mut out) {
-        Lowered::Written(g) => add_written(rt, g, lines::part(&out, 0, g.bytes as usize), seen),
-        Lowered::Refused(_, _) => Ok(seen),
+        Ok(g) => add_written(rt, g, lines::part(&out, 0, g.bytes as usize), seen),
+        Err(_) => Ok(seen),
     }
 }
 

@@ -2,7 +2,7 @@
 // visits made, how many records, scopes and symbols there are, and the scope rows, symbol rows and records in the notation, or `same`.
 use std::io;
 use test_lines::lines::Seen;
-use test_lines::states::{Begun, Stand};
+use test_lines::states::Stand;
 use test_lines::{lines, memory, states};
 
 // A walk has at most so many states.
@@ -72,7 +72,7 @@ fn replay_file(
     let mut scopes = [0u16; 768];
     let mut symbols = [0u16; 1536];
     match states::begin(file, at, seen, &mut records, &mut scopes, &mut symbols) {
-        Begun::Walking(first) => replay_states(
+        Ok(first) => replay_states(
             rt,
             text,
             first,
@@ -81,7 +81,7 @@ fn replay_file(
             &mut scopes,
             &mut symbols,
         ),
-        Begun::Refused => lines::add(rt, seen, false),
+        Err(_) => lines::add(rt, seen, false),
     }
 }
 

@@ -7,7 +7,6 @@
 #![tactic(auto)]
 
 use meaning::tag;
-use notation::Spelling;
 use std::io;
 use std::io::Read;
 
@@ -63,13 +62,8 @@ fn write_file(rt: &impl Print, text: &[u8]) -> io::Result<()> {
         return put(rt, b"too long: a text may have 262144 characters\n");
     }
     match notation::check(text) {
-        Spelling::Right => write_bytes(rt, text),
-        Spelling::Wrong(place) => say(
-            rt,
-            b"no notation at character ",
-            place,
-            b", counted from 0\n",
-        ),
+        Ok(()) => write_bytes(rt, text),
+        Err(wrong) => println!(rt; "{wrong}"),
     }
 }
 

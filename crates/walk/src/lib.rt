@@ -17,19 +17,19 @@ use tables::{Cursor, record};
 // ---- what entering a record rewrites
 
 // What the list of the first record to visit has to take up.
+#[tactic(auto, unfolding(crate::specs::Visit::plan_next_f))]
 fn plan_next(records: &[u16], w: Walk) -> Plan
     ensures { result ≡ plan_next_f records.now w }
 {
-    let gap = w.gap;
-    let n = tables::column(records, gap, record::N);
-    statements::plan_list(
-        records,
-        statements::no_plan(RecordId(tables::plus(gap.0, 1))),
-        n,
-    )
+    let n = tables::column(records, w.gap, record::N);
+    statements::plan_children(records, w.gap, n)
 }
 
+// The functions from here to `rewrite` test their plans each for itself: one that took the rewrite as a closure would have to say what a call
+// leaves in three lent tables, in more lines than the tests are.
+
 // A Program with a using directly in it.
+#[tactic(auto, unfolding(crate::specs::Visit::rewrite_program_f))]
 fn rewrite_program(records: &mut [u16], scopes: &mut [u16], symbols: &mut [u16], w: Walk) -> Walk
     ensures { tables records.new scopes.new symbols.new result
         ≡ rewrite_program_f (tables records.old scopes.old symbols.old w) }
@@ -43,6 +43,7 @@ fn rewrite_program(records: &mut [u16], scopes: &mut [u16], symbols: &mut [u16],
 }
 
 // A Block with a using directly in it.
+#[tactic(auto, unfolding(crate::specs::Visit::rewrite_block_f))]
 fn rewrite_block(records: &mut [u16], scopes: &mut [u16], symbols: &mut [u16], w: Walk) -> Walk
     ensures { tables records.new scopes.new symbols.new result
         ≡ rewrite_block_f (tables records.old scopes.old symbols.old w) }
@@ -56,6 +57,7 @@ fn rewrite_block(records: &mut [u16], scopes: &mut [u16], symbols: &mut [u16], w
 }
 
 // A function body with a using directly in it.
+#[tactic(auto, unfolding(crate::specs::Visit::rewrite_body_f))]
 fn rewrite_body(records: &mut [u16], scopes: &mut [u16], symbols: &mut [u16], w: Walk) -> Walk
     ensures { tables records.new scopes.new symbols.new result
         ≡ rewrite_body_f (tables records.old scopes.old symbols.old w) }
@@ -69,6 +71,7 @@ fn rewrite_body(records: &mut [u16], scopes: &mut [u16], symbols: &mut [u16], w:
 }
 
 // A For, or a Label around one, with a using at its head.
+#[tactic(auto, unfolding(crate::specs::Visit::rewrite_for_f))]
 fn rewrite_for(records: &mut [u16], scopes: &mut [u16], symbols: &mut [u16], w: Walk) -> Walk
     ensures { tables records.new scopes.new symbols.new result
         ≡ rewrite_for_f (tables records.old scopes.old symbols.old w) }
@@ -82,13 +85,14 @@ fn rewrite_for(records: &mut [u16], scopes: &mut [u16], symbols: &mut [u16], w: 
 }
 
 // A Switch with a using in a Case.
+#[tactic(auto, unfolding(crate::specs::Visit::rewrite_switch_f))]
 fn rewrite_switch(records: &mut [u16], scopes: &mut [u16], symbols: &mut [u16], w: Walk) -> Walk
     ensures { tables records.new scopes.new symbols.new result
         ≡ rewrite_switch_f (tables records.old scopes.old symbols.old w) }
 {
     let gap = w.gap;
     let n = tables::column(records, gap, record::N);
-    let plan = rewrite_for_switch::plan_cases(records, RecordId(tables::plus(gap.0, 1)), n);
+    let plan = rewrite_for_switch::plan_cases(records, RecordId(gap.0.saturating_add(1)), n);
     if plan.usings == 0 {
         w
     } else {
@@ -97,13 +101,14 @@ fn rewrite_switch(records: &mut [u16], scopes: &mut [u16], symbols: &mut [u16], 
 }
 
 // A Try with a using in one of its parts.
+#[tactic(auto, unfolding(crate::specs::Visit::rewrite_try_f))]
 fn rewrite_try(records: &mut [u16], scopes: &mut [u16], symbols: &mut [u16], w: Walk) -> Walk
     ensures { tables records.new scopes.new symbols.new result
         ≡ rewrite_try_f (tables records.old scopes.old symbols.old w) }
 {
     let gap = w.gap;
     let n = tables::column(records, gap, record::N);
-    let added = rewrite_contexts::plan_try(records, RecordId(tables::plus(gap.0, 1)), n);
+    let added = rewrite_contexts::plan_try(records, RecordId(gap.0.saturating_add(1)), n);
     if added == 0 {
         w
     } else {
@@ -112,6 +117,7 @@ fn rewrite_try(records: &mut [u16], scopes: &mut [u16], symbols: &mut [u16], w: 
 }
 
 // A ForOf with a using of an identifier on its left side.
+#[tactic(auto, unfolding(crate::specs::Visit::rewrite_for_of_f))]
 fn rewrite_for_of(records: &mut [u16], scopes: &mut [u16], symbols: &mut [u16], w: Walk) -> Walk
     ensures { tables records.new scopes.new symbols.new result
         ≡ rewrite_for_of_f (tables records.old scopes.old symbols.old w) }
@@ -150,24 +156,28 @@ fn rewrite(records: &mut [u16], scopes: &mut [u16], symbols: &mut [u16], w: Walk
 // ---- leaving a StaticBlock
 
 // Its list is rewritten if it has a using: its rows, from its own on, go behind the free ones again.
+#[tactic(auto, unfolding(crate::specs::Visit::leave_block_f))]
 fn leave_block(records: &mut [u16], scopes: &mut [u16], symbols: &mut [u16], w: Walk) -> Walk
     ensures { tables records.new scopes.new symbols.new result
         ≡ leave_block_f (tables records.old scopes.old symbols.old w) }
 {
     let inner = w.inner;
-    let n = tables::column(records, RecordId(tables::minus(inner.0, 1)), record::N);
+    let n = tables::column(records, RecordId(inner.0.saturating_sub(1)), record::N);
     let plan = statements::plan_list(records, statements::no_plan(inner), n);
     if plan.usings == 0 {
         return w;
     }
-    let read = w.gap;
-    let written = w.visited;
-    let rows = tables::minus(tables::plus(written.0, 1), inner.0);
-    let q = tables::take_back(records, Cursor { read, written }, rows);
+    let rows = w.visited.0.saturating_add(1).saturating_sub(inner.0);
+    let q = Cursor {
+        read: w.gap,
+        written: w.visited,
+    };
+    let q = tables::take_back(records, q, rows);
     rewrite_contexts::exit_static_block(records, scopes, symbols, w.with_cursor(q), plan)
 }
 
 // The innermost open record is left.
+#[tactic(auto, unfolding(crate::specs::Visit::leave_f))]
 fn leave(records: &mut [u16], scopes: &mut [u16], symbols: &mut [u16], w: Walk) -> Walk
     ensures { tables records.new scopes.new symbols.new result
         ≡ leave_f (tables records.old scopes.old symbols.old w) }
@@ -179,64 +189,54 @@ fn leave(records: &mut [u16], scopes: &mut [u16], symbols: &mut [u16], w: Walk) 
 }
 
 // The children of the innermost open record are all entered.
+#[tactic(auto, unfolding(crate::specs::Visit::is_leaving_f))]
 fn is_leaving(records: &[u16], w: Walk) -> bool
     ensures { result ≡ is_leaving_f records.now w }
 {
     let inner = w.inner.0;
-    if inner == 0 {
-        return false;
-    }
-    tables::column(records, RecordId(inner - 1), record::LEFT) == 0
+    inner != 0 && tables::column(records, RecordId(inner - 1), record::LEFT) == 0
 }
 
 // No visit is left.
+#[tactic(auto, unfolding(crate::specs::Visit::is_over_f))]
 pub fn is_over(walk: Walk, records: &[u16]) -> bool
     ensures { result ≡ is_over_f records.now walk }
 {
-    if is_leaving(records, walk) {
-        return false;
-    }
-    walk.end.0 <= walk.gap.0
+    !is_leaving(records, walk) && walk.end.0 <= walk.gap.0
 }
 
 // The tags that `rewrite` has something to do for.
 fn may_rewrite(tag: u16) -> bool
     ensures { result ≡ one_of rewritten tag }
 {
-    match tag {
-        tag::PROGRAM => true,
-        tag::BLOCK => true,
-        tag::LABEL => true,
-        tag::FOR => true,
-        tag::FOR_OF => true,
-        tag::SWITCH => true,
-        tag::TRY => true,
-        tag::BODY => true,
-        _ => false,
-    }
+    matches!(
+        tag,
+        tag::PROGRAM
+            | tag::BLOCK
+            | tag::LABEL
+            | tag::FOR
+            | tag::FOR_OF
+            | tag::SWITCH
+            | tag::TRY
+            | tag::BODY
+    )
 }
 
 // The next visit enters a record with another tag.
+#[tactic(auto, unfolding(crate::specs::Plain::is_plain_f))]
 fn is_plain(records: &[u16], w: Walk) -> bool
     ensures { result ≡ is_plain_f records.now w }
 {
-    if is_leaving(records, w) {
-        return false;
-    }
-    if w.end.0 <= w.gap.0 {
-        return false;
-    }
-    !may_rewrite(tables::column(records, w.gap, record::TAG))
+    !is_leaving(records, w)
+        && w.gap.0 < w.end.0
+        && !may_rewrite(tables::column(records, w.gap, record::TAG))
 }
 
 // After the first record, one that may ask for a rewrite is not entered.
 fn stops(records: &[u16], w: Walk, visits: u32) -> bool
     ensures { result ≡ stops_f (entering records.now w visits) }
 {
-    if visits == 0 {
-        return false;
-    }
-    !is_plain(records, w)
+    visits != 0 && !is_plain(records, w)
 }
 
 // Where the walk stands after some visits, and how many they were.
@@ -247,23 +247,26 @@ pub struct Visited {
 }
 
 // Enters the next record, and those behind it that ask for no rewrite, `limit` at most.
+#[tactic(auto, unfolding(crate::specs::Plain::enter_some_f), using(tables::specs::Loops::run_out, tables::specs::Loops::stopped))]
 fn enter_some(walk: Walk, limit: u32, records: &mut [u16]) -> Visited
     ensures { entering records.new result.walk result.visits ≡ enter_some_f limit records.old walk }
 {
     let mut w = walk;
-    let mut visits: u32 = 0;
-    while visits < limit {
+    for visits in 0..limit {
         if stops(records, w, visits) {
-            break;
+            return Visited { walk: w, visits };
         }
         w = path::enter(records, w);
-        visits += 1;
     }
-    Visited { walk: w, visits }
+    Visited {
+        walk: w,
+        visits: limit,
+    }
 }
 
 // The next visit, and those after it that only enter a record, `limit` at most: as `visit` one by one, in less time. None once the walk is over;
 // the import line is not added.
+#[tactic(auto, unfolding(crate::specs::Plain::visit_some_f))]
 pub fn visit_some(
     walk: Walk,
     limit: u32,
@@ -282,23 +285,21 @@ pub fn visit_some(
             walk: leave(records, scopes, symbols, walk),
             visits: 1,
         }
+    } else if walk.gap.0 < walk.end.0 {
+        let w = rewrite(records, scopes, symbols, walk);
+        enter_some(w, limit, records)
     } else {
-        if walk.gap.0 < walk.end.0 {
-            let w = rewrite(records, scopes, symbols, walk);
-            enter_some(w, limit, records)
-        } else {
-            Visited { walk, visits: 0 }
-        }
+        Visited { walk, visits: 0 }
     }
 }
 
 // The next visit; after the last nothing changes.
+#[tactic(auto, using(crate::specs::Plain::one_visit))]
 fn visit(walk: Walk, records: &mut [u16], scopes: &mut [u16], symbols: &mut [u16]) -> Walk
     ensures { tables records.new scopes.new symbols.new result
         ≡ visit_f (tables records.old scopes.old symbols.old walk) }
 {
-    let v = visit_some(walk, 1, records, scopes, symbols);
-    v.walk
+    visit_some(walk, 1, records, scopes, symbols).walk
 }
 
 // ---- visits that keep the counts of symbols true
@@ -311,30 +312,30 @@ struct Part {
 }
 
 // Those of the next visit: a StaticBlock that is left, a record that may be rewritten, or the row that is entered.
+#[tactic(auto, unfolding(crate::specs::Counted::part_f))]
 fn part_of(records: &[u16], w: Walk) -> Part
     ensures { result ≡ part_f records.now w }
 {
-    let gap = w.gap;
-    let visited = w.visited;
     if is_leaving(records, w) {
-        return Part {
-            from: RecordId(tables::minus(w.inner.0, 1)),
-            end: gap,
-        };
-    }
-    if may_rewrite(tables::column(records, gap, record::TAG)) {
-        return Part {
-            from: visited,
-            end: tables::end_after(records, gap, 1),
-        };
-    }
-    Part {
-        from: visited,
-        end: RecordId(tables::plus(gap.0, 1)),
+        Part {
+            from: RecordId(w.inner.0.saturating_sub(1)),
+            end: w.gap,
+        }
+    } else if may_rewrite(tables::column(records, w.gap, record::TAG)) {
+        Part {
+            from: w.visited,
+            end: tables::end_after(records, w.gap, 1),
+        }
+    } else {
+        Part {
+            from: w.visited,
+            end: RecordId(w.gap.0.saturating_add(1)),
+        }
     }
 }
 
 // The mentions of a part are taken off the counts.
+#[tactic(auto, unfolding(crate::specs::Counted::discount_part_f))]
 fn discount_part(symbols: &mut [u16], records: &[u16], p: Part, w: Walk)
     ensures { symbols.new ≡ discount_part_f records.now p w symbols.old }
 {
@@ -343,6 +344,7 @@ fn discount_part(symbols: &mut [u16], records: &[u16], p: Part, w: Walk)
 }
 
 // The mentions of a part are added to the counts.
+#[tactic(auto, unfolding(crate::specs::Counted::count_part_f))]
 fn count_part(symbols: &mut [u16], records: &[u16], p: Part, w: Walk)
     ensures { symbols.new ≡ count_part_f records.now p w symbols.old }
 {
@@ -351,6 +353,7 @@ fn count_part(symbols: &mut [u16], records: &[u16], p: Part, w: Walk)
 }
 
 // The next visit: what it may change is taken off the counts before it, and added after it.
+#[tactic(auto, unfolding(crate::specs::Counted::visit_counted_f))]
 fn visit_counted(walk: Walk, records: &mut [u16], scopes: &mut [u16], symbols: &mut [u16]) -> Walk
     ensures { tables records.new scopes.new symbols.new result
         ≡ visit_counted_f (tables records.old scopes.old symbols.old walk) }
@@ -363,6 +366,7 @@ fn visit_counted(walk: Walk, records: &mut [u16], scopes: &mut [u16], symbols: &
 }
 
 // Once the walk is over: the import line, if it is due, and its mention.
+#[tactic(auto, unfolding(crate::specs::Counted::complete_counted_f))]
 fn complete_counted(walk: Walk, records: &mut [u16], symbols: &mut [u16]) -> Walk
     ensures { counted records.new symbols.new result
         ≡ complete_counted_f (counted records.old symbols.old walk) }
@@ -377,6 +381,7 @@ fn complete_counted(walk: Walk, records: &mut [u16], symbols: &mut [u16]) -> Wal
 
 // A call for the next visit: after the last visit it adds the import line, if that is due; later calls change nothing. The counts of symbols are true
 // after each.
+#[tactic(auto, unfolding(crate::specs::Call::visit_call_f))]
 pub fn visit_call(walk: Walk, records: &mut [u16], scopes: &mut [u16], symbols: &mut [u16]) -> Walk
     ensures { tables records.new scopes.new symbols.new result
         ≡ visit_call_f (tables records.old scopes.old symbols.old walk) }

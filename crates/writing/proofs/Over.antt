@@ -4,7 +4,7 @@ use Rattle.std.specs.Prelude.{if◌then◌else◌}
 use mathlib.Core.Path.{◌≡◌, refl, ◌∙◌}
 use mathlib.Core.List.{List, [], ◌∷◌}
 use mathlib.Core.Bool.{Bool, true, false}
-use Prim.Native.Nat.{ℕ, zero, suc, ◌+◌, ◌*◌, ◌-◌, ◌/◌, ◌%◌, ◌≤◌, ◌<◌}
+use Prim.Native.Nat.{ℕ, zero, suc, ◌+◌, ◌*◌, ◌-◌, ◌/◌, ◌%◌, ◌≤◌, ◌<◌, min}
 use native.Mathlib.Omega.{arith}
 use lib.ListN.{set}
 use lib.Seq.{sets, set-set, set_comm}
@@ -39,9 +39,9 @@ module _ (h : Bool) (at l : ℕ) (r : Row) (o : List ℕ) where
   one_over e =
       let z : at + 3 + 2 * 0 ≡ at + 3 = omega arith in
       let a : ltb (at + 3) l ≡ false = le-ltb (at + 3) l (omega arith) in
-      let b : ltb (at + 5) l ≡ false = le-ltb (at + 5) l (omega arith) in
-      let c : ltb (at + 7) l ≡ false = le-ltb (at + 7) l (omega arith) in
-      rw (a, b, c, e, z) (simp two_over)
+      let f : min (at + 5) l ≡ l = omega arith in
+      let g : min (at + 7) l ≡ l = omega arith in
+      rw (a, f, g, e, z) (simp two_over)
 
   pair_over : l ≡ at + 5 → numbers_over h at l r o ≡ two_at (two_at o (at + 3 + 2 * 0) r.a) (at + 3 + 2 * 1) (if h then r.n else r.b)
   unfolding numbers_over last_of
@@ -50,8 +50,9 @@ module _ (h : Bool) (at l : ℕ) (r : Row) (o : List ℕ) where
       let y : at + 3 + 2 * 1 ≡ at + 5 = omega arith in
       let a : ltb (at + 3) l ≡ true = lt-ltb (at + 3) l (omega arith) in
       let b : ltb (at + 5) l ≡ false = le-ltb (at + 5) l (omega arith) in
-      let c : ltb (at + 7) l ≡ false = le-ltb (at + 7) l (omega arith) in
-      rw (a, b, c, e, z, y) (simp two_over)
+      let f : min (at + 5) l ≡ l = omega arith in
+      let g : min (at + 7) l ≡ l = omega arith in
+      rw (a, b, f, g, e, z, y) (simp two_over)
 
   three_over : l ≡ at + 7
       → numbers_over h at l r o ≡ two_at (two_at (two_at o (at + 3 + 2 * 0) r.a) (at + 3 + 2 * 1) r.b) (at + 3 + 2 * 2) (if h then r.n else r.c)
@@ -63,7 +64,9 @@ module _ (h : Bool) (at l : ℕ) (r : Row) (o : List ℕ) where
       let a : ltb (at + 3) l ≡ true = lt-ltb (at + 3) l (omega arith) in
       let b : ltb (at + 5) l ≡ true = lt-ltb (at + 5) l (omega arith) in
       let c : ltb (at + 7) l ≡ false = le-ltb (at + 7) l (omega arith) in
-      rw (a, b, c, e, z, y, x, two_over)
+      let f : min (at + 5) l ≡ at + 5 = omega arith in
+      let g : min (at + 7) l ≡ l = omega arith in
+      rw (a, b, c, f, g, e, z, y, x, two_over)
 
   four_over : l ≡ at + 9
       → numbers_over h at l r o
@@ -77,7 +80,9 @@ module _ (h : Bool) (at l : ℕ) (r : Row) (o : List ℕ) where
       let a : ltb (at + 3) l ≡ true = lt-ltb (at + 3) l (omega arith) in
       let b : ltb (at + 5) l ≡ true = lt-ltb (at + 5) l (omega arith) in
       let c : ltb (at + 7) l ≡ true = lt-ltb (at + 7) l (omega arith) in
-      rw (a, b, c, e, z, y, x, u)
+      let f : min (at + 5) l ≡ at + 5 = omega arith in
+      let g : min (at + 7) l ≡ at + 7 = omega arith in
+      rw (a, b, c, f, g, e, z, y, x, u)
 
 over : (h : Bool) (n at l : ℕ) (r : Row) (o : List ℕ) → (n ≡ 0 → ⊥) → n ≤ 4 → l ≡ at + 1 + 2 * n
     → let w = if h then n - 1 else n in

@@ -1,6 +1,6 @@
 -- The bytes that the code writes from tables, whatever numbers they hold.
 -- Assumes nothing.
-use Rattle.std.specs.Prelude.{if◌then◌else◌, List, [], ◌∷◌, ◌++◌, Bool, ℕ, zero, suc, ◌+◌, ◌*◌, ◌-◌, ◌%◌, get_or, take, drop, ltb}
+use Rattle.std.specs.Prelude.{if◌then◌else◌, List, [], ◌∷◌, ◌++◌, Bool, ℕ, zero, suc, ◌+◌, ◌*◌, ◌-◌, ◌%◌, min, get_or, take, drop, ltb}
 use Rattle.std.proofs.lemmas.List.Edits.{sets}
 use Rattle.meaning.specs.Numbers.Tag
 use Rattle.meaning.specs.File.{numbers_of, own_numbers, two_bytes}
@@ -70,9 +70,6 @@ record_at t new k = record_field (renumbered_row new (row_f t k))
 
 -- ---- numbers that are stored over one another
 
-abbrev pub lesser_of : ℕ → ℕ → ℕ
-lesser_of x y = if ltb x y then x else y
-
 abbrev pub pick_of : ℕ → ℕ → ℕ → ℕ → ℕ
 pick_of x y v w = if ltb x y then v else w
 
@@ -87,7 +84,7 @@ two_at o p v = sets o p (two_bytes (v ∷ []))
 -- each number at its place or, behind the last, at the last's, and then the last
 unfoldable pub numbers_over : Bool → ℕ → ℕ → Row → List ℕ → List ℕ
 numbers_over h at l r o =
-    two_at (two_at (two_at (two_at o (at + 3) r.a) (lesser_of (at + 5) l) r.b) (lesser_of (at + 7) l) r.c) l (last_of h at l r)
+    two_at (two_at (two_at (two_at o (at + 3) r.a) (min (at + 5) l) r.b) (min (at + 7) l) r.c) l (last_of h at l r)
 
 -- ---- the file
 

@@ -1,6 +1,6 @@
 -- An accepted file is fit, so the counts after any number of visits are those of its charges.
 -- Assumes nothing.
-use Rattle.std.specs.Prelude.{◌≡◌, Bool, true, not, ◌||◌, ◌&&◌, List, [], ◌∷◌, ℕ, suc, take, eqb, ltb}
+use Rattle.std.specs.Prelude.{Ok, ◌≡◌, Bool, true, not, ◌||◌, ◌&&◌, List, [], ◌∷◌, ℕ, suc, take, eqb, ltb}
 use Rattle.std.proofs.Math.Path.{refl, sym, ap}
 use Rattle.std.proofs.Common.{subst, ◌∙◌, arith}
 use Rattle.std.proofs.Math.Bool.{false, or-true}
@@ -10,7 +10,7 @@ use Rattle.meaning.specs.Numbers.Kind
 use Rattle.meaning.specs.Tree.{one_of, Head, Forest, none, more, count}
 use Rattle.meaning.specs.File.{File, numbers_of, has_children, own_numbers}
 use Rattle.meaning.specs.Grammar.{tags_of, index, allowed, is, declarator_right, right, children_of, place_of, head_of}
-use Rattle.meaning.specs.Reading.{accepted, read_file}
+use Rattle.meaning.specs.Reading.{read_file}
 use Rattle.meaning.specs.declared.Place.{Place}
 use Rattle.meaning.specs.declared.Place.TheVariants.{Program, Name, ForOfLeft, ForOfDeclarator}
 use Rattle.meaning.specs.declared.Field.{Field}
@@ -181,19 +181,19 @@ unfolding Bars allowed tags_of
 program_bars_10 = refl
 
 -- The tree of an accepted file is fit.
-pub accepted_fit : (b : List ℕ) (f : File) → read_file b ≡ accepted f → Fits f.tree
+pub accepted_fit : (b : List ℕ) (f : File) → read_file b ≡ Ok f → Fits f.tree
 accepted_fit b f e = let q = accepted_placed b f e in fits q.0 false f.tree (λ _. Program) 0 (λ _ _. program_bars_10) q.1
 
 -- What the visits of an accepted file are charged is its account from the source; after k visits the figures are those read and the first k
 -- charges.
-pub accepted_dues : (b : List ℕ) (f : File) (k : ℕ) → read_file b ≡ accepted f → dues k (start f) ≡ take k (visit_charges f)
+pub accepted_dues : (b : List ℕ) (f : File) (k : ℕ) → read_file b ≡ Ok f → dues k (start f) ≡ take k (visit_charges f)
 accepted_dues b f k e = dues_are k f (accepted_fit b f e)
 
-pub accepted_charged : (b : List ℕ) (f : File) (k : ℕ) → read_file b ≡ accepted f
+pub accepted_charged : (b : List ℕ) (f : File) (k : ℕ) → read_file b ≡ Ok f
     → figures_at (visits k (start f)) ≡ figures_in f ⊕ total (joined (dues k (start f)))
 accepted_charged b f k e = after k f (accepted_fit b f e)
 
-pub accepted_after : (b : List ℕ) (f : File) (k : ℕ) → read_file b ≡ accepted f
+pub accepted_after : (b : List ℕ) (f : File) (k : ℕ) → read_file b ≡ Ok f
     → figures_at (visits k (start f)) ≡ figures_in f ⊕ total (joined (take k (visit_charges f)))
 accepted_after b f k e =
     accepted_charged b f k e ∙ ap (λ (ls : List (List Line)). figures_in f ⊕ total (joined ls)) (accepted_dues b f k e)

@@ -1,12 +1,12 @@
 -- The walk of an accepted file ends after as many visits as it has charges.
 -- Assumes nothing.
-use Rattle.std.specs.Prelude.{◌≡◌, refl, Bool, true, false, not, ◌&&◌, List, [], ◌∷◌, ◌++◌, ℕ, zero, suc, ◌<◌, length, eqb, leb}
+use Rattle.std.specs.Prelude.{Ok, ◌≡◌, refl, Bool, true, false, not, ◌&&◌, List, [], ◌∷◌, ◌++◌, ℕ, zero, suc, ◌<◌, length, eqb, leb}
 use Rattle.std.proofs.Common.{sym, ap, ◌∙◌, arith}
 use Rattle.std.proofs.Math.Dec.{leb-zero, leb-suc-suc}
 use Rattle.std.proofs.lemmas.Bool.{lt-leb}
 use Rattle.meaning.specs.Tree.{Head, Forest, none}
 use Rattle.meaning.specs.File.{Symbol, File}
-use Rattle.meaning.specs.Reading.{accepted, read_file}
+use Rattle.meaning.specs.Reading.{read_file}
 use Rattle.meaning.specs.Walk.{
   Act,
   keep,
@@ -83,5 +83,5 @@ start_length f =
     ap length (left_settle [] none f.tree (store_of f) ∙ ++-nil xs) ∙ sym (helper_length (eqb f.mode 0) xs)
 
 -- After k visits the walk of an accepted file is over if it has at most k charges, and is not over if it has more.
-pub walk_ends : (b : List ℕ) (f : File) (k : ℕ) → read_file b ≡ accepted f → is_over (visits k (start f)) ≡ leb (length (visit_charges f)) k
+pub walk_ends : (b : List ℕ) (f : File) (k : ℕ) → read_file b ≡ Ok f → is_over (visits k (start f)) ≡ leb (length (visit_charges f)) k
 walk_ends b f k e = ended k (start f) (pending_start f (accepted_fit b f e)) ∙ ap (λ (n : ℕ). leb n k) (start_length f)

@@ -1,6 +1,6 @@
 -- The figures after all visits are the final figures, and no figure is above its final one on the way.
 -- Assumes nothing.
-use Rattle.std.specs.Prelude.{if◌then◌else◌, ◌≡◌, Bool, ◌||◌, ◌&&◌, ℕ, zero, suc, ◌+◌, ◌≤◌, ◌<◌, length, take, eqb}
+use Rattle.std.specs.Prelude.{Ok, if◌then◌else◌, ◌≡◌, Bool, ◌||◌, ◌&&◌, ℕ, zero, suc, ◌+◌, ◌≤◌, ◌<◌, length, take, eqb}
 use Rattle.std.proofs.Math.Path.{refl}
 use Rattle.std.proofs.Common.{sym, ap, ◌∙◌, take_all}
 use Rattle.std.proofs.Math.Bool.{true, false, not}
@@ -8,7 +8,7 @@ use mathlib.Core.List.{List, [], ◌∷◌}
 use native.Mathlib.Omega.{arith}
 use borrow.Author.Tests.{ne_eqb, leb-true}
 use Rattle.meaning.specs.File.{File}
-use Rattle.meaning.specs.Reading.{accepted, read_file}
+use Rattle.meaning.specs.Reading.{read_file}
 use Rattle.meaning.specs.Walk.{is_over, start, visits}
 use Rattle.meaning.specs.Charges.{
   ContextKind,
@@ -170,7 +170,7 @@ linear : (n : ℕ) → Same (line_charge (wrapped (1 + n))) (line_charge (wrappe
 unfolding line_charge
 linear n = omega arith
 
-module _ (b : List ℕ) (f : File) (e : read_file b ≡ accepted f) where
+module _ (b : List ℕ) (f : File) (e : read_file b ≡ Ok f) where
   -- in one figure
   abbrev Equal : (Line → ℕ) → Type 0
   Equal w =
@@ -208,7 +208,7 @@ module _ (b : List ℕ) (f : File) (e : read_file b ≡ accepted f) where
 -- ---- the walk
 
 -- Once the walk of an accepted file is over, it has these figures.
-pub accepted_final : (b : List ℕ) (f : File) (k : ℕ) → read_file b ≡ accepted f → is_over (visits k (start f)) ≡ true
+pub accepted_final : (b : List ℕ) (f : File) (k : ℕ) → read_file b ≡ Ok f → is_over (visits k (start f)) ≡ true
     → figures_at (visits k (start f)) ≡ walk_figures f
 accepted_final b f k e o =
     let all = take_all k (visit_charges f) (leb-true (length (visit_charges f)) k (sym (walk_ends b f k e) ∙ o)) in
@@ -228,7 +228,7 @@ first_most w (suc k) [] = omega arith
 first_most w (suc k) (x ∷ xs) = omega (arith, first_most w k xs)
 
 -- After any number of visits no figure of an accepted file is above its final one.
-pub never_above : (b : List ℕ) (f : File) (k : ℕ) → read_file b ≡ accepted f → AtMost (figures_at (visits k (start f))) (final_figures f)
+pub never_above : (b : List ℕ) (f : File) (k : ℕ) → read_file b ≡ Ok f → AtMost (figures_at (visits k (start f))) (final_figures f)
 unfolding final_figures
 never_above b f k e =
     let xs = visit_charges f in

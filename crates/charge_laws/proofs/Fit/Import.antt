@@ -1,6 +1,6 @@
 -- The import line of an accepted file's walk: when it is due, and what it adds (02, request 1).
 -- Assumes nothing.
-use Rattle.std.specs.Prelude.{if◌then◌else◌, ◌≡◌, refl, Bool, true, false, not, ◌&&◌, ℕ, zero, suc, ◌+◌, ◌≤◌, length, eqb, leb}
+use Rattle.std.specs.Prelude.{Ok, if◌then◌else◌, ◌≡◌, refl, Bool, true, false, not, ◌&&◌, ℕ, zero, suc, ◌+◌, ◌≤◌, length, eqb, leb}
 use Rattle.std.proofs.Math.Path.{ap}
 use Rattle.std.proofs.Common.{◌∙◌, ne_eqb}
 use mathlib.Core.List.{List, [], ◌∷◌, ◌++◌}
@@ -9,7 +9,7 @@ use Rattle.meaning.specs.Numbers.Mode
 use Rattle.meaning.specs.Tree.{Forest, none, more, Node, size, ◌&◌}
 use Rattle.meaning.specs.File.{File, field_bytes, numbers_of}
 use Rattle.meaning.specs.Scoping.{Store}
-use Rattle.meaning.specs.Reading.{accepted, read_file}
+use Rattle.meaning.specs.Reading.{read_file}
 use Rattle.meaning.specs.Walk.{
   enter,
   leave,
@@ -121,7 +121,7 @@ start_helper f =
     (record { mode = refl; is_module = refl; helper = none_yet (eqb f.mode Mode.Runtime); row = λ e. absurd (clash e refl) })
 
 -- THE HELPER after any number of visits of an accepted file's walk.
-pub accepted_helper : (b : List ℕ) (f : File) (k : ℕ) → read_file b ≡ accepted f → HelperIn f (store_at (visits k (start f)))
+pub accepted_helper : (b : List ℕ) (f : File) (k : ℕ) → read_file b ≡ Ok f → HelperIn f (store_at (visits k (start f)))
 accepted_helper b f k e = visits_helper f k (start f) (pending_start f (accepted_fit b f e)) (start_helper f)
 
 -- ---- when the line is due
@@ -174,7 +174,7 @@ completed_adds (leaving k h d r p st) l = omega arith
 
 -- ---- an accepted file
 
-module _ (b : List ℕ) (f : File) (e : read_file b ≡ accepted f) (k : ℕ) where
+module _ (b : List ℕ) (f : File) (e : read_file b ≡ Ok f) (k : ℕ) where
   abbrev spot : Spot
   spot = visits k (start f)
 

@@ -1,12 +1,12 @@
 -- The tree of an accepted file is orderly: Catches stand in a Try, and the body of a ForOf is a statement.
 -- Assumes nothing.
-use Rattle.std.specs.Prelude.{◌≡◌, refl, Bool, true, false, List, [], ◌∷◌, ℕ, suc, eqb}
+use Rattle.std.specs.Prelude.{Ok, ◌≡◌, refl, Bool, true, false, List, [], ◌∷◌, ℕ, suc, eqb}
 use Rattle.std.proofs.Common.{eqb-true}
 use Rattle.meaning.specs.Numbers.Tag
 use Rattle.meaning.specs.Tree.{one_of, Head, Forest, none, more}
 use Rattle.meaning.specs.File.{File}
 use Rattle.meaning.specs.Grammar.{tags_of, allowed, place_of}
-use Rattle.meaning.specs.Reading.{accepted, read_file}
+use Rattle.meaning.specs.Reading.{read_file}
 use Rattle.meaning.specs.Statements.{is_using}
 use Rattle.meaning.specs.declared.Place.{Place}
 use Rattle.meaning.specs.declared.Place.TheVariants.{Program}
@@ -60,7 +60,7 @@ module _ (syms : ℕ) where
       )
 
 -- the tree of an accepted file; its one record is a Program
-pub accepted_orderly : (b : List ℕ) (f : File) → read_file b ≡ accepted f → Orderly f.tree × Lacks Tag.Catch f.tree
+pub accepted_orderly : (b : List ℕ) (f : File) → read_file b ≡ Ok f → Orderly f.tree × Lacks Tag.Catch f.tree
 unfolding Bars allowed tags_of
 accepted_orderly b f e =
     let q = accepted_placed b f e in

@@ -1,11 +1,11 @@
 -- What reading accepts: each record is right at its place, and its children at theirs.
 -- Assumes nothing.
-use Rattle.std.specs.Prelude.{◌≡◌, true, List, ℕ, suc}
+use Rattle.std.specs.Prelude.{Ok, ◌≡◌, true, List, ℕ, suc}
 use Rattle.std.proofs.Common.{ap}
 use Rattle.meaning.specs.Tree.{Head, Forest, none, more, count}
 use Rattle.meaning.specs.File.{File}
 use Rattle.meaning.specs.Grammar.{allowed, field_of, right, children_of, place_of, head_of}
-use Rattle.meaning.specs.Reading.{accepted, read_file}
+use Rattle.meaning.specs.Reading.{read_file}
 use Rattle.meaning.specs.declared.Place.{Place}
 use Rattle.meaning.specs.declared.Place.TheVariants.{Program}
 use Rattle.meaning.specs.declared.Field.{Field}
@@ -42,5 +42,5 @@ placed {f} {at = at} (parsed_more y k r) = (
 )
 
 -- the tree, with so many symbol rows
-pub accepted_placed : (b : List ℕ) (f : File) → read_file b ≡ accepted f → (syms : ℕ) × Placed syms (λ _. Program) 0 f.tree
+pub accepted_placed : (b : List ℕ) (f : File) → read_file b ≡ Ok f → (syms : ℕ) × Placed syms (λ _. Program) 0 f.tree
 accepted_placed b f e = let q = file_parsed b f e in (q.symbol_number_lem, placed q.tree)

@@ -1,12 +1,12 @@
 -- The tree is one Program, all along the walk.
 -- Assumes nothing.
-use Rattle.std.specs.Prelude.{◌≡◌, refl, Bool, true, false, List, [], ◌∷◌, ℕ, zero, suc, eqb}
+use Rattle.std.specs.Prelude.{Ok, ◌≡◌, refl, Bool, true, false, List, [], ◌∷◌, ℕ, zero, suc, eqb}
 use Rattle.std.proofs.Common.{ap, ap₂, ◌∙◌, arith, eqb-true}
 use Rattle.meaning.specs.Numbers.Tag
 use Rattle.meaning.specs.Tree.{Head, hd, Forest, none, more, one, Node, count, ◌&◌}
 use Rattle.meaning.specs.File.{Symbol, File, numbers_of, has_children, own_numbers}
 use Rattle.meaning.specs.Grammar.{tags_of, allowed, right, head_of}
-use Rattle.meaning.specs.Reading.{accepted, read_file}
+use Rattle.meaning.specs.Reading.{read_file}
 use Rattle.meaning.specs.Scoping.{Store}
 use Rattle.meaning.specs.Statements.{any_using}
 use Rattle.meaning.specs.Program.{enter_program}
@@ -150,7 +150,7 @@ root_read syms none n q = absurd (omega arith)
 root_read syms (more h k r) n q = program_read syms q.0 h k q.1
 
 -- THE FIRST RECORD after any number of visits of an accepted file's walk is Program, with scope row 1.
-pub accepted_root : (b : List ℕ) (f : File) (k : ℕ) → read_file b ≡ accepted f → root (tree_at (visits k (start f))) ≡ hd Tag.Program 1 0 0
+pub accepted_root : (b : List ℕ) (f : File) (k : ℕ) → read_file b ≡ Ok f → root (tree_at (visits k (start f))) ≡ hd Tag.Program 1 0 0
 unfolding start plug ◌&◌
 accepted_root b f k e =
     let q = accepted_placed b f e in
@@ -169,7 +169,7 @@ alone none e n = absurd (omega arith)
 alone (more h k r) e n = (k, ap₂ (λ (h : Head) (r : Forest). more h k r) e (no_more r n))
 
 -- and nothing stands beside it.
-pub accepted_program : (b : List ℕ) (f : File) (k : ℕ) → read_file b ≡ accepted f
+pub accepted_program : (b : List ℕ) (f : File) (k : ℕ) → read_file b ≡ Ok f
     → (items : Forest) × (tree_at (visits k (start f)) ≡ one (hd Tag.Program 1 0 0) items)
 unfolding start plug ◌&◌
 accepted_program b f k e =

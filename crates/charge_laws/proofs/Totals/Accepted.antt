@@ -1,13 +1,13 @@
 -- The tree of an accepted file is regular, and not too large for the tally's counters.
 -- Assumes nothing.
-use Rattle.std.specs.Prelude.{◌≡◌, refl, true, false, List, [], ◌∷◌, ℕ, ◌≤◌, min, eqb}
+use Rattle.std.specs.Prelude.{Ok, ◌≡◌, refl, true, false, List, [], ◌∷◌, ℕ, ◌≤◌, min, eqb}
 use Rattle.std.proofs.Common.{◌∙◌, arith, eqb-true}
 use Rattle.std.proofs.Math.Bool.{or-true}
 use Rattle.meaning.specs.Numbers.Tag
 use Rattle.meaning.specs.Tree.{one_of, Head, Forest, size}
 use Rattle.meaning.specs.File.{File, numbers_of, has_children, own_numbers}
 use Rattle.meaning.specs.Grammar.{field_of, right, children_of}
-use Rattle.meaning.specs.Reading.{accepted, read_file}
+use Rattle.meaning.specs.Reading.{read_file}
 use Rattle.meaning.specs.declared.Place.{Place}
 use Rattle.meaning.specs.declared.Field.{Field}
 use Rattle.meaning.specs.Charges.{final_figures}
@@ -78,18 +78,18 @@ pub record Accepted (g : File) : Type 0 where
   pub regular : Regular g.tree
   pub small : size g.tree ≤ 65535
 
-pub accepted_is : (f : List ℕ) (g : File) → read_file f ≡ accepted g → Accepted g
+pub accepted_is : (f : List ℕ) (g : File) → read_file f ≡ Ok g → Accepted g
 accepted_is f g e =
     let q = file_parsed f g e in
     record { regular = regular q.tree; small = omega (arith, q.small, parsed_bytes q.tree, size_bytes g.tree) }
 
 -- its records are counted, and its final figures are those of its tally, which no cap has changed
-pub accepted_records : (f : List ℕ) (g : File) → read_file f ≡ accepted g
+pub accepted_records : (f : List ℕ) (g : File) → read_file f ≡ Ok g
     → (min (cap (tally_of g.symbols (λ _. Plain) 0 g.tree)).records 65535 ≡ size g.tree)
 accepted_records f g e =
     omega (arith, (accepted_is f g e).small, tally_records g.symbols g.tree (λ _. Plain) 0)
 
-pub accepted_figures : (f : List ℕ) (g : File) → read_file f ≡ accepted g
+pub accepted_figures : (f : List ℕ) (g : File) → read_file f ≡ Ok g
     → final_figures g ≡ figures_from g (tally_figures (cap (tally_of g.symbols (λ _. Plain) 0 g.tree)))
 accepted_figures f g e =
     let a = accepted_is f g e in

@@ -1,6 +1,6 @@
 -- The final figures of an accepted file fit 16 bits: what is charged is less than the bytes of the records that it is charged for.
 -- Assumes nothing.
-use Rattle.std.specs.Prelude.{if◌then◌else◌, ◌≡◌, Bool, true, not, ◌||◌, ◌&&◌, List, [], ◌∷◌, ℕ, zero, suc, ◌+◌, ◌*◌, ◌≤◌, length, eqb, leb, ltb}
+use Rattle.std.specs.Prelude.{Ok, if◌then◌else◌, ◌≡◌, Bool, true, not, ◌||◌, ◌&&◌, List, [], ◌∷◌, ℕ, zero, suc, ◌+◌, ◌*◌, ◌≤◌, length, eqb, leb, ltb}
 use Rattle.std.proofs.Math.Path.{refl}
 use Rattle.std.proofs.Common.{◌∙◌, eqb-true, ne_eqb, leb-true}
 use Rattle.std.proofs.Math.Bool.{false}
@@ -11,7 +11,7 @@ use Rattle.meaning.specs.Numbers.Kind
 use Rattle.meaning.specs.Tree.{one_of, Head, Forest, none, more, count}
 use Rattle.meaning.specs.File.{settings_bytes, scope_bytes, symbol_bytes, Symbol, File, numbers_of, has_children, own_numbers, field_bytes}
 use Rattle.meaning.specs.Grammar.{tags_of, is, allowed, field_of, declaration_right, right, children_of, place_of}
-use Rattle.meaning.specs.Reading.{accepted, read_file}
+use Rattle.meaning.specs.Reading.{read_file}
 use Rattle.meaning.specs.declared.Place.{Place}
 use Rattle.meaning.specs.declared.Place.TheVariants.{ForOfLeft}
 use Rattle.meaning.specs.declared.Field.{Field}
@@ -344,7 +344,7 @@ pub record Room (g : File) : Type 0 where
   pub sound : Sound g.tree
   pub bytes : settings_bytes + scope_bytes * length g.scopes + symbol_bytes * length g.symbols + record_bytes g.tree ≤ 65535
 
-pub accepted_room : (f : List ℕ) (g : File) → read_file f ≡ accepted g → Room g
+pub accepted_room : (f : List ℕ) (g : File) → read_file f ≡ Ok g → Room g
 accepted_room f g e =
     let q = file_parsed f g e in
     record {
@@ -377,7 +377,7 @@ import_most true = omega arith
 import_most false = omega arith
 
 -- THE FIT. The final figures of an accepted file fit 16 bits.
-pub accepted_fits : (b : List ℕ) (f : File) → read_file b ≡ accepted f
+pub accepted_fits : (b : List ℕ) (f : File) → read_file b ≡ Ok f
     → ((final_figures f).records ≤ 65535) × ((final_figures f).scopes ≤ 65535) × ((final_figures f).symbols ≤ 65535)
 unfolding tally_figures helper_lines import_lines owed
 accepted_fits b f e =

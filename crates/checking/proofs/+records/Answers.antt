@@ -1,5 +1,7 @@
 -- The cycle of calls: records and lists of children. Assumes nothing.
+use mathlib.Core.Path.{sym, ◌∙◌}
 use native.Mathlib.Nat.{sub-zero}
+use Rattle.spec_laws.specs.Refused.{handed_on}
 use native.Mathlib.Omega.{arith}
 use borrow.Author.Rules.{rules}
 use Rattle.checking.specs.Flat.{children_f}
@@ -16,14 +18,15 @@ check_children-returns-then-levels-eq0 t c =
 pub check_children-loop-k-init : goal.check_children-loop-k-init
 unfolding children_f
 check_children-loop-k-init t c =
-    (search rules, search rules, rw (c.children_of-n.ensures, c.no_tally-t.ensures, sub-zero))
+    (search rules, search rules, rw (c.children_of-n.ensures, c.no_tally.ensures, sub-zero))
 
-pub check_children-returns-in_default : goal.check_children-returns-in_default
-check_children-returns-in_default t c =
-    list_stop _ _ _ _ _ _ _ c.loop-k.invariant.2 _ _ _ _ c.loop-k-test.true
+pub check_children-returns-in_err-done : goal.check_children-returns-in_err-done
+check_children-returns-in_err-done t c =
+    rw (handed_on _ c.from_residual.ensures.1)
+    (list_stop _ _ _ _ _ _ _ c.loop-k.invariant.2 _ c.check_child.new.marks _ c.loop-k-test.true
     (child_level _ _ _ _ _ _ _ _ _ _ _ c.loop-k.invariant.0
-    (rw (← c.place_of-place.ensures, ← c.role_in-role.ensures) c.check_child-a.ensures))
-    c.in_default.is
+    (rw (← c.place_of-place.ensures, ← c.role_in-role.ensures) c.check_child.ensures))
+    c.in_err-done.was)
 
 pub check_children-loop-k-preserved : goal.check_children-loop-k-preserved
 check_children-loop-k-preserved t c = (
@@ -31,8 +34,8 @@ check_children-loop-k-preserved t c = (
   search rules,
   list_step _ _ _ _ _ _ _ c.loop-k.invariant.2 _ _ _ _ c.loop-k-test.true
       (child_level _ _ _ _ _ _ _ _ _ _ _ c.loop-k.invariant.0
-      (rw (← c.place_of-place.ensures, ← c.role_in-role.ensures) c.check_child-a.ensures))
-      c.in-Next.is,
+      (rw (← c.place_of-place.ensures, ← c.role_in-role.ensures) c.check_child.ensures))
+      c.in_ok-done.was,
 )
 
 pub check_children-returns : goal.check_children-returns
@@ -41,45 +44,48 @@ check_children-returns t c =
 
 -- ---- what is left of a record
 
-pub check_entered-returns-in_default : goal.check_entered-returns-in_default
-check_entered-returns-in_default t c =
-    after_stop _ _ _ _ _ _ _ _ _ _ c.check_children-inside.result _
-    (rw (← c.scope_in.ensures, ← c.scope_below-scope.ensures) c.check_children-inside.ensures)
-    _ _ c.in_default.is
+pub check_entered-returns-in_err-kids : goal.check_entered-returns-in_err-kids
+check_entered-returns-in_err-kids t c =
+    rw (handed_on _ c.from_residual.ensures.1)
+    (after_stop _ _ _ _ _ _ _ _ _ _ c.check_children.result c.check_children.new.marks
+    (rw (← c.scope_in.ensures, ← c.scope_below-scope.ensures) c.check_children.ensures)
+    _ c.in_err-kids.was)
 
 pub check_entered-returns : goal.check_entered-returns
 check_entered-returns t c =
-    after_fine _ _ _ _ _ _ _ _ _ _ c.check_children-inside.result _
-    (rw (← c.scope_in.ensures, ← c.scope_below-scope.ensures) c.check_children-inside.ensures)
-    _ _ _ _ c.in-Next.is c.inserts-inserted.ensures c.add_record.ensures
+    after_fine _ _ _ _ _ _ _ _ _ _ c.check_children.result _
+    (rw (← c.scope_in.ensures, ← c.scope_below-scope.ensures) c.check_children.ensures)
+    _ _ _ _ c.in_ok-kids.was c.inserts-inserted.ensures c.add_record.ensures
 
 -- ---- an expression
 
-pub check_expression-overflow_add-next : goal.check_expression-overflow_add-next
-check_expression-overflow_add-next t c =
-    let fits = leaf_inside _ _ _ _ _ _ c.leaf_size-size.ensures c.if-size-ne0.true in
+pub check_expression-overflow_add-result : goal.check_expression-overflow_add-result
+check_expression-overflow_add-result t c =
+    let fits = leaf_inside _ _ _ _ _ _ (sym c.leaf_size.ensures ∙ c.in-Some.is) in
     omega arith
 
-pub check_expression-returns-then-size-ne0 : goal.check_expression-returns-then-size-ne0
-check_expression-returns-then-size-ne0 t c =
-    leaf_fine _ _ _ _ _ _ c.leaf_size-size.ensures c.if-size-ne0.true _ _ _ _ _ _ c.add_leaf.ensures
+pub check_expression-returns-in-Some : goal.check_expression-returns-in-Some
+check_expression-returns-in-Some t c =
+    leaf_fine _ _ _ _ _ _ (sym c.leaf_size.ensures ∙ c.in-Some.is) _ _ _ _ _ _ c.add_leaf.ensures
 
-pub check_expression-returns-in-Whole : goal.check_expression-returns-in-Whole
-check_expression-returns-in-Whole t c =
-    record_entered _ _ _ _ _ _ _ _ _ _ _ _ (rw c.in-Whole.is at c.enter_expression-read.ensures)
+pub check_expression-returns-in_err-x : goal.check_expression-returns-in_err-x
+check_expression-returns-in_err-x t c =
+    rw (handed_on _ c.from_residual.ensures.1)
+    (record_refused _ _ _ _ _ _ _ _ _ _ _ _ _ c.enter_expression.ensures c.in_err-x.was)
+
+pub check_expression-returns : goal.check_expression-returns
+check_expression-returns t c =
+    record_entered _ _ _ _ _ _ _ _ _ _ _ _ (rw c.in_ok-x.was at c.enter_expression.ensures)
     c.check_entered.ensures
-
-pub check_expression-returns-in-Refused : goal.check_expression-returns-in-Refused
-check_expression-returns-in-Refused t c =
-    record_refused _ _ _ _ _ _ _ _ _ _ _ _ _ _ c.enter_expression-read.ensures c.in-Refused.is
 
 -- ---- a statement
 
-pub check_statement-returns-in-Whole : goal.check_statement-returns-in-Whole
-check_statement-returns-in-Whole t c =
-    record_entered _ _ _ _ _ _ _ _ _ _ _ _ (rw c.in-Whole.is at c.enter_record-read.ensures)
-    c.check_entered.ensures
+pub check_statement-returns-in_err-x : goal.check_statement-returns-in_err-x
+check_statement-returns-in_err-x t c =
+    rw (handed_on _ c.from_residual.ensures.1)
+    (record_refused _ _ _ _ _ _ _ _ _ _ _ _ _ c.enter_record.ensures c.in_err-x.was)
 
-pub check_statement-returns-in-Refused : goal.check_statement-returns-in-Refused
-check_statement-returns-in-Refused t c =
-    record_refused _ _ _ _ _ _ _ _ _ _ _ _ _ _ c.enter_record-read.ensures c.in-Refused.is
+pub check_statement-returns : goal.check_statement-returns
+check_statement-returns t c =
+    record_entered _ _ _ _ _ _ _ _ _ _ _ _ (rw c.in_ok-x.was at c.enter_record.ensures)
+    c.check_entered.ensures

@@ -31,7 +31,4 @@ invariant-check_children-loop-k l =
     ≡ list_f
     (λ j s a m.
     record_f l.levels l.file l.rows.scopes l.rows.symbols (place_of l.around l.x j) (ups_f l.file l.role_around l.x j) l.scope.0 s a m)
-    (l.n - l.k) l.k l.t l.at l.marks)
-
-abbrev pub decreases-check_children-loop-k : goal.decreases-check_children-loop-k
-decreases-check_children-loop-k l = l.n - l.k
+    (l.n - l.k) l.k l.done.tally l.done.at l.marks)

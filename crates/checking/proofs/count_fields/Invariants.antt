@@ -10,6 +10,3 @@ abbrev pub invariant-loop-k : goal.invariant-loop-k
 invariant-loop-k l =
     (l.k ≤ l.records) × (l.at ≤ 65535 + 13 * l.k) × (length l.counts ≡ length l.initial.counts)
     × (turns l.records (next_count l.file) (counting l.initial.counts l.tree) ≡ turns (l.records - l.k) (next_count l.file) (counting l.counts l.at))
-
-abbrev pub decreases-loop-k : goal.decreases-loop-k
-decreases-loop-k l = l.records - l.k

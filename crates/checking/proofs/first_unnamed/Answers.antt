@@ -1,5 +1,8 @@
 -- `checking::first_unnamed` meets its contract. Assumes nothing.
+use mathlib.Core.Path.{◌≡◌}
 use native.Mathlib.Nat.{zero-add}
+use native.Mathlib.Omega.{arith}
+use lib.ListN.{length}
 use borrow.Author.Rules.{rules}
 use Rattle.checking.proofs.Laws.{unnamed_here, unnamed_step, unnamed_end}
 use Rattle.checking.proofs.first_unnamed.Goals as goal
@@ -17,4 +20,5 @@ loop-i-preserved c =
 
 pub returns : goal.returns
 returns c =
-    unnamed_end _ _ _ c.loop-i.invariant.1 c.loop-i-test.false
+    let all : c.loop-i.i ≡ length c.args.marks.now = omega (arith, c.loop-i.invariant.0, c.loop-i-test.false) in
+    rw all at (unnamed_end _ _ _ c.loop-i.invariant.1 c.loop-i-test.false)

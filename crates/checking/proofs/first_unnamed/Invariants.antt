@@ -8,6 +8,3 @@ use Rattle.checking.proofs.first_unnamed.Given as goal
 abbrev pub invariant-loop-i : goal.invariant-loop-i
 invariant-loop-i l =
     (l.i ≤ length l.marks) × (unnamed l.marks ≡ l.i + unnamed (drop l.i l.marks))
-
-abbrev pub decreases-loop-i : goal.decreases-loop-i
-decreases-loop-i l = length l.marks - l.i

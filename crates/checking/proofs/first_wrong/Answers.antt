@@ -1,4 +1,7 @@
 -- `checking::first_wrong` meets its contract. Assumes nothing.
+use mathlib.Core.Path.{◌≡◌}
+use native.Mathlib.Omega.{arith}
+use lib.ListN.{length}
 use borrow.Author.Rules.{rules}
 use Rattle.checking.proofs.Counts.{wrong_first, wrong_here, wrong_step, wrong_end}
 use Rattle.checking.proofs.first_wrong.Goals as goal
@@ -17,4 +20,6 @@ loop-k-preserved c = (
 )
 
 pub returns : goal.returns
-returns c = wrong_end _ _ _ _ _ c.loop-k.invariant.1 c.loop-k-test.false
+returns c =
+    let all : c.loop-k.k ≡ length c.args.counts.now = omega (arith, c.loop-k.invariant.0, c.loop-k-test.false) in
+    rw all at (wrong_end _ _ _ _ _ c.loop-k.invariant.1 c.loop-k-test.false)

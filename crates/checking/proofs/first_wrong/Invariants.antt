@@ -9,6 +9,3 @@ use Rattle.checking.proofs.first_wrong.Given as goal
 abbrev pub invariant-loop-k : goal.invariant-loop-k
 invariant-loop-k l =
     (l.k ≤ length l.counts) × (wrong_in l.file l.counts l.first ≡ l.k + wrong_from l.file l.counts l.first l.k)
-
-abbrev pub decreases-loop-k : goal.decreases-loop-k
-decreases-loop-k l = length l.counts - l.k

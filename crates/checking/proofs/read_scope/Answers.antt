@@ -1,18 +1,18 @@
 -- `checking::read_scope` meets its contract. Assumes nothing.
+use Rattle.spec_laws.specs.Refused.{handed_on}
 use Rattle.meaning.specs.Reading.{scope_at}
 use Rattle.checking.proofs.read_scope.Goals as goal
 
-pub returns-in_default : goal.returns-in_default
+pub returns-in_err-x : goal.returns-in_err-x
 unfolding scope_at
-returns-in_default c =
-    rw (← c.read_field-read.ensures, c.in_default.is)
+returns-in_err-x c = rw (handed_on _ c.from_residual.ensures.1, ← c.read_field.ensures, c.in_err-x.was)
 
 pub returns-then-not-scope_right : goal.returns-then-not-scope_right
 unfolding scope_at
 returns-then-not-scope_right c =
     rw (
-      ← c.read_field-read.ensures,
-      c.in-Whole.is,
+      ← c.read_field.ensures,
+      c.in_ok-x.was,
       ← c.scope_right.ensures,
       c.if-not-scope_right.true,
     )
@@ -21,8 +21,8 @@ pub returns : goal.returns
 unfolding scope_at
 returns c =
     rw (
-      ← c.read_field-read.ensures,
-      c.in-Whole.is,
+      ← c.read_field.ensures,
+      c.in_ok-x.was,
       ← c.scope_right.ensures,
       c.if-not-scope_right.false,
     )

@@ -12,6 +12,3 @@ invariant-loop-k l =
     (l.k ≤ most_rows)
     × (read_scopes l.file l.from
     ≡ read_rows (λ k at. eqb k 0 || eqb (get_or l.file at 0) 41) (scope_at l.file) (most_rows - l.k) l.k l.at)
-
-abbrev pub decreases-loop-k : goal.decreases-loop-k
-decreases-loop-k l = most_rows - l.k

@@ -11,6 +11,3 @@ invariant-loop-k l =
     (l.k ≤ most_symbols)
     × (read_symbols l.file l.scopes l.from
     ≡ read_rows (λ k at. eqb (get_or l.file at 0) 42) (λ k at. symbol_at l.file l.scopes at) (most_symbols - l.k) l.k l.at)
-
-abbrev pub decreases-loop-k : goal.decreases-loop-k
-decreases-loop-k l = most_symbols - l.k

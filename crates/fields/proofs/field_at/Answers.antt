@@ -8,16 +8,9 @@ use Rattle.meaning.specs.Grammar.{field_at, field_of}
 use Rattle.fields.specs.Lengths.{half}
 use Rattle.fields.proofs.field_at.Goals as goal
 
-pub returns-then-file-at : goal.returns-then-file-at
+pub returns-then-left-lt-HEAD_BYTES : goal.returns-then-left-lt-HEAD_BYTES
 unfolding field_at
-returns-then-file-at c =
-    let file = c.args.file.now in
-    let at = c.args.at in
-    rw (lt-ltb (length file) (at + 3) (omega arith))
-
-pub returns-then-file-at-lt-HEAD_BYTES : goal.returns-then-file-at-lt-HEAD_BYTES
-unfolding field_at
-returns-then-file-at-lt-HEAD_BYTES c =
+returns-then-left-lt-HEAD_BYTES c =
     let file = c.args.file.now in
     let at = c.args.at in
     rw (lt-ltb (length file) (at + 3) (omega arith))
@@ -49,9 +42,9 @@ returns-then-two_at-length c =
       ne_eqb _ _ c.if-two_at-length.true,
     )
 
-pub returns-then-file-at-2 : goal.returns-then-file-at-2
+pub returns-then-left-length : goal.returns-then-left-length
 unfolding field_at field_bytes
-returns-then-file-at-2 c =
+returns-then-left-length c =
     let file = c.args.file.now in
     let at = c.args.at in
     rw (

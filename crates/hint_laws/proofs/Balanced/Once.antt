@@ -1,6 +1,6 @@
 -- A Program is lowered at the first visit only, so its items are those read: no charge for another is left behind that visit.
 -- Assumes nothing.
-use Rattle.std.specs.Prelude.{if◌then◌else◌, ◌≡◌, refl, Bool, true, false, List, [], ◌∷◌, ◌++◌, ℕ, zero, suc, length, eqb}
+use Rattle.std.specs.Prelude.{Ok, if◌then◌else◌, ◌≡◌, refl, Bool, true, false, List, [], ◌∷◌, ◌++◌, ℕ, zero, suc, length, eqb}
 use Rattle.std.proofs.Common.{ap, ◌∙◌, arith, eqb-true, eq-eqb}
 use Rattle.meaning.specs.Numbers.Tag
 use Rattle.meaning.specs.Tree.{one_of, Head, Forest, none, more, count, ◌&◌}
@@ -8,7 +8,7 @@ use Rattle.meaning.specs.File.{File, Symbol}
 use Rattle.meaning.specs.Grammar.{tags_of, allowed}
 use Rattle.meaning.specs.declared.Place.TheVariants.{Program}
 use Rattle.meaning.specs.Scoping.{Store}
-use Rattle.meaning.specs.Reading.{accepted, read_file}
+use Rattle.meaning.specs.Reading.{read_file}
 use Rattle.meaning.specs.Statements.{any_using}
 use Rattle.meaning.specs.Contexts.{any_case_using}
 use Rattle.meaning.specs.Program.{ItemAct, stay, move, lower_class, lower_declaration, export_declaration, export_class, export_default_class, export_default_value, item_act}
@@ -234,7 +234,7 @@ one_program syms (more h k none) p n l =
     (e, (l.1 (eq-eqb h.tag Tag.Program e)).0, refl)
 
 -- AT EVERY SPOT of the walk of an accepted file, the items of a Program that is lowered call nothing through a context that lowering made.
-pub visits_source : (b : List ℕ) (f : File) (k : ℕ) → read_file b ≡ accepted f → SourceAt (length f.symbols) (visits k (start f))
+pub visits_source : (b : List ℕ) (f : File) (k : ℕ) → read_file b ≡ Ok f → SourceAt (length f.symbols) (visits k (start f))
 unfolding visits start store_of programs
 visits_source b f zero e = first_source (length f.symbols) f.tree (store_of f) (accepted_old b f e)
 visits_source b f (suc k) e =

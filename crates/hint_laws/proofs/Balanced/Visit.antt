@@ -1,13 +1,12 @@
 -- Each visit keeps what a tree gives and still asks for.
 -- Assumes nothing.
-use Rattle.std.specs.Prelude.{◌≡◌, List, [], ◌∷◌, ℕ, zero, suc, ◌≤◌, length}
+use Rattle.std.specs.Prelude.{Ok, ◌≡◌, List, [], ◌∷◌, ℕ, zero, suc, ◌≤◌, length}
 use Rattle.std.proofs.Math.Path.{refl, ap}
 use Rattle.std.proofs.Common.{sym, ◌∙◌, arith}
 use borrow.Author.Tests.{lt-ltb}
 use Rattle.meaning.specs.Tree.{Head, Forest, none, more, one, Node, count, ◌&◌}
-use Rattle.meaning.specs.File.{File}
 use Rattle.meaning.specs.Scoping.{Store}
-use Rattle.meaning.specs.Reading.{accepted, read_file}
+use Rattle.meaning.specs.Reading.{read_file}
 use Rattle.meaning.specs.Walk.{
   enter,
   leave,
@@ -33,7 +32,7 @@ use Rattle.charge_laws.proofs.Counts.Visits.{&-assoc}
 use Rattle.charge_laws.proofs.Counts.Figures.{settled}
 use Rattle.charge_laws.proofs.Counts.Pending.{Pending, spot_fits}
 use Rattle.charge_laws.proofs.Fit.Accepted.{accepted_fit, accepted_after}
-use Rattle.meaning.specs.File.{numbers_of, has_children, own_numbers, record_numbers}
+use Rattle.meaning.specs.File.{File, numbers_of, has_children, own_numbers, record_numbers}
 use Rattle.meaning.specs.Renumbering.{with_scope}
 use Rattle.hint_laws.specs.Hints.{shown, as_in_source, of_source}
 use Rattle.hint_laws.proofs.Outline.{same_&}
@@ -91,12 +90,12 @@ visit_balance w read s src q new = kept_at (of_source read w) read (unseen_read 
 -- ---- all visits
 
 -- rows are only added
-symbols_grow : (b : List ℕ) (f : File) (k : ℕ) → read_file b ≡ accepted f → length f.symbols ≤ length (store_at (visits k (start f))).symbols
+symbols_grow : (b : List ℕ) (f : File) (k : ℕ) → read_file b ≡ Ok f → length f.symbols ≤ length (store_at (visits k (start f))).symbols
 unfolding figures_at figures_in file_at
 symbols_grow b f k e = omega (arith, ap (λ (x : Figures). x.symbols) (accepted_after b f k e))
 
 -- SO THE WALK OF AN ACCEPTED FILE KEEPS WHAT ITS TREE ASKS FOR AND GIVES.
-pub visits_balance : (w : List ℕ → List ℕ → ℕ → ℕ) (b : List ℕ) (f : File) (k : ℕ) → read_file b ≡ accepted f
+pub visits_balance : (w : List ℕ → List ℕ → ℕ → ℕ) (b : List ℕ) (f : File) (k : ℕ) → read_file b ≡ Ok f
     → balance w (length f.symbols) (tree_at (visits k (start f))) ≡ balance w (length f.symbols) f.tree
 unfolding visits start plug ◌&◌
 visits_balance w b f zero e = ap (balance w (length f.symbols)) (settled [] none f.tree (store_of f)).0

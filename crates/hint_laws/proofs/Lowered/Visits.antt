@@ -1,9 +1,9 @@
 -- When the walk is over, no using is left that should have been taken up.
 -- Assumes nothing.
-use Rattle.std.specs.Prelude.{◌≡◌, refl, true, List, [], ◌∷◌, ℕ, zero, suc}
+use Rattle.std.specs.Prelude.{Ok, ◌≡◌, refl, true, List, [], ◌∷◌, ℕ, zero, suc}
 use Rattle.meaning.specs.Tree.{Forest, none, more, one, ◌&◌}
 use Rattle.meaning.specs.File.{File}
-use Rattle.meaning.specs.Reading.{accepted, read_file}
+use Rattle.meaning.specs.Reading.{read_file}
 use Rattle.meaning.specs.Statements.{is_using, any_using}
 use Rattle.meaning.specs.Shapes.{import_helper}
 use Rattle.meaning.specs.Walk.{
@@ -57,7 +57,7 @@ quiet_visits zero s w q = q
 quiet_visits (suc k) s w q = quiet_visits k (visit s) (pending_visit s w) (quiet_visit s w q)
 
 -- At every spot of the walk of an accepted file, what is done is quiet, and so is each open record but a StaticBlock.
-pub visits_quiet : (k : ℕ) (b : List ℕ) (f : File) → read_file b ≡ accepted f → QuietAt (visits k (start f))
+pub visits_quiet : (k : ℕ) (b : List ℕ) (f : File) → read_file b ≡ Ok f → QuietAt (visits k (start f))
 unfolding start AllQuiet QuietPath
 visits_quiet k b f e = quiet_visits k (start f) (pending_start f (accepted_fit b f e)) (quiet_settle [] none f.tree (store_of f) tt tt)
 
@@ -70,7 +70,7 @@ over_at (at d h k r p st) o q = absurd (clash refl o)
 over_at (leaving k h d r p st) o q = absurd (clash refl o)
 
 -- So the lowered tree is quiet: no using is left that is to be taken up.
-pub over_quiet : (b : List ℕ) (f : File) (k : ℕ) → read_file b ≡ accepted f → is_over (visits k (start f)) ≡ true
+pub over_quiet : (b : List ℕ) (f : File) (k : ℕ) → read_file b ≡ Ok f → is_over (visits k (start f)) ≡ true
     → AllQuiet (tree_at (visits k (start f)))
 over_quiet b f k e o = over_at (visits k (start f)) o (visits_quiet k b f e)
 
@@ -84,7 +84,7 @@ unfolding with_import AllQuiet Quiet any_using is_using ◌&◌
 import_quiet y none q = tt
 import_quiet y (more h k r) q = ((q.0.0, (λ e. first_held _ _ k refl)), line_quiet y k q.1, q.2)
 
-pub completed_quiet : (b : List ℕ) (f : File) (k : ℕ) → read_file b ≡ accepted f → is_over (visits k (start f)) ≡ true
+pub completed_quiet : (b : List ℕ) (f : File) (k : ℕ) → read_file b ≡ Ok f → is_over (visits k (start f)) ≡ true
     → AllQuiet (tree_at (completed (visits k (start f))))
 completed_quiet b f k e o =
     let q = over_quiet b f k e o in

@@ -1,6 +1,6 @@
 -- An accepted file asks by the kinds of its usings, reads its own rows, and calls nothing through a context that lowering made.
 -- Assumes nothing.
-use Rattle.std.specs.Prelude.{if◌then◌else◌, ◌≡◌, Bool, ◌||◌, ◌&&◌, length, leb, ltb}
+use Rattle.std.specs.Prelude.{Ok, if◌then◌else◌, ◌≡◌, Bool, ◌||◌, ◌&&◌, length, leb, ltb}
 use Rattle.std.proofs.Math.Path.{refl, ap}
 use Rattle.std.proofs.Math.Bool.{true, false}
 use mathlib.Core.List.{List, [], ◌∷◌, ◌++◌}
@@ -12,7 +12,7 @@ use Rattle.meaning.specs.Numbers.Tag
 use Rattle.meaning.specs.Tree.{Head, hd, Forest, none, more, one, count}
 use Rattle.meaning.specs.File.{File, numbers_of, has_children, own_numbers, record_numbers}
 use Rattle.meaning.specs.Renumbering.{with_scope}
-use Rattle.meaning.specs.Reading.{accepted, read_file}
+use Rattle.meaning.specs.Reading.{read_file}
 use Rattle.meaning.specs.Hint.{sync_dispose, async_dispose, hint_of, letter_of}
 use Rattle.meaning.specs.Statements.{is_using, is_await_using, letter_if}
 use Rattle.spec_laws.specs.Tags.{Seen, other, here, there, seen, and_left}
@@ -70,7 +70,7 @@ either_letter true n g p u = refl
 either_letter false n g p u = kind_letter n g p u
 
 -- The letter with which a using will be called is that of its hint.
-pub asked_by_kind : (w : List ℕ → List ℕ → ℕ → ℕ) (b : List ℕ) (f : File) → read_file b ≡ accepted f
+pub asked_by_kind : (w : List ℕ → List ℕ → ℕ → ℕ) (b : List ℕ) (f : File) → read_file b ≡ Ok f
     → sum_over (λ h k. asks_for w (λ g. if eqb h.tag Tag.Program then letter_for g else letter_if (is_await_using g)) h k) f.tree
     ≡ asked w f.tree
 unfolding asked
@@ -129,7 +129,7 @@ module _ (n : ℕ) (w : List ℕ → List ℕ → ℕ → ℕ) where
   for_of_same (more h₁ (more d kids s) (more h₂ k₂ (more h₃ k₃ r))) = refl
 
 -- No initializer of the source reads a symbol that lowering makes.
-pub asked_of_source : (w : List ℕ → List ℕ → ℕ → ℕ) (b : List ℕ) (f : File) → read_file b ≡ accepted f
+pub asked_of_source : (w : List ℕ → List ℕ → ℕ → ℕ) (b : List ℕ) (f : File) → read_file b ≡ Ok f
     → asked (of_source (length f.symbols) w) f.tree ≡ asked w f.tree
 unfolding asked
 asked_of_source w b f e =
@@ -152,7 +152,7 @@ abbrev pub OldCalls : ℕ → Forest → Type 0
 OldCalls read f = Everywhere (OldCall read) f
 
 -- No Call of an accepted file has a context that lowering made.
-pub accepted_old : (b : List ℕ) (f : File) → read_file b ≡ accepted f → OldCalls (length f.symbols) f.tree
+pub accepted_old : (b : List ℕ) (f : File) → read_file b ≡ Ok f → OldCalls (length f.symbols) f.tree
 accepted_old b f e =
     let n = length f.symbols in
     everywhere (Known n) (OldCall n) (λ h k. k.context) f.tree (accepted_known b f e)

@@ -1,12 +1,12 @@
 -- The symbols that the Reads and Calls of an accepted file have are rows of it, and its Declarations are not recorded.
 -- Assumes nothing.
-use Rattle.std.specs.Prelude.{◌≡◌, true, ◌&&◌, List, [], ◌∷◌, ℕ, length, eqb, leb}
+use Rattle.std.specs.Prelude.{Ok, ◌≡◌, true, ◌&&◌, List, [], ◌∷◌, ℕ, length, eqb, leb}
 use Rattle.std.proofs.Math.Path.{refl}
 use Rattle.meaning.specs.Numbers.Tag
 use Rattle.meaning.specs.Tree.{Head, Forest}
 use Rattle.meaning.specs.File.{File, numbers_of, has_children, own_numbers}
 use Rattle.meaning.specs.Grammar.{field_of, is_row, right, head_of}
-use Rattle.meaning.specs.Reading.{accepted, read_file}
+use Rattle.meaning.specs.Reading.{read_file}
 use Rattle.meaning.specs.declared.Place.{Place}
 use Rattle.meaning.specs.declared.Field.{Field}
 use Rattle.spec_laws.specs.Tags.{Seen, other, here, there, seen, clash, and_left, and_right}
@@ -64,5 +64,5 @@ all_known {f} {syms} {place} {i} {at = at} (parsed_more y k r) = (
 )
 
 -- the tree, with the file's symbol rows
-pub accepted_known : (b : List ℕ) (f : File) → read_file b ≡ accepted f → Everywhere (Known (length f.symbols)) f.tree
+pub accepted_known : (b : List ℕ) (f : File) → read_file b ≡ Ok f → Everywhere (Known (length f.symbols)) f.tree
 accepted_known b f e = let q = file_parsed b f e in rw q.symbols_many (all_known q.tree)

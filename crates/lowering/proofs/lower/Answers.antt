@@ -1,16 +1,17 @@
 -- `lowering::lower` meets its contract. Assumes nothing.
 use native.Mathlib.Omega.{arith}
+use Rattle.spec_laws.specs.Refused.{handed_on}
 use Rattle.lowering.specs.Flat.{lower_by}
 use Rattle.lowering.specs.Law.{lower_is}
 use Rattle.lowering.proofs.lower.Goals as goal
 
-pub returns-in-Fine : goal.returns-in-Fine
+pub returns : goal.returns
 unfolding lower_by
-returns-in-Fine c =
+returns c =
     rw (
       ← lower_is _ _ _ _ _ (λ i. omega (arith, c.shared_slice_known-1.given i)) _ c.admit_output.ensures,
-      c.in-Fine.is,
-      ← c.capped-rows.ensures,
+      c.in_ok-admitted.was,
+      ← c.min-rows.ensures,
       ← c.fill-first.ensures,
       ← c.run-last.ensures,
       c.finish.ensures.records,
@@ -25,10 +26,11 @@ returns-in-Fine c =
       c.fill-first.auto.symbols,
     )
 
-pub returns-in-Refused : goal.returns-in-Refused
+pub returns-in_err-admitted : goal.returns-in_err-admitted
 unfolding lower_by
-returns-in-Refused c =
+returns-in_err-admitted c =
     rw (
+      handed_on _ c.from_residual.ensures.1,
       ← lower_is _ _ _ _ _ (λ i. omega (arith, c.shared_slice_known-1.given i)) _ c.admit_output.ensures,
-      c.in-Refused.is,
+      c.in_err-admitted.was,
     )

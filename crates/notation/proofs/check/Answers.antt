@@ -1,8 +1,8 @@
 -- `notation::check` meets its contract. Assumes nothing.
-use mathlib.Core.Path.{sym, ◌∙◌}
+use mathlib.Core.Path.{◌≡◌, sym, ◌∙◌}
+use lib.ListN.{length}
 use native.Mathlib.Omega.{arith}
 use borrow.Author.Tests.{le-leb, lt-leb}
-use borrow.Author.Rules.{rules}
 use Rattle.notation.specs.Notation.{spelled}
 use Rattle.notation.specs.Turns.{at_first, spelled_first, reached_more, spelled_more, spelled_wrong, spelled_end}
 use Rattle.notation.proofs.check.Goals as goal
@@ -11,33 +11,33 @@ pub returns-then-text-gt-MOST : goal.returns-then-text-gt-MOST
 unfolding spelled
 returns-then-text-gt-MOST c = rw (lt-leb _ _ c.if-text-gt-MOST.true)
 
-pub loop-i-init : goal.loop-i-init
-loop-i-init c = rw c.fresh-s.ensures (omega arith, omega arith, at_first _, spelled_first _)
+pub loop-place-init : goal.loop-place-init
+loop-place-init c = rw c.fresh-s.ensures (omega arith, at_first _, spelled_first _)
 
 pub returns-then-not-may_stand : goal.returns-then-not-may_stand
 unfolding spelled
 returns-then-not-may_stand c =
-    let wrong = sym (c.may_stand.ensures _ c.loop-i.invariant.2) ∙ c.if-not-may_stand.true in
-    rw (le-leb _ _ c.if-text-gt-MOST.false, c.loop-i.invariant.3) (sym (spelled_wrong _ _ c.loop-i-test.true wrong))
+    let wrong = sym (c.may_stand.ensures _ c.loop-place.invariant.1) ∙ c.if-not-may_stand.true in
+    rw (le-leb _ _ c.if-text-gt-MOST.false, c.loop-place.invariant.2) (sym (spelled_wrong _ _ c.loop-place-test.true wrong))
 
-pub loop-i-preserved : goal.loop-i-preserved
-loop-i-preserved c =
-    let inside = c.loop-i-test.true in
-    let right = sym (c.may_stand.ensures _ c.loop-i.invariant.2) ∙ c.if-not-may_stand.false in (
-      search rules,
+pub loop-place-preserved : goal.loop-place-preserved
+loop-place-preserved c =
+    let inside = c.loop-place-test.true in
+    let right = sym (c.may_stand.ensures _ c.loop-place.invariant.1) ∙ c.if-not-may_stand.false in (
       omega (arith, c.next-s.ensures.count_bound),
-      rw (reached_more _ _ inside) (c.next-s.ensures.reads _ c.loop-i.invariant.2),
-      c.loop-i.invariant.3 ∙ spelled_more _ _ inside right,
+      rw (reached_more _ _ inside) (c.next-s.ensures.reads _ c.loop-place.invariant.1),
+      c.loop-place.invariant.2 ∙ spelled_more _ _ inside right,
     )
 
-pub returns-then-not-may_stand-2 : goal.returns-then-not-may_stand-2
+pub returns-then-may_stand : goal.returns-then-may_stand
 unfolding spelled
-returns-then-not-may_stand-2 c =
-    let wrong = sym (c.may_stand-2.ensures _ c.loop-i.invariant.2) ∙ c.if-not-may_stand-2.true in
-    rw (le-leb _ _ c.if-text-gt-MOST.false, c.loop-i.invariant.3, spelled_end _ _ c.loop-i-test.false, wrong)
+returns-then-may_stand c =
+    let right = sym (c.may_stand-2.ensures _ c.loop-place.invariant.1) ∙ c.if-may_stand.true in
+    rw (le-leb _ _ c.if-text-gt-MOST.false, c.loop-place.invariant.2, spelled_end _ _ c.loop-place-test.false, right)
 
-pub returns : goal.returns
+pub returns-else-may_stand : goal.returns-else-may_stand
 unfolding spelled
-returns c =
-    let right = sym (c.may_stand-2.ensures _ c.loop-i.invariant.2) ∙ c.if-not-may_stand-2.false in
-    rw (le-leb _ _ c.if-text-gt-MOST.false, c.loop-i.invariant.3, spelled_end _ _ c.loop-i-test.false, right)
+returns-else-may_stand c =
+    let wrong = sym (c.may_stand-2.ensures _ c.loop-place.invariant.1) ∙ c.if-may_stand.false in
+    let all : c.loop-place.place ≡ length c.args.text.now = omega arith in
+    rw (le-leb _ _ c.if-text-gt-MOST.false, c.loop-place.invariant.2, spelled_end _ _ c.loop-place-test.false, wrong, all)

@@ -3,10 +3,9 @@ use native.Mathlib.Omega.{arith}
 use Rattle.notation.specs.Spots.{reads_same, reads_number}
 use Rattle.notation.proofs.end_number.Goals as goal
 
-pub returns-then-s : goal.returns-then-s
-returns-then-s c =
-    rw c.fresh.ensures record { reads = λ p h. reads_number p _ h c.if-s.true; count_bound = omega arith }
+pub returns-in-Some : goal.returns-in-Some
+returns-in-Some c =
+    rw c.fresh.ensures record { reads = λ p h. reads_number p _ h _ c.in-Some.is; count_bound = omega arith }
 
-pub returns : goal.returns
-returns c =
-    rw c.fresh-2.ensures record { reads = λ p h. reads_same p _ h c.if-s.false; count_bound = omega arith }
+pub returns-in-None : goal.returns-in-None
+returns-in-None c = record { reads = λ p h. reads_same p _ h c.in-None.is; count_bound = omega arith }

@@ -6,4 +6,4 @@ use Rattle.notation.proofs.put_byte.Goals as goal
 
 pub returns : goal.returns
 unfolding shown_byte
-returns c = record { put = put_both _ _ _ _ _ _ _ _ c.put_decimal-end.ensures.put (put_one _ _ _ _ c.put.ensures); upper_bound = search rules }
+returns c = record { put = rw (← c.from.ensures) (put_both _ _ _ _ _ _ _ _ c.put_decimal-end.ensures.put (put_one _ _ _ _ c.put.ensures)); upper_bound = search rules }

@@ -9,8 +9,5 @@ use Rattle.notation.proofs.put_numbers.Given as goal
 
 abbrev pub invariant-loop-i : goal.invariant-loop-i
 invariant-loop-i l =
-    (l.i ≤ length l.bytes) × (length l.text ≡ length l.initial.text) × (l.end + 3 * (length l.bytes - l.i) ≤ l.at + 3 * length l.bytes)
-    × Left l.initial.text l.at (shown_numbers colon (numbers_in l.bytes)) l.text l.end (shown_numbers l.before (numbers_in (drop l.i l.bytes)))
-
-abbrev pub decreases-loop-i : goal.decreases-loop-i
-decreases-loop-i l = length l.bytes - l.i
+    (length l.text ≡ length l.initial.text) × (l.end + 3 * (length l.bytes - 2 * l.i) ≤ l.at + 3 * length l.bytes)
+    × Left l.initial.text l.at (shown_numbers colon (numbers_in l.bytes)) l.text l.end (shown_numbers l.before (numbers_in (drop (2 * l.i) l.bytes)))

@@ -1,13 +1,13 @@
 -- The Loads in the written bytes are those in the bytes read, and one for each context.
 -- Assumes nothing.
-use Rattle.std.specs.Prelude.{◌≡◌, refl, false, List, [], ◌∷◌, ℕ, zero, suc, ◌+◌, ◌*◌}
+use Rattle.std.specs.Prelude.{Ok, ◌≡◌, refl, false, List, [], ◌∷◌, ℕ, zero, suc, ◌+◌, ◌*◌}
 use Rattle.std.proofs.Common.{ap, arith}
 use Rattle.meaning.specs.Numbers.Tag
 use Rattle.meaning.specs.Tree.{Forest, none, more, single, flatten, ◌&◌}
 use Rattle.meaning.specs.Mentions.{mentions}
 use Rattle.meaning.specs.File.{File, written}
 use Rattle.meaning.specs.Scoping.{Store}
-use Rattle.meaning.specs.Reading.{accepted, read_file}
+use Rattle.meaning.specs.Reading.{read_file}
 use Rattle.meaning.specs.Walk.{enter, leave, Crumb, crumb, Spot, at, leaving, over, current_scope, hoist_scope, settle, visit, visits, store_of, start, plug, tree_at, store_at}
 use Rattle.meaning.specs.ImportLine.{with_import, completed}
 use Rattle.meaning.specs.Charges.{Figures, final_figures}
@@ -89,7 +89,7 @@ import_loads y (more h k r) = omega arith
 completed_loads : (s : Spot) → loads (tree_at (completed s)) ≡ loads (tree_at s)
 completed_loads s = completed_keeps (λ (t : Forest). loads t ≡ loads (tree_at s)) s refl (import_loads (store_at s).helper (tree_at s))
 
-pub final_loads : (bytes : List ℕ) (f : File) → read_file bytes ≡ accepted f
+pub final_loads : (bytes : List ℕ) (f : File) → read_file bytes ≡ Ok f
     → loads (tree_at (final_spot f)) ≡ loads f.tree + (final_figures f).contexts
 unfolding final_spot
 final_loads bytes f e =

@@ -9,6 +9,3 @@ abbrev pub invariant-loop-k : goal.invariant-loop-k
 invariant-loop-k l =
     (l.named ≤ l.k) × (length l.numbers ≡ length l.initial.numbers)
     × (numbers_f 1 (named_in l.records 0 l.count) l.initial.numbers ≡ numbers_f (l.named + 1) (named_in l.records l.k (l.count - l.k)) l.numbers)
-
-abbrev pub decreases-loop-k : goal.decreases-loop-k
-decreases-loop-k l = l.count - l.k

@@ -109,7 +109,6 @@ module _ (from to : ℕ) (z : List ℕ) (st : Store) (xs ys : List Symbol) (y : 
   flags_are = ap (λ (r : Symbol). r.flags) row_is
 
   next_is : capped i 1 ≡ suc i
-  unfolding capped
   next_is = omega (arith, ap length cut, length-append xs (y ∷ ys))
 
   moves_is : moves_f (symbols_held st z) from i ≡ moves ys from (suc i) y

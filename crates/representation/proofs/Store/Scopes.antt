@@ -119,7 +119,7 @@ inserted_number st s flags =
 module _ (st : Store) (flags : ℕ) (room : suc (length st.scopes) ≤ 65535) (small : flags ≤ 65534) where
   pub child_scope_made : (parent p q : ℕ) (z : List ℕ)
       → create_child_scope_f (scopes_held st (p ∷ q ∷ z)) parent flags ≡ scopes_held (create_child_scope parent flags st).1 z
-  unfolding create_child_scope_f create_child_scope with_scope capped
+  unfolding create_child_scope_f create_child_scope with_scope
   child_scope_made parent p q z =
       let ss = st.scopes in
       let new = scope_row parent (flags + (scope_in st parent).flags % 2) in

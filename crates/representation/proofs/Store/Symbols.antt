@@ -126,7 +126,7 @@ pub symbol_made : (st : Store) (name flags scope made p q r u : ℕ) (z : List �
     → suc (length st.symbols) ≤ 65535 → length st.as_read ≤ length st.symbols
     → create_symbol_f (symbols_held st (p ∷ q ∷ r ∷ u ∷ 0 ∷ z)) name flags scope made
     ≡ symbols_held (create_symbol name flags scope made st).1 z
-unfolding create_symbol_f create_symbol with_symbol capped
+unfolding create_symbol_f create_symbol with_symbol
 symbol_made st name flags scope made p q r u z room longer =
     let ys = st.symbols in
     let new = symbol_row name flags scope made in

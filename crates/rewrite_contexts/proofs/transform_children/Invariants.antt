@@ -1,16 +1,11 @@
 -- `rewrite_contexts::transform_children` meets its contract. Assumes nothing.
 use mathlib.Core.Path.{◌≡◌}
-use Prim.Native.Nat.{◌-◌, ◌≤◌}
-use lib.ListN.{length}
+use Prim.Native.Nat.{◌-◌}
 use Rattle.tables.specs.Loops.{turns}
 use Rattle.rewrite_contexts.specs.Tries.{parting, transform_child_f}
 use Rattle.rewrite_contexts.proofs.transform_children.Given as goal
 
-abbrev pub invariant-loop-k : goal.invariant-loop-k
-invariant-loop-k l =
-    (l.k ≤ l.n) × (length l.records ≡ length l.initial.records) × (length l.scopes ≡ length l.initial.scopes) × (length l.symbols ≡ length l.initial.symbols)
-    × (turns l.n (transform_child_f l.cur.0 l.hoist.0) (parting l.initial.records l.initial.scopes l.initial.symbols l.initial.s)
-    ≡ turns (l.n - l.k) (transform_child_f l.cur.0 l.hoist.0) (parting l.records l.scopes l.symbols l.s))
-
-abbrev pub decreases-loop-k : goal.decreases-loop-k
-decreases-loop-k l = l.n - l.k
+abbrev pub invariant-loop : goal.invariant-loop
+invariant-loop l =
+    turns l.n (transform_child_f l.around.current.0 l.around.hoist.0) (parting l.initial.records l.initial.scopes l.initial.symbols l.initial.s)
+    ≡ turns (l.n - l.counter) (transform_child_f l.around.current.0 l.around.hoist.0) (parting l.records l.scopes l.symbols l.s)

@@ -1,13 +1,10 @@
 -- `rewrite_program::kept_rows` meets its contract. Assumes nothing.
 use mathlib.Core.Path.{◌≡◌}
-use Prim.Native.Nat.{◌-◌, ◌≤◌}
+use Prim.Native.Nat.{◌-◌}
 use Rattle.tables.specs.Loops.{turns}
 use Rattle.rewrite_program.specs.Arrange.{kept_rows_one_f}
 use Rattle.rewrite_program.proofs.kept_rows.Given as goal
 
-abbrev pub invariant-loop-k : goal.invariant-loop-k
-invariant-loop-k l =
-    (l.k ≤ l.n) × (turns l.n (kept_rows_one_f l.records) l.initial.s ≡ turns (l.n - l.k) (kept_rows_one_f l.records) l.s)
-
-abbrev pub decreases-loop-k : goal.decreases-loop-k
-decreases-loop-k l = l.n - l.k
+abbrev pub invariant-loop : goal.invariant-loop
+invariant-loop l =
+    turns l.n (kept_rows_one_f l.records) l.initial.s ≡ turns (l.n - l.counter) (kept_rows_one_f l.records) l.s

@@ -1,13 +1,10 @@
 -- `rewrite_program::plan_program` meets its contract. Assumes nothing.
 use mathlib.Core.Path.{◌≡◌}
-use Prim.Native.Nat.{◌-◌, ◌≤◌}
+use Prim.Native.Nat.{◌-◌}
 use Rattle.tables.specs.Loops.{turns}
 use Rattle.rewrite_program.specs.Plan.{plan_item_f}
 use Rattle.rewrite_program.proofs.plan_program.Given as goal
 
-abbrev pub invariant-loop-k : goal.invariant-loop-k
-invariant-loop-k l =
-    (l.k ≤ l.n) × (turns l.n (plan_item_f l.records) l.initial.p ≡ turns (l.n - l.k) (plan_item_f l.records) l.p)
-
-abbrev pub decreases-loop-k : goal.decreases-loop-k
-decreases-loop-k l = l.n - l.k
+abbrev pub invariant-loop : goal.invariant-loop
+invariant-loop l =
+    turns l.n (plan_item_f l.records) l.initial.p ≡ turns (l.n - l.counter) (plan_item_f l.records) l.p

@@ -4,9 +4,10 @@ use Prim.Native.Nat.{◌-◌}
 use Rattle.scoping.specs.Search.{binding_from}
 use Rattle.scoping.proofs.binding_from.Given as goal
 
-abbrev pub invariant-loop-i : goal.invariant-loop-i
-invariant-loop-i l =
-    binding_from l.symbols l.f l.count l.scope.0 l.name l.start l.initial.found.0 ≡ binding_from l.symbols l.f l.count l.scope.0 l.name l.i l.found.0
+abbrev pub invariant-loop-at : goal.invariant-loop-at
+invariant-loop-at l =
+    binding_from l.symbols l.sought.f l.count l.sought.scope.0 l.sought.name l.start l.initial.found.0
+    ≡ binding_from l.symbols l.sought.f l.count l.sought.scope.0 l.sought.name l.i l.found.0
 
-abbrev pub decreases-loop-i : goal.decreases-loop-i
-decreases-loop-i l = l.count - l.i
+abbrev pub decreases-loop-at : goal.decreases-loop-at
+decreases-loop-at l = l.count - l.i

@@ -6,11 +6,11 @@ use Rattle.tables.specs.Loops.{turns}
 use Rattle.scoping.specs.Changes.{moving, move_one}
 use Rattle.scoping.proofs.move_block_scoped.Given as goal
 
-abbrev pub invariant-loop-i : goal.invariant-loop-i
-invariant-loop-i l =
+abbrev pub invariant-loop-at : goal.invariant-loop-at
+invariant-loop-at l =
     (length l.symbols ≡ length l.initial.symbols)
     × (turns l.count (move_one l.ctx l.from.0 l.to.0) (moving l.initial.symbols 0)
     ≡ turns (l.count - l.i) (move_one l.ctx l.from.0 l.to.0) (moving l.symbols l.i))
 
-abbrev pub decreases-loop-i : goal.decreases-loop-i
-decreases-loop-i l = l.count - l.i
+abbrev pub decreases-loop-at : goal.decreases-loop-at
+decreases-loop-at l = l.count - l.i

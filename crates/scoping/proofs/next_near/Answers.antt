@@ -9,7 +9,7 @@ loop-k-init c = (search rules, refl)
 
 pub returns-then-get-want : goal.returns-then-get-want
 returns-then-get-want c =
-    sym (c.loop-k.invariant.1 ∙ next_here _ _ _ _ _ c.loop-k-test.true (sym c.get.ensures ∙ c.if-get-want.true))
+    (c.loop-k-test.true, sym (c.loop-k.invariant.1 ∙ next_here _ _ _ _ _ c.loop-k-test.true (sym c.get.ensures ∙ c.if-get-want.true)))
 
 pub loop-k-preserved : goal.loop-k-preserved
 loop-k-preserved c =
@@ -17,4 +17,4 @@ loop-k-preserved c =
 
 pub returns : goal.returns
 returns c =
-    sym (c.loop-k.invariant.1 ∙ next_out _ _ _ _ _ c.loop-k-test.false)
+    rw (c.loop-k.invariant.1 ∙ next_out _ _ _ _ _ c.loop-k-test.false) c.loop-k-test.false

@@ -6,6 +6,3 @@ use Rattle.scoping.proofs.next_near.Given as goal
 
 abbrev pub invariant-loop-k : goal.invariant-loop-k
 invariant-loop-k l = (l.k < 65536) × (next_row_f l.symbols l.f l.want (l.count - l.i) l.i ≡ next_row_f l.symbols l.f l.want (l.count - l.k) l.k)
-
-abbrev pub decreases-loop-k : goal.decreases-loop-k
-decreases-loop-k l = l.count - l.k

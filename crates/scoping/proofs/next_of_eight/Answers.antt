@@ -16,7 +16,7 @@ pub returns-then-symbols-at : goal.returns-then-symbols-at
 returns-then-symbols-at c =
     let i = c.args.i in
     let place : (i + c.loop-j.j) * 5 + c.args.f ≡ i * 5 + c.args.f + c.loop-j.j * 5 = omega arith in
-    sym (c.loop-j.invariant.1 ∙ next_here _ _ _ _ _ (omega arith) (rw place c.if-symbols-at.true))
+    (omega arith, sym (c.loop-j.invariant.1 ∙ next_here _ _ _ _ _ (omega arith) (rw place c.if-symbols-at.true)))
 
 pub loop-j-preserved : goal.loop-j-preserved
 loop-j-preserved c =
@@ -29,4 +29,4 @@ pub returns : goal.returns
 returns c =
     let i = c.args.i in
     let all : i + c.loop-j.j ≡ i + 8 = omega arith in
-    sym (c.loop-j.invariant.1 ∙ next_out _ _ _ _ _ (omega arith) ∙ all)
+    rw (c.loop-j.invariant.1 ∙ next_out _ _ _ _ _ (omega arith) ∙ all) (omega arith)

@@ -5,10 +5,7 @@ use Rattle.meaning.specs.Scoping.{find_binding}
 use Rattle.scoping.specs.Rows.{store_f}
 use Rattle.scoping.proofs.search_outwards.Given as goal
 
-abbrev pub invariant-loop-k : goal.invariant-loop-k
-invariant-loop-k l =
-    (l.k ≤ l.count)
-    × (find_binding l.count (store_f l.scopes l.symbols l.ctx) l.initial.scope l.name ≡ find_binding (l.count - l.k) (store_f l.scopes l.symbols l.ctx) l.scope l.name)
-
-abbrev pub decreases-loop-k : goal.decreases-loop-k
-decreases-loop-k l = l.count - l.k
+abbrev pub invariant-loop : goal.invariant-loop
+invariant-loop l =
+    (l.counter ≤ l.count)
+    × (find_binding l.count (store_f l.scopes l.symbols l.ctx) l.initial.scope.0 l.name ≡ find_binding (l.count - l.counter) (store_f l.scopes l.symbols l.ctx) l.scope.0 l.name)

@@ -30,7 +30,7 @@ use Rattle.scoping_laws.specs.Created.Held.{free_symbols, free_first, next_symbo
 -- A CONTEXT IS MADE
 pub context_law : (st : Store) (zy : List ℕ) (scope : ℕ) → Agreed st → Room (make_context scope st).1
     → make_context_f (symbols_held st (free_symbols 1 zy)) scope ≡ symbols_held (make_context scope st).1 zy
-unfolding make_context_f make_context create_symbol free_symbols with_context capped
+unfolding make_context_f make_context create_symbol free_symbols with_context
 context_law st zy scope a r =
     let room : next_symbol st ≤ 65535 = omega (arith, r, length-append st.symbols (symbol_row 5 1 scope 1 ∷ [])) in
     let n : capped st.contexts 1 ≡ suc st.contexts = omega (arith, r) in

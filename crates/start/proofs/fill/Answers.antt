@@ -10,7 +10,7 @@ returns c =
       ← c.put_scopes.ensures,
       ← c.clear-2.ensures,
       ← c.put_symbols.ensures,
-      ← c.minus-free.ensures,
+      ← c.saturating_sub-free.ensures,
       ← c.clear-3.ensures,
       ← c.put_records.ensures,
       ← c.walk_of.ensures,

@@ -10,6 +10,3 @@ abbrev pub invariant-loop-k : goal.invariant-loop-k
 invariant-loop-k l =
     (l.free ≤ l.k) × (l.at ≤ 65535 + 13 * l.k) × (length l.records ≡ length l.initial.records)
     × (turns (l.end - l.free) (next_record l.file) (filling l.initial.records l.tree l.free) ≡ turns (l.end - l.k) (next_record l.file) (filling l.records l.at l.k))
-
-abbrev pub decreases-loop-k : goal.decreases-loop-k
-decreases-loop-k l = l.end - l.k

@@ -10,6 +10,3 @@ abbrev pub invariant-loop-k : goal.invariant-loop-k
 invariant-loop-k l =
     (l.k ≤ l.count) × (length l.scopes ≡ length l.initial.scopes)
     × (turns l.count (next_scope l.file) (storing l.initial.scopes 0) ≡ turns (l.count - l.k) (next_scope l.file) (storing l.scopes l.k))
-
-abbrev pub decreases-loop-k : goal.decreases-loop-k
-decreases-loop-k l = l.count - l.k

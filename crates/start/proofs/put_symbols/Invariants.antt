@@ -10,6 +10,3 @@ abbrev pub invariant-loop-k : goal.invariant-loop-k
 invariant-loop-k l =
     (l.k ≤ l.count) × (length l.symbols ≡ length l.initial.symbols)
     × (turns l.count (next_symbol l.file l.first) (storing l.initial.symbols 0) ≡ turns (l.count - l.k) (next_symbol l.file l.first) (storing l.symbols l.k))
-
-abbrev pub decreases-loop-k : goal.decreases-loop-k
-decreases-loop-k l = l.count - l.k

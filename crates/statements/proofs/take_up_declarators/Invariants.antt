@@ -1,16 +1,11 @@
 -- `statements::take_up_declarators` meets its contract. Assumes nothing.
 use mathlib.Core.Path.{◌≡◌}
-use Prim.Native.Nat.{◌-◌, ◌≤◌}
-use lib.ListN.{length}
+use Prim.Native.Nat.{◌-◌}
 use Rattle.tables.specs.Loops.{turns}
 use Rattle.tables.specs.Stream.{buf}
 use Rattle.statements.specs.TakeUp.{take_up_declarator_f}
 use Rattle.statements.proofs.take_up_declarators.Given as goal
 
-abbrev pub invariant-loop-k : goal.invariant-loop-k
-invariant-loop-k l =
-    (l.k ≤ l.n) × (length l.records ≡ length l.initial.records)
-    × (turns l.n (take_up_declarator_f l.letter l.context.0) (buf l.initial.records l.initial.q) ≡ turns (l.n - l.k) (take_up_declarator_f l.letter l.context.0) (buf l.records l.q))
-
-abbrev pub decreases-loop-k : goal.decreases-loop-k
-decreases-loop-k l = l.n - l.k
+abbrev pub invariant-loop : goal.invariant-loop
+invariant-loop l =
+    turns l.n (take_up_declarator_f l.letter l.context.0) (buf l.initial.records l.initial.q) ≡ turns (l.n - l.counter) (take_up_declarator_f l.letter l.context.0) (buf l.records l.q)

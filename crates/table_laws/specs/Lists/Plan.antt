@@ -53,7 +53,6 @@ any_awaits (more h k r) = some (is_await_using h) (any_await_using r) (awaits r)
 -- ---- nothing is capped
 
 pub cap_sum : (x k : ℕ) → x + k ≤ 65535 → capped x k ≡ x + k
-unfolding capped
 cap_sum x k h = omega arith
 
 pub initializers_size : (f : Forest) → initializers f ≤ size f

@@ -1,8 +1,6 @@
 -- `tables::copy` meets its contract. Assumes nothing.
-use mathlib.Core.Path.{refl, ap, ◌∙◌}
-use Prim.Native.Nat.{◌-◌}
+use mathlib.Core.Path.{◌≡◌, refl, ap, ◌∙◌}
 use native.Mathlib.Omega.{arith}
-use borrow.Author.Tests.{eq-eqb}
 use Rattle.tables.specs.Table.{moved}
 use Rattle.tables.specs.Loops.{run_out, stopped}
 use Rattle.tables.specs.Stream.{Copying, copy_f}
@@ -21,13 +19,14 @@ loop-read-preserved c =
       search rules,
       omega (arith, i.0, i.2, c.loop-read-test.true, c.if-pending-eq0.false, c.row_after-r.type_inv),
       c.put_row.auto.records ∙ c.clear_row.auto.records ∙ i.3,
-      copy_turn _ _ _ _ _ _ _ _ i.4 c.loop-read-test.true c.if-pending-eq0.false c.row_after-r.ensures (moved _ _ _ _ _ _ c.clear_row.ensures c.put_row.ensures) c.plus-written.ensures,
+      copy_turn _ _ _ _ _ _ _ _ i.4 c.loop-read-test.true c.if-pending-eq0.false c.row_after-r.ensures (moved _ _ _ _ _ _ c.clear_row.ensures c.put_row.ensures) c.saturating_add.ensures,
     )
 
-pub returns-after-loop-read : goal.returns-after-loop-read
+pub returns : goal.returns
 unfolding copy_f
-returns-after-loop-read c =
-    ap (λ (s : Copying). s.buf) (run_out _ _ _ _ _ _ c.loop-read.invariant.4 c.loop-read-test.false)
+returns c =
+    let e : 65535 ≡ c.loop-read.read = omega (arith, c.loop-read.invariant.1, c.loop-read-test.false) in
+    rw e (ap (λ (s : Copying). s.buf) (run_out _ _ _ _ _ _ c.loop-read.invariant.4 c.loop-read-test.false))
 
 pub returns-then-pending-eq0 : goal.returns-then-pending-eq0
 unfolding copy_f

@@ -10,8 +10,5 @@ use Rattle.tables.proofs.copy.Given as goal
 abbrev pub invariant-loop-read : goal.invariant-loop-read
 invariant-loop-read l =
     (l.initial.read ≤ l.read) × (l.read ≤ 65535) × (l.pending ≤ 65535 + 65536 * (l.read - l.initial.read)) × (length l.records ≡ length l.initial.records)
-    × (until (65535 - l.initial.read) copied copy_one (copying (buf3 l.initial.records l.initial.read l.initial.written) l.count)
-    ≡ until (65535 - l.read) copied copy_one (copying (buf3 l.records l.read l.written) l.pending))
-
-abbrev pub decreases-loop-read : goal.decreases-loop-read
-decreases-loop-read l = 65535 - l.read
+    × (until (65535 - l.initial.read) copied copy_one (copying (buf3 l.initial.records l.initial.read l.initial.written.0) l.count)
+    ≡ until (65535 - l.read) copied copy_one (copying (buf3 l.records l.read l.written.0) l.pending))

@@ -1,7 +1,6 @@
 -- `tables::end_after` meets its contract. Assumes nothing.
-use mathlib.Core.Path.{refl, ap}
-use Prim.Native.Nat.{◌-◌}
-use borrow.Author.Tests.{eq-eqb}
+use mathlib.Core.Path.{◌≡◌, ◌∙◌, refl, ap}
+use native.Mathlib.Omega.{arith}
 use Rattle.tables.specs.Loops.{run_out, stopped}
 use Rattle.tables.specs.Table.{Skipping, end_f}
 use Rattle.tables.proofs.Laws.{skip_turn}
@@ -16,10 +15,11 @@ pub loop-at-preserved : goal.loop-at-preserved
 loop-at-preserved c =
     (search rules, search rules, search rules, skip_turn _ _ _ _ _ c.loop-at.invariant.3 c.loop-at-test.true c.if-pending-eq0.false c.column.ensures)
 
-pub returns-after-loop-at : goal.returns-after-loop-at
+pub returns : goal.returns
 unfolding end_f
-returns-after-loop-at c =
-    ap (λ (s : Skipping). s.at) (run_out _ _ _ _ _ _ c.loop-at.invariant.3 c.loop-at-test.false)
+returns c =
+    let e : 65535 ≡ c.loop-at.at = omega (arith, c.loop-at.invariant.1, c.loop-at-test.false) in
+    e ∙ ap (λ (s : Skipping). s.at) (run_out _ _ _ _ _ _ c.loop-at.invariant.3 c.loop-at-test.false)
 
 pub returns-then-pending-eq0 : goal.returns-then-pending-eq0
 unfolding end_f

@@ -9,6 +9,3 @@ abbrev pub invariant-loop-at : goal.invariant-loop-at
 invariant-loop-at l =
     (l.initial.at ≤ l.at) × (l.at ≤ 65535) × (l.pending ≤ 65535 + 65536 * (l.at - l.initial.at))
     × (until (65535 - l.initial.at) skipped (skip_one l.records) (skipping l.initial.at l.count) ≡ until (65535 - l.at) skipped (skip_one l.records) (skipping l.at l.pending))
-
-abbrev pub decreases-loop-at : goal.decreases-loop-at
-decreases-loop-at l = 65535 - l.at

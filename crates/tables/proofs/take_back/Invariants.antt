@@ -6,9 +6,6 @@ use Rattle.tables.specs.Loops.{turns}
 use Rattle.tables.specs.Stream.{buf, unread_row_f}
 use Rattle.tables.proofs.take_back.Given as goal
 
-abbrev pub invariant-loop-k : goal.invariant-loop-k
-invariant-loop-k l =
-    (l.k ≤ l.n) × (length l.records ≡ length l.initial.records) × (turns l.n unread_row_f (buf l.initial.records l.initial.q) ≡ turns (l.n - l.k) unread_row_f (buf l.records l.q))
-
-abbrev pub decreases-loop-k : goal.decreases-loop-k
-decreases-loop-k l = l.n - l.k
+abbrev pub invariant-loop : goal.invariant-loop
+invariant-loop l =
+    (l.counter ≤ l.n) × (length l.records ≡ length l.initial.records) × (turns l.n unread_row_f (buf l.initial.records l.initial.q) ≡ turns (l.n - l.counter) unread_row_f (buf l.records l.q))

@@ -5,4 +5,4 @@ use Rattle.writing.proofs.put_numbers.Goals as goal
 pub returns : goal.returns
 unfolding numbers_over
 returns c =
-    rw (c.put_two_at-4.ensures, c.last_number.ensures, c.put_two_at-3.ensures, c.lesser-2.ensures.value, c.put_two_at-2.ensures, c.lesser.ensures.value, c.put_two_at.ensures)
+    rw (c.put_two_at-4.ensures, c.last_number.ensures, c.put_two_at-3.ensures, c.min-2.ensures, c.put_two_at-2.ensures, c.min.ensures, c.put_two_at.ensures)

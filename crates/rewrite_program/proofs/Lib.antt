@@ -1,0 +1,2 @@
+-- Laws of the places of rows.
+pub mod Capped

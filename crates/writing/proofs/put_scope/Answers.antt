@@ -1,8 +1,0 @@
--- `writing::put_scope` meets its contract. Assumes nothing.
-use Rattle.writing.specs.Writing.{scope_field}
-use Rattle.writing.proofs.put_scope.Goals as goal
-
-pub returns : goal.returns
-unfolding scope_field
-returns c =
-    rw (c.put_field.ensures, c.new_number.ensures, c.get-flags.ensures, c.get.ensures, c.minus.ensures)
