@@ -1,6 +1,5 @@
 -- What the public calls answer, from what the whole file comes to.
 -- Assumes nothing.
-use Rattle.meaning.specs.declared.Reason.TheVariants as Reason
 use Rattle.meaning.specs.declared.Reason.{Reason}
 use Rattle.meaning.specs.Refusals.{Outcome, refused}
 use Rattle.std.specs.Prelude.{Ok, Err, if◌then◌else◌}

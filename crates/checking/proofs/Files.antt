@@ -1,6 +1,5 @@
 -- The whole file: what the check computes is what the reader answers.
 -- Assumes nothing.
-use Rattle.meaning.specs.declared.Reason.TheVariants as Reason
 use Rattle.meaning.specs.Refusals.{Outcome, refused}
 use Rattle.std.specs.Prelude.{Ok, Err, if◌then◌else◌}
 use mathlib.Core.Path.{◌≡◌, refl, sym, ap, ◌∙◌}

@@ -1,9 +1,9 @@
 -- Laws of the definitions, for the proofs of the code.
 -- Assumes nothing.
-use Rattle.meaning.specs.declared.Reason.TheVariants as Reason
 use Rattle.meaning.specs.declared.Reason.{Reason}
 use Rattle.meaning.specs.Refusals.{Outcome, refused}
-use Rattle.std.specs.Prelude.{Err, Ok, if◌then◌else◌}
+use Rattle.std.specs.Prelude.{Err, Ok, Option, Some, None, if◌then◌else◌}
+use Rattle.std.proofs.Common.{ltb-true, ltb-false}
 use mathlib.Core.Path.{◌≡◌, refl, sym, ap, subst, ◌∙◌}
 use mathlib.Core.Logic.{inl, inr}
 use mathlib.Core.Bool.{Bool, true, false, not}
@@ -14,6 +14,8 @@ use lib.ListN.{length, drop, get_or, take, replicate, length-replicate, replicat
 use lib.Seq.{take-append_seam}
 use lib.Dec.{eqb, ltb}
 use types.Run.{OneOf}
+use Rattle.std.specs.List.{position}
+use Rattle.std.proofs.lemmas.List.Recursion.{is_position_or_len}
 use borrow.Author.Tests.{ne_eqb, le-leb, lt-leb, lt-ltb, le-ltb}
 use Rattle.meaning.specs.Tree.{hd}
 use Rattle.meaning.specs.File.{numbers_of, field_bytes}
@@ -43,6 +45,7 @@ use Rattle.checking.specs.Flat.{
   ups_f,
   below_last,
   children_f,
+  row_below,
   added_f,
   after_f,
   answer_of,
@@ -53,7 +56,7 @@ use Rattle.checking.specs.Flat.{
 -- ---- entering a record
 
 -- the scope row of a field named
-abbrev named_f : List ℕ → ℕ → ℕ → List ℕ → Field → Outcome Entered
+abbrev pub named_f : List ℕ → ℕ → ℕ → List ℕ → Field → Outcome Entered
 named_f f cur at m x = do
   ensure (may_name f cur m (scope_of (head_of x))) Reason.WrongNumber at
   Ok (record { field = x; marks = naming m (scope_of (head_of x)) })
@@ -69,7 +72,7 @@ entering (Ok x) test at g = judging (test x) x at g
 entering (Err r) test at g = refl
 
 -- its scope row is named after the checks of its field
-enter_is : (f : List ℕ) (syms : ℕ) (p : Place) (cur at : ℕ) (m : List ℕ)
+pub enter_is : (f : List ℕ) (syms : ℕ) (p : Place) (cur at : ℕ) (m : List ℕ)
     → enter_f f syms p cur at m ≡ (right_at f syms p at >>= named_f f cur at m)
 unfolding enter_f right_at
 enter_is f syms p cur at m = entering (field_at f p at) (right p syms) at (named_f f cur at m)
@@ -282,6 +285,33 @@ pub few : (again : ℕ → ℕ → Bool) (one : ℕ → ℕ → Outcome Field) (
 few again one most at d k p e w = subst (Few most) (sym e ∙ w) (rows_few again one most 0 most at (omega arith))
 
 -- ---- the lowest unnamed row
+
+-- a row is found below n, or there is none
+row_told : (i n k : ℕ) (b : Bool) → ltb i n ≡ b → (if b then Some i else None) ≡ Some k → (k ≡ i) × (i < n)
+row_told i n k true t f = (cc, ltb-true i n t)
+row_told i n k false t f = absurd (cc)
+
+none_told : (i n : ℕ) (b : Bool) → ltb i n ≡ b → (if b then Some i else None) ≡ None → n ≤ i
+none_told i n true t f = absurd (cc)
+none_told i n false t f = ltb-false i n t
+
+module _ (i n : ℕ) (r : Option ℕ) (found : r ≡ row_below i n) where
+  pub row_found : (k : ℕ) → r ≡ Some k → (k ≡ i) × (i < n)
+  row_found k e = row_told i n k (ltb i n) refl (sym found ∙ e)
+
+  pub row_missed : r ≡ None → n ≤ i
+  row_missed e = none_told i n (ltb i n) refl (sym found ∙ e)
+
+pub row_here : (k i n : ℕ) → k ≡ i → k < n → Some k ≡ row_below i n
+row_here k i n e h = rw (← e, lt-ltb k n h)
+
+pub row_behind : (k i n : ℕ) → k ≡ i → n ≤ k → None ≡ row_below i n
+row_behind k i n e h = rw (← e, le-ltb k n h)
+
+-- as std's search for an index
+pub unnamed_row : (m : List ℕ) → position (λ x. eqb x 0) m ≡ row_below (unnamed m) (length m)
+unfolding unnamed
+unnamed_row m = ap (λ (i : ℕ). row_below i (length m)) (sym (is_position_or_len unnamed (λ x. eqb x 0) refl (λ x xs. refl) m))
 
 unnamed_turn : (m : List ℕ) (i : ℕ) → unnamed (drop i m) ≡ (if eqb (get_or m i 0) 0 then 0 else 1 + unnamed (drop (suc i) m))
 unfolding unnamed

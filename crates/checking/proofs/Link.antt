@@ -1,7 +1,7 @@
 -- What the check computes is what the reader answers, with the tally of its tree in place of the tree.
 -- Assumes nothing.
 use Rattle.meaning.specs.declared.Reason.TheVariants as Reason
-use Rattle.meaning.specs.Refusals.{Outcome, refused}
+use Rattle.meaning.specs.Refusals.{Outcome}
 use Rattle.std.specs.Prelude.{Ok, Err}
 use mathlib.Core.Path.{◌≡◌, refl, sym, ap, ◌∙◌}
 use mathlib.Core.Bool.{Bool, true, false, ◌&&◌}

@@ -2,7 +2,7 @@
 -- Assumes nothing.
 use Rattle.meaning.specs.declared.Reason.TheVariants as Reason
 use Rattle.meaning.specs.Refusals.{Outcome, refused}
-use Rattle.std.specs.Prelude.{Ok, Err, Option, Some, None, if◌then◌else◌, ℕ, zero, suc, ◌+◌, ◌*◌, ◌-◌, min, Bool, true, false, ◌&&◌, List, [], ◌∷◌, eqb, leb, get_or, length, replicate}
+use Rattle.std.specs.Prelude.{Ok, Err, Option, Some, None, if◌then◌else◌, ℕ, zero, suc, ◌+◌, ◌*◌, ◌-◌, min, Bool, true, false, ◌&&◌, List, [], ◌∷◌, eqb, leb, ltb, get_or, length, replicate}
 use Rattle.meaning.specs.Numbers.Tag
 use Rattle.meaning.specs.Numbers.Form
 use Rattle.meaning.specs.Numbers.Mode
@@ -222,6 +222,10 @@ next_count f s =
 -- n records from an offset on
 unfoldable pub count_f : List ℕ → ℕ → ℕ → List ℕ → List ℕ
 count_f f n at t = (turns n (next_count f) (counting t at)).t
+
+-- the lowest of so many rows, where there is one
+abbrev pub row_below : ℕ → ℕ → Option ℕ
+row_below i n = if ltb i n then Some i else None
 
 -- the lowest row whose fifth number is not its counter, of rows from an offset on
 unfoldable pub wrong_in : List ℕ → List ℕ → ℕ → ℕ

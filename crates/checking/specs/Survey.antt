@@ -1,6 +1,6 @@
 -- What a survey answers.
 -- Assumes nothing.
-use Rattle.meaning.specs.Refusals.{Outcome, refused}
+use Rattle.meaning.specs.Refusals.{Outcome}
 use Rattle.std.specs.Prelude.{Ok, Err, ◌+◌, ◌*◌, length}
 use Rattle.meaning.specs.Tree.{size}
 use Rattle.meaning.specs.File.{File, settings_bytes, scope_bytes, symbol_bytes}

@@ -1,7 +1,9 @@
 // Checking a tree file on its bytes, and the figures of what it is lowered to.
 #![tactic(auto)]
 
-ghost use Rattle.std.specs.Prelude.{if◌then◌else◌, ◌≡◌, ◌||◌, suc, ◌+◌, ◌≤◌, min, get_or, length, replicate, eqb};
+ghost use Rattle.std.specs.Prelude.{if◌then◌else◌, ◌≡◌, ◌||◌, suc, ◌+◌, ◌≤◌, min, get_or, length, replicate, eqb, Ok};
+ghost use Rattle.meaning.specs.declared.Reason.TheVariants as Reason;
+ghost use Rattle.meaning.specs.Refusals.{refused};
 ghost use Rattle.meaning.specs.Grammar.{two, may_name, naming, unnamed};
 ghost use Rattle.meaning.specs.Numbers.Tag;
 ghost use Rattle.meaning.specs.Reading.{scope_at, symbol_at, most_rows, most_symbols, read_scopes, read_symbols, read_file};
@@ -10,12 +12,12 @@ ghost use Rattle.figures.specs.Figures.{figured_of};
 ghost use Rattle.meaning.specs.declared.Place.TheVariants.{Program as ProgramPlace};
 ghost use Rattle.figures.specs.declared.tally.Role.TheVariants.{Plain as PlainRole};
 ghost use Rattle.figures.specs.Tally.{no_tally};
-ghost use Rattle.checking.specs.Flat.{expression_at, expression_here, right_at, is_whole, expression_size, mention_size, leaf_size, entered, enter_f, past, record_f, children_f, after_f, below_last, tree_f, count_f, wrong_in, wrong_f, with_records, counted_f, run_answer, symbols_f, rows_f, settings_f, file_f, checked_of};
+ghost use Rattle.checking.specs.Flat.{expression_at, expression_here, right_at, is_whole, expression_size, mention_size, leaf_size, entered, enter_f, past, record_f, children_f, after_f, below_last, tree_f, count_f, row_below, wrong_in, wrong_f, with_records, counted_f, run_answer, symbols_f, rows_f, settings_f, file_f, checked_of};
 ghost use Rattle.checking.specs.Survey.{with_figures, surveyed_of};
 
 use fields::{
-    EXPRESSION_BYTES, HEAD_BYTES, LENGTHS, MENTION_BYTES, NUMBER_A, NUMBER_B, NUMBER_E,
-    SCOPE_BYTES, SETTINGS_BYTES, SYMBOL_BYTES,
+    EXPRESSION_BYTES, HEAD_BYTES, LENGTHS, MENTION_BYTES, NUMBER_A, NUMBER_B, NUMBER_E, Reader,
+    SCOPE_BYTES, SETTINGS_BYTES, SYMBOL_BYTES, TAG_BYTES,
 };
 use figures::tally::{Role, Tally};
 use figures::{FinalFigures, tally};
@@ -61,6 +63,13 @@ pub struct RowCounts {
     pub symbols: u16,
 }
 
+// A file, and how many rows it has.
+#[derive(Clone, Copy)]
+struct Source<'a> {
+    file: &'a [u8],
+    rows: RowCounts,
+}
+
 // What the check knows of a file: its settings, how many scope rows, symbol rows and records it has, and the offsets of the first symbol row
 // and of Program.
 #[derive(Clone, Copy, Debug, PartialEq, Eq)]
@@ -91,6 +100,7 @@ pub struct Surveyed {
 // ---- one record
 
 // Marks row s as named, if a record below the scope `cur` may name it; row 0 is none.
+#[tactic(auto, unfolding(meaning::specs::Grammar::may_name, meaning::specs::Grammar::naming, meaning::specs::Grammar::parent_in))]
 fn name_scope(file: &[u8], marks: &mut [u8], cur: ScopeId, s: ScopeId) -> bool
     ensures told { result ≡ may_name file.now cur.0 marks.old s.0 }
     ensures marked { marks.new
@@ -100,251 +110,225 @@ fn name_scope(file: &[u8], marks: &mut [u8], cur: ScopeId, s: ScopeId) -> bool
     if n == 0 {
         return true;
     }
-    if marks.len() < n {
-        return false;
-    }
-    if fields::read_two(file, SCOPE_BYTES * n + NUMBER_A) != cur.0 {
-        return false;
-    }
-    if marks[n - 1] != 0 {
+    if marks.len() < n
+        || fields::read_two(file, SCOPE_BYTES * n + NUMBER_A) != cur.0
+        || marks[n - 1] != 0
+    {
         return false;
     }
     marks[n - 1] = 1;
     true
 }
 
-// The field of a record, its numbers right and its scope row named: the checks 2 to 5.
-fn enter_record(
-    file: &[u8],
-    marks: &mut [u8],
-    symbols: usize,
-    place: Place,
-    cur: ScopeId,
-    at: usize,
-) -> Result<Field, Refusal>
-    ensures { entered result marks.new ≡ enter_f file.now symbols place cur.0 at marks.old }
+// A field whose numbers are right, or its refusal.
+fn judged(right: bool, x: Field, at: usize) -> Result<Field, Refusal>
+    ensures { result ≡ (if right then Ok x else refused Reason.WrongNumber at) }
 {
-    let x = fields::read_field(file, place, at)?;
-    if !rules::is_right(place, symbols, x) {
-        return Err(Refusal {
+    if right {
+        Ok(x)
+    } else {
+        Err(Refusal {
             reason: Reason::WrongNumber,
             place: at,
-        });
+        })
     }
-    if !name_scope(file, marks, cur, rules::scope_in(x)) {
-        return Err(Refusal {
-            reason: Reason::WrongNumber,
-            place: at,
-        });
-    }
-    Ok(x)
 }
 
-// The same of a record that names no scope.
-fn read_right(file: &[u8], symbols: usize, place: Place, at: usize) -> Result<Field, Refusal>
-    ensures { result ≡ right_at file.now symbols place at }
+// The field of a record, and its numbers right: the checks 2 to 5 of a record that names no scope.
+fn read_right(here: Reader, symbols: usize, place: Place) -> Result<Field, Refusal>
+    ensures { result ≡ right_at here.entry.file.now symbols place here.entry.at }
 {
-    let x = fields::read_field(file, place, at)?;
-    if !rules::is_right(place, symbols, x) {
+    let x = here.field(place)?;
+    judged(rules::is_right(place, symbols, x), x, here.at)
+}
+
+// The same, and its scope row named: the checks 2 to 5.
+fn enter_record(
+    here: Reader,
+    marks: &mut [u8],
+    symbols: usize,
+    site: Site,
+) -> Result<Field, Refusal>
+    ensures { entered result marks.new
+        ≡ enter_f here.entry.file.now symbols site.place site.scope.0 here.entry.at marks.old }
+{
+    let x = read_right(here, symbols, site.place)?;
+    if !name_scope(here.file, marks, site.scope, rules::scope_in(x)) {
         return Err(Refusal {
             reason: Reason::WrongNumber,
-            place: at,
+            place: here.at,
         });
     }
     Ok(x)
 }
 
 // The same of an expression: Expression, Read, Call and Load name no scope, Function and Class do. What has another tag is a Name, or is
-// refused as its field is read. No arm has two tags in a row, which would be tested as a range.
+// refused as its field is read.
 fn enter_expression(
-    file: &[u8],
+    here: Reader,
     marks: &mut [u8],
     symbols: usize,
-    place: Place,
-    cur: ScopeId,
-    at: usize,
+    site: Site,
 ) -> Result<Field, Refusal>
-    ensures { entered result marks.new ≡ enter_f file.now symbols place cur.0 at marks.old }
+    ensures { entered result marks.new
+        ≡ enter_f here.entry.file.now symbols site.place site.scope.0 here.entry.at marks.old }
 {
-    let tag = fields::read_tag(file, at);
+    let tag = here.tag();
     match tag {
-        tag::EXPRESSION | tag::CALL => read_right(file, symbols, place, at),
-        tag::READ | tag::LOAD => read_right(file, symbols, place, at),
-        tag::FUNCTION | tag::CLASS => enter_record(file, marks, symbols, place, cur, at),
-        _ => enter_record(file, marks, symbols, place, cur, at),
+        tag::EXPRESSION | tag::READ | tag::CALL | tag::LOAD => {
+            read_right(here, symbols, site.place)
+        }
+        _ => enter_record(here, marks, symbols, site),
     }
 }
 
 // ---- leaves: plain records without scope and children, passed at once
 
 // A field with this tag may stand here, and is whole with `len` bytes of numbers; its tag is not looked at.
-fn is_whole(file: &[u8], place: Place, tag: u16, len: u16, at: usize) -> bool
-    ensures { result ≡ is_whole file.now place tag len at }
+#[tactic(auto, unfolding(crate::specs::Flat::is_whole))]
+fn is_whole(here: Reader, place: Place, tag: u16, len: u16) -> bool
+    ensures { result ≡ is_whole here.entry.file.now place tag len here.entry.at }
 {
-    if file.len() <= at {
-        return false;
-    }
-    if file.len() - at < HEAD_BYTES + (len as usize) {
-        return false;
-    }
-    if !fields::is_allowed(place, tag) {
-        return false;
-    }
-    fields::read_two(file, at + 1) == len
+    here.at < here.file.len()
+        && HEAD_BYTES + usize::from(len) <= here.file.len() - here.at
+        && fields::is_allowed(place, tag)
+        && fields::read_two(here.file, here.at + TAG_BYTES) == len
 }
 
-// The bytes of the Expression at an offset, where it is right and has no children.
-fn expression_size(file: &[u8], place: Place, at: usize) -> Option<u32>
-    ensures { result ≡ expression_size file.now place at }
+// The bytes of the Expression here, where it is right and has no children.
+#[tactic(auto, unfolding(crate::specs::Flat::expression_size, crate::specs::Flat::is_whole))]
+fn expression_size(here: Reader, place: Place) -> Option<u32>
+    ensures { result ≡ expression_size here.entry.file.now place here.entry.at }
 {
-    if !is_whole(file, place, tag::EXPRESSION, EXPRESSION_LENGTH, at) {
-        return None;
+    if is_whole(here, place, tag::EXPRESSION, EXPRESSION_LENGTH)
+        && fields::read_two(here.file, here.at + NUMBER_B) == 0
+    {
+        Some(EXPRESSION_SIZE)
+    } else {
+        None
     }
-    if fields::read_two(file, at + NUMBER_B) != 0 {
-        return None;
-    }
-    Some(EXPRESSION_SIZE)
 }
 
-// The bytes of the Read or Name at an offset, where it names a symbol row.
-fn mention_size(file: &[u8], place: Place, symbols: usize, tag: u16, at: usize) -> Option<u32>
-    ensures { result ≡ mention_size file.now place symbols tag at }
+// The bytes of the Read or Name here, where it names a symbol row.
+#[tactic(auto, unfolding(crate::specs::Flat::mention_size, crate::specs::Flat::is_whole))]
+fn mention_size(here: Reader, place: Place, symbols: usize, tag: u16) -> Option<u32>
+    ensures { result ≡ mention_size here.entry.file.now place symbols tag here.entry.at }
 {
-    if !is_whole(file, place, tag, MENTION_LENGTH, at) {
+    if !is_whole(here, place, tag, MENTION_LENGTH) {
         return None;
     }
-    let row = fields::read_two(file, at + NUMBER_A) as usize;
-    if row < 1 {
-        return None;
+    let row = usize::from(fields::read_two(here.file, here.at + NUMBER_A));
+    if 1 <= row && row <= symbols {
+        Some(MENTION_SIZE)
+    } else {
+        None
     }
-    if symbols < row {
-        return None;
-    }
-    Some(MENTION_SIZE)
 }
 
-// The bytes of the leaf at an offset, or none where there is no leaf or its check could refuse it.
-fn leaf_size(file: &[u8], place: Place, up: Role, symbols: usize, at: usize) -> Option<u32>
-    ensures { result ≡ leaf_size file.now place up symbols at }
+// The bytes of the leaf here, or none where there is no leaf or its check could refuse it.
+#[tactic(auto, unfolding(crate::specs::Flat::leaf_size))]
+fn leaf_size(here: Reader, symbols: usize, site: Site) -> Option<u32>
+    ensures { result ≡ leaf_size here.entry.file.now site.place site.role symbols here.entry.at }
 {
-    if !tally::is_plain(up) {
+    if !tally::is_plain(site.role) {
         return None;
     }
-    let tag = fields::read_tag(file, at);
+    let tag = here.tag();
     match tag {
-        tag::EXPRESSION => expression_size(file, place, at),
-        tag::READ => mention_size(file, place, symbols, tag::READ, at),
-        tag::NAME => mention_size(file, place, symbols, tag::NAME, at),
+        tag::EXPRESSION => expression_size(here, site.place),
+        tag::READ | tag::NAME => mention_size(here, site.place, symbols, tag),
         _ => None,
     }
 }
 
 // ---- where an expression stands
 
-// The form of the Function or Class at an offset.
-fn form_at(file: &[u8], at: usize) -> u16
-    ensures { result ≡ two file.now (at + 3) }
+// The form of the Function or Class here.
+#[tactic(auto, unfolding(meaning::specs::Grammar::two))]
+fn form_at(here: Reader) -> u16
+    ensures { result ≡ two here.entry.file.now (here.entry.at + 3) }
 {
-    if file.len() <= at {
-        return 0;
-    }
-    fields::read_two(file, at + NUMBER_A)
+    fields::read_two(here.file, here.at.saturating_add(NUMBER_A))
 }
 
-// What stands at an offset is an expression by its tag, or by its form.
-fn is_expression(file: &[u8], at: usize) -> bool
-    ensures { result ≡ expression_at file.now at }
+// What stands here is an expression by its tag, or by its form.
+#[tactic(auto, unfolding(crate::specs::Flat::expression_at))]
+fn is_expression(here: Reader) -> bool
+    ensures { result ≡ expression_at here.entry.file.now here.entry.at }
 {
-    let tag = fields::read_tag(file, at);
+    let tag = here.tag();
     match tag {
-        tag::EXPRESSION => true,
-        tag::READ => true,
-        tag::CALL => true,
-        tag::LOAD => true,
-        tag::FUNCTION => form_at(file, at) == form::EXPRESSION,
-        tag::CLASS => form_at(file, at) == form::EXPRESSION,
+        tag::EXPRESSION | tag::READ | tag::CALL | tag::LOAD => true,
+        tag::FUNCTION | tag::CLASS => form_at(here) == form::EXPRESSION,
         _ => false,
     }
 }
 
 // An expression is looked for at a place: always, or by what stands there, or never. A Name, which is a leaf too, counts as one here.
-fn takes_expression(file: &[u8], place: Place, at: usize) -> bool
-    ensures { result ≡ expression_here file.now place at }
+#[tactic(auto, unfolding(crate::specs::Flat::expression_here, meaning::specs::Grammar::index))]
+fn takes_expression(here: Reader, place: Place) -> bool
+    ensures { result ≡ expression_here here.entry.file.now place here.entry.at }
 {
     match place {
-        Place::Expression => true,
-        Place::SwitchExpression => true,
-        Place::Name => true,
-        Place::PlainItem => is_expression(file, at),
-        Place::ForLeft => is_expression(file, at),
-        Place::ForOfLeft => is_expression(file, at),
-        Place::ClassItem => is_expression(file, at),
-        Place::DefaultExport => is_expression(file, at),
-        Place::Settings => false,
-        Place::ScopeRow => false,
-        Place::SymbolRow => false,
-        Place::Program => false,
-        Place::ProgramItem => false,
-        Place::ListItem => false,
-        Place::Statement => false,
-        Place::Declarator => false,
-        Place::ForOfDeclarator => false,
-        Place::Case => false,
-        Place::TryPart => false,
-        Place::Catch => false,
-        Place::Body => false,
-        Place::ExportedDeclaration => false,
-        Place::Specifier => false,
+        Place::Expression | Place::SwitchExpression | Place::Name => true,
+        Place::PlainItem
+        | Place::ForLeft
+        | Place::ForOfLeft
+        | Place::ClassItem
+        | Place::DefaultExport => is_expression(here),
+        _ => false,
     }
 }
 
 // ---- the cycle: a record's children are statements, expressions and parts of them
 
 // So many children below the last level: none, or the first is refused whatever its head says, once that is there.
-fn below_last(file: &[u8], n: u16, at: usize) -> Result<Progress, Refusal>
-    ensures { result ≡ below_last file.now n at }
+fn below_last(here: Reader, n: u16) -> Result<Progress, Refusal>
+    ensures { result ≡ below_last here.entry.file.now n here.entry.at }
 {
     if n == 0 {
         return Ok(Progress {
-            at,
+            at: here.at,
             tally: tally::no_tally(),
         });
     }
-    if file.len().saturating_sub(at) < HEAD_BYTES {
+    if here.file.len().saturating_sub(here.at) < HEAD_BYTES {
         return Err(Refusal {
             reason: Reason::Cut,
-            place: at,
+            place: here.at,
         });
     }
     Err(Refusal {
         reason: Reason::TooDeep,
-        place: at,
+        place: here.at,
     })
 }
 
 // What is left of a record when its field was entered: its children, with so many levels left for them, and its tally.
 #[cycle(records)]
 fn check_entered(
-    file: &[u8],
+    source: Source,
     marks: &mut [u8],
-    rows: RowCounts,
     site: Site,
     before: Tally,
     levels: u16,
     x: Field,
 ) -> Result<Progress, Refusal>
     ensures { past result marks.new
-        ≡ after_f levels file.now rows.scopes rows.symbols site.place site.role site.scope.0 before (entered (Ok x) marks.old) }
+        ≡ after_f levels source.entry.file.now source.entry.rows.scopes source.entry.rows.symbols site.place site.role site.scope.0 before (entered (Ok x) marks.old) }
 {
-    let place = site.place;
-    let role = site.role;
-    let around = site.scope;
-    let scope = rules::scope_below(around, rules::scope_in(x));
-    let kids = check_children(file, marks, rows, Site { place, role, scope }, x, levels)?;
-    let inserted = tally::inserts(file, rows.scopes, rows.symbols, role, x);
+    let scope = rules::scope_below(site.scope, rules::scope_in(x));
+    let kids = check_children(source, marks, Site { scope, ..site }, x, levels)?;
+    let inserted = tally::inserts(
+        source.file,
+        source.rows.scopes,
+        source.rows.symbols,
+        site.role,
+        x,
+    );
     Ok(Progress {
         at: kids.at,
-        tally: tally::add_record(before, role, inserted, x, kids.tally),
+        tally: tally::add_record(before, site.role, inserted, x, kids.tally),
     })
 }
 
@@ -352,99 +336,103 @@ fn check_entered(
 // of them name a scope. So many levels are left for its children.
 #[cycle(records)]
 fn check_statement(
-    file: &[u8],
+    source: Source,
     marks: &mut [u8],
-    rows: RowCounts,
     site: Site,
     done: Progress,
     levels: u16,
 ) -> Result<Progress, Refusal>
     ensures { past result marks.new
-        ≡ record_f (suc levels) file.now rows.scopes rows.symbols site.place site.role site.scope.0 done.tally done.at marks.old }
+        ≡ record_f (suc levels) source.entry.file.now source.entry.rows.scopes source.entry.rows.symbols site.place site.role site.scope.0 done.tally done.at marks.old }
 {
-    let place = site.place;
-    let scope = site.scope;
-    let x = enter_record(file, marks, rows.symbols as usize, place, scope, done.at)?;
-    check_entered(file, marks, rows, site, done.tally, levels, x)
+    let file = source.file;
+    let here = Reader { file, at: done.at };
+    let x = enter_record(here, marks, source.rows.symbols as usize, site)?;
+    check_entered(source, marks, site, done.tally, levels, x)
 }
 
 // An expression: an Expression, a Read, a Call, a Load, or a Function or Class of form 1. An Expression without children and a Read are
 // leaves and passed at once, and so is a Name, though it is a part of a Declarator or a Catch. So many levels are left for its children.
 #[cycle(records)]
 fn check_expression(
-    file: &[u8],
+    source: Source,
     marks: &mut [u8],
-    rows: RowCounts,
     site: Site,
     done: Progress,
     levels: u16,
 ) -> Result<Progress, Refusal>
     ensures { past result marks.new
-        ≡ record_f (suc levels) file.now rows.scopes rows.symbols site.place site.role site.scope.0 done.tally done.at marks.old }
+        ≡ record_f (suc levels) source.entry.file.now source.entry.rows.scopes source.entry.rows.symbols site.place site.role site.scope.0 done.tally done.at marks.old }
 {
-    let place = site.place;
-    let role = site.role;
-    let scope = site.scope;
-    let symbols = rows.symbols as usize;
-    if let Some(size) = leaf_size(file, place, role, symbols, done.at) {
+    let file = source.file;
+    let here = Reader { file, at: done.at };
+    let symbols = source.rows.symbols as usize;
+    if let Some(size) = leaf_size(here, symbols, site) {
         return Ok(Progress {
             at: done.at + (size as usize),
             tally: tally::add_leaf(done.tally, size),
         });
     }
-    let x = enter_expression(file, marks, symbols, place, scope, done.at)?;
-    check_entered(file, marks, rows, site, done.tally, levels, x)
+    let x = enter_expression(here, marks, symbols, site)?;
+    check_entered(source, marks, site, done.tally, levels, x)
 }
 
 // A child at its place: an expression, or a statement or a part of one. So many levels are left for its own children.
 #[cycle(records)]
 fn check_child(
-    file: &[u8],
+    source: Source,
     marks: &mut [u8],
-    rows: RowCounts,
     site: Site,
     done: Progress,
     levels: u16,
 ) -> Result<Progress, Refusal>
     ensures { past result marks.new
-        ≡ record_f (suc levels) file.now rows.scopes rows.symbols site.place site.role site.scope.0 done.tally done.at marks.old }
+        ≡ record_f (suc levels) source.entry.file.now source.entry.rows.scopes source.entry.rows.symbols site.place site.role site.scope.0 done.tally done.at marks.old }
 {
-    let place = site.place;
-    if takes_expression(file, place, done.at) {
-        return check_expression(file, marks, rows, site, done, levels);
+    let file = source.file;
+    let here = Reader { file, at: done.at };
+    if takes_expression(here, site.place) {
+        check_expression(source, marks, site, done, levels)
+    } else {
+        check_statement(source, marks, site, done, levels)
     }
-    check_statement(file, marks, rows, site, done, levels)
 }
 
 // The children of a record at `site`, one after another, with so many levels left for them; the site's scope is that around the children.
 #[cycle(records)]
 fn check_children(
-    file: &[u8],
+    source: Source,
     marks: &mut [u8],
-    rows: RowCounts,
     site: Site,
     x: Field,
     levels: u16,
 ) -> Result<Progress, Refusal>
     ensures { past result marks.new
-        ≡ children_f levels file.now rows.scopes rows.symbols site.place site.role x site.scope.0 marks.old }
+        ≡ children_f levels source.entry.file.now source.entry.rows.scopes source.entry.rows.symbols site.place site.role x site.scope.0 marks.old }
 {
     let n = rules::children_of(x);
     if levels == 0 {
-        return below_last(file, n, x.next);
+        return below_last(
+            Reader {
+                file: source.file,
+                at: x.next,
+            },
+            n,
+        );
     }
-    let around = site.place;
-    let role_around = site.role;
-    let scope = site.scope;
     let mut done = Progress {
         at: x.next,
         tally: tally::no_tally(),
     };
     for k in 0..n {
-        let place = rules::place_of(around, x, k);
-        let role = tally::role_in(file, role_around, x, k);
-        let here = Site { place, role, scope };
-        done = check_child(file, marks, rows, here, done, levels - 1)?;
+        let place = rules::place_of(site.place, x, k);
+        let role = tally::role_in(source.file, site.role, x, k);
+        let child = Site {
+            place,
+            role,
+            ..site
+        };
+        done = check_child(source, marks, child, done, levels - 1)?;
     }
     Ok(done)
 }
@@ -452,53 +440,42 @@ fn check_children(
 // ---- the rows before the tree
 
 // Scope row k, counted from 0.
-fn read_scope(file: &[u8], k: usize, at: usize) -> Result<Field, Refusal>
-    ensures { result ≡ scope_at file.now k at }
+fn read_scope(here: Reader, k: usize) -> Result<Field, Refusal>
+    ensures { result ≡ scope_at here.entry.file.now k here.entry.at }
 {
-    let x = fields::read_field(file, Place::ScopeRow, at)?;
-    if !rules::scope_right(k, x) {
-        return Err(Refusal {
-            reason: Reason::WrongNumber,
-            place: at,
-        });
-    }
-    Ok(x)
+    let x = here.field(Place::ScopeRow)?;
+    judged(rules::scope_right(k, x), x, here.at)
 }
 
-fn read_symbol(file: &[u8], scopes: usize, at: usize) -> Result<Field, Refusal>
-    ensures { result ≡ symbol_at file.now scopes at }
+fn read_symbol(here: Reader, scopes: usize) -> Result<Field, Refusal>
+    ensures { result ≡ symbol_at here.entry.file.now scopes here.entry.at }
 {
-    let x = fields::read_field(file, Place::SymbolRow, at)?;
-    if !rules::symbol_right(scopes, x) {
-        return Err(Refusal {
-            reason: Reason::WrongNumber,
-            place: at,
-        });
-    }
-    Ok(x)
+    let x = here.field(Place::SymbolRow)?;
+    judged(rules::symbol_right(scopes, x), x, here.at)
 }
 
-fn more_scopes(file: &[u8], k: usize, at: usize) -> bool
-    ensures { result ≡ (eqb k 0 || eqb (get_or file.now at 0) Tag.Scope) }
+fn more_scopes(here: Reader, k: usize) -> bool
+    ensures { result ≡ (eqb k 0 || eqb (get_or here.entry.file.now here.entry.at 0) Tag.Scope) }
 {
-    k == 0 || fields::read_tag(file, at) == tag::SCOPE
+    k == 0 || here.tag() == tag::SCOPE
 }
 
-fn more_symbols(file: &[u8], at: usize) -> bool
-    ensures { result ≡ eqb (get_or file.now at 0) Tag.Symbol }
+fn more_symbols(here: Reader) -> bool
+    ensures { result ≡ eqb (get_or here.entry.file.now here.entry.at 0) Tag.Symbol }
 {
-    fields::read_tag(file, at) == tag::SYMBOL
+    here.tag() == tag::SYMBOL
 }
 
 pub fn read_scopes(file: &[u8], from: usize) -> Result<Rows, Refusal>
     ensures { result ≡ read_scopes file.now from }
 {
-    let mut at: usize = from;
+    let mut at = from;
     for k in 0..MOST_ROWS {
-        if !more_scopes(file, k, at) {
+        let here = Reader { file, at };
+        if !more_scopes(here, k) {
             return Ok(Rows { count: k, next: at });
         }
-        let x = read_scope(file, k, at)?;
+        let x = read_scope(here, k)?;
         at = x.next;
     }
     Ok(Rows {
@@ -510,12 +487,13 @@ pub fn read_scopes(file: &[u8], from: usize) -> Result<Rows, Refusal>
 pub fn read_symbols(file: &[u8], scopes: usize, from: usize) -> Result<Rows, Refusal>
     ensures { result ≡ read_symbols file.now scopes from }
 {
-    let mut at: usize = from;
+    let mut at = from;
     for k in 0..MOST_SYMBOLS {
-        if !more_symbols(file, at) {
+        let here = Reader { file, at };
+        if !more_symbols(here) {
             return Ok(Rows { count: k, next: at });
         }
-        let x = read_symbol(file, scopes, at)?;
+        let x = read_symbol(here, scopes)?;
         at = x.next;
     }
     Ok(Rows {
@@ -526,72 +504,64 @@ pub fn read_symbols(file: &[u8], scopes: usize, from: usize) -> Result<Rows, Ref
 
 // ---- the whole file
 
-// The lowest row without a mark, counted from 0, or the number of rows.
-fn first_unnamed(marks: &[u8]) -> usize
-    ensures { result ≡ unnamed marks.now }
+// The lowest row without a mark, counted from 0.
+fn first_unnamed(marks: &[u8]) -> Option<usize>
+    ensures { result ≡ row_below (unnamed marks.now) (length marks.now) }
 {
-    for i in 0..marks.len() {
-        if marks[i] == 0 {
-            return i;
-        }
-    }
-    marks.len()
+    marks.iter().position(|&mark| mark == 0)
 }
 
 // Program and all in it, with all levels left.
-fn check_program(
-    file: &[u8],
-    marks: &mut [u8],
-    rows: RowCounts,
-    at: usize,
-) -> Result<Progress, Refusal>
+fn check_program(source: Source, marks: &mut [u8], at: usize) -> Result<Progress, Refusal>
     ensures { past result marks.new
-        ≡ record_f 64 file.now rows.scopes rows.symbols ProgramPlace PlainRole 0 no_tally at marks.old }
+        ≡ record_f 64 source.entry.file.now source.entry.rows.scopes source.entry.rows.symbols ProgramPlace PlainRole 0 no_tally at marks.old }
 {
-    let place = Place::Program;
-    let role = Role::Plain;
-    let scope = ScopeId(0);
-    let tally = tally::no_tally();
-    let site = Site { place, role, scope };
-    let x = enter_record(file, marks, rows.symbols as usize, place, scope, at)?;
-    check_entered(file, marks, rows, site, tally, MOST_LEVELS - 1, x)
+    let site = Site {
+        place: Place::Program,
+        role: Role::Plain,
+        scope: ScopeId(0),
+    };
+    let x = enter_record(
+        Reader {
+            file: source.file,
+            at,
+        },
+        marks,
+        source.rows.symbols as usize,
+        site,
+    )?;
+    check_entered(source, marks, site, tally::no_tally(), MOST_LEVELS - 1, x)
 }
 
 // The tree, what stands behind it, and the lowest unnamed row.
-fn check_tree(
-    file: &[u8],
-    marks: &mut [u8],
-    rows: RowCounts,
-    at: usize,
-) -> Result<Progress, Refusal>
+fn check_tree(source: Source, marks: &mut [u8], at: usize) -> Result<Progress, Refusal>
     requires { length marks.old ≤ most_rows }
-    ensures { result ≡ tree_f file.now rows.scopes rows.symbols at marks.old }
+    ensures { result ≡ tree_f source.entry.file.now source.entry.rows.scopes source.entry.rows.symbols at marks.old }
 {
-    let end = check_program(file, marks, rows, at)?;
-    if end.at < file.len() {
+    let end = check_program(source, marks, at)?;
+    if end.at < source.file.len() {
         return Err(Refusal {
             reason: Reason::BytesBehind,
             place: end.at,
         });
     }
-    let u = first_unnamed(marks);
-    if u < marks.len() {
-        return Err(Refusal {
+    match first_unnamed(marks) {
+        Some(row) => Err(Refusal {
             reason: Reason::WrongNumber,
-            place: SETTINGS_BYTES + SCOPE_BYTES * u,
-        });
+            place: SETTINGS_BYTES + SCOPE_BYTES * row,
+        }),
+        None => Ok(end),
     }
-    Ok(end)
 }
 
 // The same, with no row marked.
-fn check_unmarked(file: &[u8], rows: RowCounts, at: usize) -> Result<Progress, Refusal>
-    requires { rows.scopes ≤ most_rows }
-    ensures { result ≡ tree_f file.now rows.scopes rows.symbols at (replicate rows.scopes 0) }
+fn check_unmarked(source: Source, at: usize) -> Result<Progress, Refusal>
+    requires { source.rows.scopes ≤ most_rows }
+    ensures { result ≡ tree_f source.entry.file.now source.entry.rows.scopes source.entry.rows.symbols at (replicate source.entry.rows.scopes 0) }
 {
     let mut marks = [0u8; MOST_ROWS];
-    let scopes = rows.scopes as usize;
-    check_tree(file, &mut marks[..scopes], rows, at)
+    let scopes = source.rows.scopes as usize;
+    check_tree(source, &mut marks[..scopes], at)
 }
 
 // ---- how often symbols are named
@@ -601,41 +571,41 @@ fn count_fields(file: &[u8], counts: &mut [u16], tree: u16, records: u16)
     ensures { counts.new ≡ count_f file.now records tree counts.old }
 {
     let mut at = tree as usize;
-    for k in 0..records {
+    for _ in 0..records {
         let x = fields::field_of(file, at as u32);
         mentions::add_record(counts, tables::closed_row(x.tag, x.a, x.b, x.c, 0));
         at = x.next;
     }
 }
 
-// The lowest row whose fifth number is not its counter, counted from 0, or the number of rows; they begin at an offset.
-fn first_wrong(file: &[u8], counts: &[u16], first: u16) -> usize
+// The lowest row whose fifth number is not its counter, counted from 0; the rows begin at an offset.
+fn first_wrong(file: &[u8], counts: &[u16], first: u16) -> Option<usize>
     requires { length counts.now ≤ most_symbols }
-    ensures { result ≡ wrong_in file.now counts.now first }
+    ensures { result ≡ row_below (wrong_in file.now counts.now first) (length counts.now) }
 {
-    for k in 0..counts.len() {
+    for (k, &count) in counts.iter().enumerate() {
         let at = (first as usize) + SYMBOL_BYTES * k;
-        if fields::read_two(file, at + NUMBER_E) != counts[k] {
-            return k;
+        if fields::read_two(file, at + NUMBER_E) != count {
+            return Some(k);
         }
     }
-    counts.len()
+    None
 }
 
 // The same, once the records are counted.
-fn first_miscounted(file: &[u8], counts: &mut [u16], l: Layout) -> usize
+fn first_miscounted(file: &[u8], counts: &mut [u16], l: Layout) -> Option<usize>
     requires { length counts.old ≤ most_symbols }
     ensures { result
-        ≡ wrong_in file.now (count_f file.now l.records l.tree counts.old) l.first }
+        ≡ row_below (wrong_in file.now (count_f file.now l.records l.tree counts.old) l.first) (length counts.old) }
 {
     count_fields(file, counts, l.tree, l.records);
     first_wrong(file, counts, l.first)
 }
 
 // The same, with all counters 0 before.
-fn wrong_row(file: &[u8], l: Layout) -> usize
+fn wrong_row(file: &[u8], l: Layout) -> Option<usize>
     requires { l.symbols ≤ most_symbols }
-    ensures { result ≡ wrong_f file.now l }
+    ensures { result ≡ row_below (wrong_f file.now l) l.symbols }
 {
     let mut counts = [0u16; MOST_SYMBOLS];
     let symbols = l.symbols as usize;
@@ -659,14 +629,13 @@ fn check_counts(file: &[u8], layout: Layout, tally: Tally) -> Result<Whole, Refu
     requires { layout.symbols ≤ most_symbols }
     ensures { result ≡ counted_f file.now layout tally }
 {
-    let wrong = wrong_row(file, layout);
-    if wrong < (layout.symbols as usize) {
-        return Err(Refusal {
+    match wrong_row(file, layout) {
+        Some(row) => Err(Refusal {
             reason: Reason::WrongNumber,
-            place: (layout.first as usize) + SYMBOL_BYTES * wrong,
-        });
+            place: (layout.first as usize) + SYMBOL_BYTES * row,
+        }),
+        None => Ok(Whole { layout, tally }),
     }
-    Ok(Whole { layout, tally })
 }
 
 // The symbol rows from an offset on, and the tree, in a file with so many scope rows.
@@ -688,7 +657,7 @@ fn check_symbols(file: &[u8], settings: Field, scopes: u16, first: usize) -> Res
         first: first.min(MOST_BYTES) as u16,
         tree: symbol_rows.next.min(MOST_BYTES) as u16,
     };
-    let end = check_unmarked(file, rows, symbol_rows.next)?;
+    let end = check_unmarked(Source { file, rows }, symbol_rows.next)?;
     check_counts(file, with_records(layout, end.tally.records), end.tally)
 }
 
@@ -701,16 +670,11 @@ fn check_rows(file: &[u8], settings: Field) -> Result<Whole, Refusal>
 }
 
 // The settings of a file, its rows and its tree.
+#[tactic(auto, unfolding(crate::specs::Flat::settings_f))]
 fn check_settings(file: &[u8], settings: Field) -> Result<Whole, Refusal>
     ensures { result ≡ settings_f file.now settings }
 {
-    if mode::INLINE < settings.a {
-        return Err(Refusal {
-            reason: Reason::WrongNumber,
-            place: 0,
-        });
-    }
-    if 1 < settings.b {
+    if mode::INLINE < settings.a || 1 < settings.b {
         return Err(Refusal {
             reason: Reason::WrongNumber,
             place: 0,

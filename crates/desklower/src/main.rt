@@ -10,20 +10,13 @@ use std::io::Read;
 // The most bytes that are read.
 const MOST_READ: u64 = 65536;
 
-fn write_file(rt: &impl Print, out: &[u8], length: u64) -> io::Result<()> {
-    if length <= (out.len() as u64) {
-        rt.write_all(&out[..(length as usize)])?;
-    }
-    Ok(())
-}
-
 fn lower(rt: &impl Print, file: &[u8]) -> io::Result<()> {
-    let mut records = [0u16; 28672];
-    let mut scopes = [0u16; 3072];
-    let mut symbols = [0u16; 6144];
+    let mut records = [0u16; 4096 * 7];
+    let mut scopes = [0u16; 1024 * 3];
+    let mut symbols = [0u16; 1024 * 6];
     let mut out = [0u8; 65536];
     match lowering::lower(file, &mut records, &mut scopes, &mut symbols, &mut out) {
-        Ok(figures) => write_file(rt, &out, figures.bytes),
+        Ok(figures) => rt.write_all(out.get(..(figures.bytes as usize)).unwrap_or_default()),
         Err(refusal) => println!(rt; "{refusal}"),
     }
 }

@@ -118,66 +118,53 @@ pub const MOST_RECORD_BYTES: usize = CATCH_BYTES;
 
 // ---- bytes and fields
 
-// The byte at an offset, or 0 behind the end.
+// The byte at an offset, or 0 behind the end: the clauses of `tag_at` and `read_two` have that 0, so no `Option` here and there.
 fn byte(file: &[u8], at: usize) -> u8
     ensures { result ≡ get_or file.now at 0 }
 {
-    if at < file.len() { file[at] } else { 0 }
+    file.get(at).copied().unwrap_or(0)
 }
 
 // Two bytes as a number, high byte first.
 fn join(high: u8, low: u8) -> u16
     ensures { result ≡ high * 256 + low }
 {
-    (high as u16) * 256 + (low as u16)
+    u16::from_be_bytes([high, low])
 }
 
-// The number at an offset; a missing byte reads as 0.
-fn two_at(file: &[u8], at: usize) -> u16
+// The number at an offset of a file; a missing byte reads as 0.
+#[tactic(auto, unfolding(meaning::specs::Grammar::two))]
+pub fn read_two(file: &[u8], at: usize) -> u16
     ensures { result ≡ two file.now at }
 {
-    let high = byte(file, at);
-    let low = if at < file.len() {
-        byte(file, at + 1)
-    } else {
-        0
-    };
-    join(high, low)
-}
-
-// Stores a byte; past the end nothing happens.
-pub fn put(file: &mut [u8], at: usize, b: u8)
-    ensures { file.new ≡ set file.old at b }
-{
-    if at < file.len() {
-        file[at] = b;
-    }
+    let low = at.saturating_add(1);
+    join(byte(file, at), byte(file, low))
 }
 
 // Stores a number, high byte first; what lies past the end is left out.
+#[tactic(auto, unfolding(meaning::specs::File::two_bytes))]
 pub fn put_two(file: &mut [u8], at: usize, n: u16)
     ensures { file.new ≡ sets file.old at (two_bytes (n ∷ [])) }
 {
-    put(file, at, (n / 256) as u8);
-    if at < file.len() {
-        put(file, at + 1, (n % 256) as u8);
-    }
+    let [high, low] = n.to_be_bytes();
+    tables::put(file, at, high);
+    tables::put(file, at.saturating_add(1), low);
 }
 
-// The tag at an offset, or 0 behind the end.
+// The tag at an offset of a file, or 0 behind the end, which is no tag.
 pub fn tag_at(file: &[u8], at: usize) -> u16
     ensures { result ≡ get_or file.now at 0 }
 {
-    byte(file, at) as u16
+    u16::from(byte(file, at))
 }
 
-// The bytes of the numbers of a field of this tag, and 0 for a tag that does not exist.
+// The bytes of the numbers of a field of this tag, and 0 for a tag that does not exist, as the table has it.
+#[tactic(auto, using(crate::proofs::Lengths::lengths_right), unfolding(crate::specs::Lengths::lengths))]
 pub fn length_of(tag: u16) -> u8
     ensures entry { result ≡ get_or lengths tag 0 }
     ensures rule { result ≡ 2 * numbers_of tag }
 {
-    let t = tag as usize;
-    if t < LENGTHS.len() { LENGTHS[t] } else { 0 }
+    LENGTHS.get(tag as usize).copied().unwrap_or(0)
 }
 
 // How many numbers a tag has.
@@ -188,10 +175,11 @@ pub fn numbers_of(tag: u16) -> u8
 }
 
 // The bytes of a field of this tag.
+#[tactic(auto, unfolding(meaning::specs::File::field_bytes))]
 pub fn bytes_of(tag: u16) -> u16
     ensures { result ≡ field_bytes tag }
 {
-    (HEAD_BYTES as u16) + (length_of(tag) as u16)
+    (HEAD_BYTES as u16) + u16::from(length_of(tag))
 }
 
 // ---- which tags a place takes
@@ -200,93 +188,78 @@ pub fn bytes_of(tag: u16) -> u16
 fn is_statement(tag: u16) -> bool
     ensures { result ≡ one_of statements tag }
 {
-    match tag {
+    matches!(
+        tag,
         tag::BLOCK
-        | tag::PLAIN
-        | tag::LABEL
-        | tag::FOR
-        | tag::FOR_OF
-        | tag::SWITCH
-        | tag::TRY
-        | tag::FUNCTION
-        | tag::CLASS
-        | tag::STEP => true,
-        _ => false,
-    }
+            | tag::PLAIN
+            | tag::LABEL
+            | tag::FOR
+            | tag::FOR_OF
+            | tag::SWITCH
+            | tag::TRY
+            | tag::FUNCTION
+            | tag::CLASS
+            | tag::STEP
+    )
 }
 
 // An expression.
 fn is_expression(tag: u16) -> bool
     ensures { result ≡ one_of expressions tag }
 {
-    match tag {
-        tag::FUNCTION | tag::CLASS | tag::EXPRESSION | tag::READ | tag::CALL | tag::LOAD => true,
-        _ => false,
-    }
+    matches!(
+        tag,
+        tag::FUNCTION | tag::CLASS | tag::EXPRESSION | tag::READ | tag::CALL | tag::LOAD
+    )
 }
 
 // What may stand in Program.
 fn is_program_item(tag: u16) -> bool
     ensures { result ≡ one_of (Tag.Declaration ∷ Tag.ModuleLine ∷ Tag.DefaultExport ∷ Tag.ExportedDeclaration ∷ statements) tag }
 {
-    match tag {
-        tag::DECLARATION | tag::MODULE_LINE | tag::DEFAULT_EXPORT | tag::EXPORTED_DECLARATION =>
-            true,
-        _ => is_statement(tag),
-    }
+    matches!(
+        tag,
+        tag::DECLARATION | tag::MODULE_LINE | tag::DEFAULT_EXPORT | tag::EXPORTED_DECLARATION
+    ) || is_statement(tag)
 }
 
 // What may stand in a list of statements.
 fn is_list_item(tag: u16) -> bool
     ensures { result ≡ one_of (Tag.Declaration ∷ statements) tag }
 {
-    match tag {
-        tag::DECLARATION => true,
-        _ => is_statement(tag),
-    }
+    tag == tag::DECLARATION || is_statement(tag)
 }
 
 // What may stand in a Plain.
 fn is_plain_item(tag: u16) -> bool
     ensures { result ≡ one_of (statements ++ expressions) tag }
 {
-    match tag {
-        tag::EXPRESSION | tag::READ | tag::CALL | tag::LOAD => true,
-        _ => is_statement(tag),
-    }
+    is_statement(tag) || is_expression(tag)
 }
 
 // What may stand left in a For or a ForOf.
 fn is_left(tag: u16) -> bool
     ensures { result ≡ one_of (Tag.Declaration ∷ expressions) tag }
 {
-    match tag {
-        tag::DECLARATION => true,
-        _ => is_expression(tag),
-    }
+    tag == tag::DECLARATION || is_expression(tag)
 }
 
 // What may stand in a Class.
 fn is_class_item(tag: u16) -> bool
     ensures { result ≡ one_of (Tag.StaticBlock ∷ expressions) tag }
 {
-    match tag {
-        tag::STATIC_BLOCK => true,
-        _ => is_expression(tag),
-    }
+    tag == tag::STATIC_BLOCK || is_expression(tag)
 }
 
 // What an ExportedDeclaration may export.
 fn is_exported(tag: u16) -> bool
     ensures { result ≡ one_of (Tag.Declaration ∷ Tag.Function ∷ Tag.Class ∷ []) tag }
 {
-    match tag {
-        tag::DECLARATION | tag::FUNCTION | tag::CLASS => true,
-        _ => false,
-    }
+    matches!(tag, tag::DECLARATION | tag::FUNCTION | tag::CLASS)
 }
 
 // Whether a tag may stand at a place.
+#[tactic(auto, unfolding(meaning::specs::Grammar::allowed, meaning::specs::Grammar::tags_of))]
 pub fn is_allowed(place: Place, tag: u16) -> bool
     ensures { result ≡ allowed place tag }
 {
@@ -299,38 +272,37 @@ pub fn is_allowed(place: Place, tag: u16) -> bool
         Place::ListItem => is_list_item(tag),
         Place::Statement => is_statement(tag),
         Place::PlainItem => is_plain_item(tag),
-        Place::Declarator => tag == tag::DECLARATOR,
-        Place::ForOfDeclarator => tag == tag::DECLARATOR,
+        Place::Declarator | Place::ForOfDeclarator => tag == tag::DECLARATOR,
         Place::Name => tag == tag::NAME,
-        Place::ForLeft => is_left(tag),
-        Place::ForOfLeft => is_left(tag),
-        Place::Expression => is_expression(tag),
-        Place::SwitchExpression => is_expression(tag),
+        Place::ForLeft | Place::ForOfLeft => is_left(tag),
+        Place::Expression | Place::SwitchExpression | Place::DefaultExport => is_expression(tag),
         Place::Case => tag == tag::CASE,
         Place::TryPart => tag == tag::BLOCK,
         Place::Catch => tag == tag::CATCH,
         Place::Body => tag == tag::BODY,
         Place::ClassItem => is_class_item(tag),
-        Place::DefaultExport => is_expression(tag),
         Place::ExportedDeclaration => is_exported(tag),
         Place::Specifier => tag == tag::SPECIFIER,
     }
 }
 
-// Number i of the whole field at an offset, or 0 where the field has no such number.
+// Number i of the whole field at an offset, or 0 where the field has no such number. It stays beside `number_of`: a whole field's bytes are
+// read without a test of the file's end.
+#[tactic(auto, unfolding(meaning::specs::Grammar::number, meaning::specs::Grammar::two))]
 fn read_number(file: &[u8], at: usize, count: u8, i: u8) -> u16
     requires { at + (head_bytes + 2 * count) ≤ length file.now }
     ensures { result ≡ number file.now at count i }
 {
     if i < count {
-        let from = at + HEAD_BYTES + NUMBER_BYTES * (i as usize);
-        return join(file[from], file[from + 1]);
+        let from = at + HEAD_BYTES + NUMBER_BYTES * usize::from(i);
+        join(file[from], file[from + 1])
+    } else {
+        0
     }
-    0
 }
 
-// The field at an offset: head cut, tag, length, payload cut.
-fn field_at(file: &[u8], place: Place, at: usize) -> Result<Field, Refusal>
+// The field at an offset of a file: head cut, tag, length, payload cut.
+pub fn read_field(file: &[u8], place: Place, at: usize) -> Result<Field, Refusal>
     ensures { result ≡ field_at file.now place at }
 {
     let left = file.len().saturating_sub(at);
@@ -348,7 +320,7 @@ fn field_at(file: &[u8], place: Place, at: usize) -> Result<Field, Refusal>
         });
     }
     let length = length_of(tag);
-    if two_at(file, at + TAG_BYTES) != (length as u16) {
+    if read_two(file, at + TAG_BYTES) != u16::from(length) {
         return Err(Refusal {
             reason: Reason::WrongLength,
             place: at,
@@ -371,15 +343,17 @@ fn field_at(file: &[u8], place: Place, at: usize) -> Result<Field, Refusal>
     })
 }
 
-// Number i of the field at an offset that may not be whole, or 0 where a field of its tag has no such number.
+// Number i of the field at an offset that may not be whole, or 0 where a field of its tag has no such number: a field is filled up with 0.
+#[tactic(auto, unfolding(meaning::specs::Grammar::number))]
 fn number_of(file: &[u8], at: usize, count: u8, i: u8) -> u16
     requires { at ≤ 4294967295 }
     ensures { result ≡ number file.now at count i }
 {
     if i < count {
-        return two_at(file, at + HEAD_BYTES + NUMBER_BYTES * (i as usize));
+        read_two(file, at + HEAD_BYTES + NUMBER_BYTES * usize::from(i))
+    } else {
+        0
     }
-    0
 }
 
 // The field at an offset, whatever stands there: nothing is checked, and a missing byte reads as 0.
@@ -428,34 +402,13 @@ impl<'a> Reader<'a> {
     pub fn number(self) -> u16
         ensures { result ≡ two self.entry.file.now self.entry.at }
     {
-        two_at(self.file, self.at)
+        read_two(self.file, self.at)
     }
 
     // The field at the offset: head cut, tag, length, payload cut.
     pub fn field(self, place: Place) -> Result<Field, Refusal>
         ensures { result ≡ field_at self.entry.file.now place self.entry.at }
     {
-        field_at(self.file, place, self.at)
+        read_field(self.file, place, self.at)
     }
-}
-
-// The tag at an offset of a file.
-pub fn read_tag(file: &[u8], at: usize) -> u16
-    ensures { result ≡ get_or file.now at 0 }
-{
-    Reader::new(file, at).tag()
-}
-
-// The number at an offset of a file; a missing byte reads as 0.
-pub fn read_two(file: &[u8], at: usize) -> u16
-    ensures { result ≡ two file.now at }
-{
-    Reader::new(file, at).number()
-}
-
-// The field at an offset of a file.
-pub fn read_field(file: &[u8], place: Place, at: usize) -> Result<Field, Refusal>
-    ensures { result ≡ field_at file.now place at }
-{
-    Reader::new(file, at).field(place)
 }

@@ -92,7 +92,7 @@ fn is_body(role: Role) -> bool
 fn is_using(x: Field) -> bool
     ensures { result ≡ is_using (head_of x) }
 {
-    x.tag == tag::DECLARATION && matches!(x.a, kind::USING | kind::AWAIT_USING)
+    x.tag == tag::DECLARATION && kind::is_using(x.a)
 }
 
 // The role of the body of a ForOf whose children begin at this offset: its first is a Declaration, with its Declarator and its Name.
@@ -102,10 +102,7 @@ fn body_role(file: &[u8], at: usize) -> Role
 {
     if at < file.len()
         && fields::tag_at(file, at) == tag::DECLARATION
-        && matches!(
-            fields::read_two(file, at + KIND_AT),
-            kind::USING | kind::AWAIT_USING
-        )
+        && kind::is_using(fields::read_two(file, at + KIND_AT))
         && fields::read_two(file, at + PATTERN_AT) == 0
     {
         Role::Body(fields::read_two(file, at + SYMBOL_AT))
@@ -173,7 +170,7 @@ impl<'a> SymbolRows<'a> {
         (0..self.count).any(|i| self.row_binds(i, scope, name))
     }
 
-    // Number j of row y, counted from 1, or 0 where there is no such row.
+    // Number j of row y, counted from 1, or 0 where there is no such row: the row of zeros that the clause names, so no `Option`.
     fn number_of(&self, y: SymbolId, j: u8) -> u16
         ensures { result ≡ (if is_row self.now.count y.0 then two self.now.file.now (rows_from self.now.scopes + symbol_bytes * (y.0 - 1) + (head_bytes + 2 * j)) else 0) }
     {

@@ -57,7 +57,8 @@ fn load_runtime(symbols: &mut [u16], ctx: Ctx) -> Ctx
     }
 }
 
-// The Load of a context. Runtime: the helper's symbol; else: the symbol of `babelHelpers` seen from the current scope, or 0.
+// The Load of a context. Runtime: the helper's symbol; else: the symbol of `babelHelpers` seen from the current scope, or 0, the number
+// that the Load's row has for none.
 #[tactic(auto, unfolding(crate::specs::Load::helper_load_f))]
 pub fn helper_load(scopes: &[u16], symbols: &mut [u16], ctx: Ctx, cur: ScopeId) -> Loaded
     ensures { loading symbols.new result ≡ helper_load_f scopes.now (in_symbols symbols.old ctx) cur.0 }

@@ -55,6 +55,7 @@ pub fn run(
 {
     let mut w = walk;
     let mut k: u32 = 0;
+    // No `for`: a call makes more than one visit.
     while k < limit {
         if walk::is_over(w, records) {
             break;

@@ -1,4 +1,6 @@
 // The names that 01 gives a number: `babelHelpers`, `_`, `default`, `_default`, `using_ctx`.
+//
+// No enum: all other names are numbers of the file's own.
 pub const BABEL_HELPERS: u16 = 1;
 
 pub const UNDERSCORE: u16 = 2;

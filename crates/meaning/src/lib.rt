@@ -2,6 +2,8 @@
 #![tactic(auto)]
 
 ghost use Rattle.std.specs.Prelude.{◌≡◌};
+ghost use Rattle.meaning.specs.Tree.{hd};
+ghost use Rattle.meaning.specs.Grammar.{scope_of};
 ghost use Rattle.meaning.specs.Refusals.{number_of};
 
 use std::error::Error;
@@ -19,14 +21,15 @@ pub mod step_form;
 pub mod symbol_flag;
 pub mod tag;
 
-// Numbers of scope, symbol and record rows, from 1 on; 0 is none.
-#[derive(Clone, Copy)]
+// Numbers of scope, symbol and record rows, from 1 on; 0 is none, as in the format and the tables, so that no `Option` says it a second time.
+// Three types, so that none is taken for another.
+#[derive(Clone, Copy, Debug, PartialEq, Eq)]
 pub struct ScopeId(pub u16);
 
-#[derive(Clone, Copy)]
+#[derive(Clone, Copy, Debug, PartialEq, Eq)]
 pub struct SymbolId(pub u16);
 
-#[derive(Clone, Copy)]
+#[derive(Clone, Copy, Debug, PartialEq, Eq)]
 pub struct RecordId(pub u16);
 
 // A place where a field may stand.
@@ -58,7 +61,7 @@ pub enum Place {
 }
 
 // A field: its tag, its numbers filled up with 0, and the offset behind it.
-#[derive(Clone, Copy)]
+#[derive(Clone, Copy, Debug, PartialEq, Eq)]
 pub struct Field {
     pub tag: u16,
     pub a: u16,
@@ -66,6 +69,25 @@ pub struct Field {
     pub c: u16,
     pub d: u16,
     pub next: usize,
+}
+
+// The scope row that a record with this tag names, by its first two numbers, or 0.
+#[tactic(auto, unfolding(crate::specs::Grammar::scope_of))]
+pub fn scope_named(tag: u16, a: u16, b: u16) -> ScopeId
+    ensures { result.0 ≡ scope_of (hd tag a b 0) }
+{
+    ScopeId(match tag {
+        tag::PROGRAM
+        | tag::BLOCK
+        | tag::PLAIN
+        | tag::FOR
+        | tag::FOR_OF
+        | tag::SWITCH
+        | tag::CATCH
+        | tag::STATIC_BLOCK => a,
+        tag::FUNCTION | tag::CLASS => b,
+        _ => 0,
+    })
 }
 
 // Why a file is refused. Each reason has a number, which C and the programs tell.

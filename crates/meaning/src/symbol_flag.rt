@@ -1,4 +1,6 @@
 // The flags of a symbol.
+//
+// Numbers that add up, and no enum: a row may hold any other number too, and what becomes of it is fixed (`tables::row_after`).
 pub const FUNCTION_SCOPED: u16 = 1;
 
 pub const BLOCK_SCOPED: u16 = 2;

@@ -1,4 +1,6 @@
 // The tags of 01's fields.
+//
+// No enum: a field or a row may hold any other number too, and what becomes of it is fixed (`fields::field_of`, `tables::row_after`).
 pub const PROGRAM: u16 = 1;
 
 pub const BLOCK: u16 = 2;

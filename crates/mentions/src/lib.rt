@@ -66,7 +66,7 @@ fn first_named(r: Row) -> SymbolId
     })
 }
 
-// The second one of a Step, or 0.
+// The second one of a Step, or 0, as above.
 #[tactic(auto, unfolding(meaning::specs::Mentions::second_named))]
 fn second_named(r: Row) -> SymbolId
     ensures { result.0 ≡ second_named (head_f r) }

@@ -215,7 +215,7 @@ fn put_number(file: &mut [u8], s: Spot)
 {
     match s.value {
         None => {}
-        Some(tag) if s.count == 0 => fields::put(file, s.at, (tag % 256) as u8),
+        Some(tag) if s.count == 0 => tables::put(file, s.at, (tag % 256) as u8),
         Some(number) => {
             fields::put_two(file, s.at + TAG_BYTES + NUMBER_BYTES * s.count, number);
         }
@@ -282,11 +282,11 @@ fn put_decimal(text: &mut [u8], at: usize, most: usize, n: u16) -> usize
         return at;
     }
     if n < 10 {
-        fields::put(text, at, b'0' + (n as u8));
+        tables::put(text, at, b'0' + (n as u8));
         return at + 1;
     }
     let end = put_decimal(text, at, most - 1, n / 10);
-    fields::put(text, end, b'0' + ((n % 10) as u8));
+    tables::put(text, end, b'0' + ((n % 10) as u8));
     end + 1
 }
 
@@ -297,7 +297,7 @@ fn put_byte(text: &mut [u8], at: usize, b: u8) -> usize
     ensures upper_bound { result ≤ at + 4 }
 {
     let end = put_decimal(text, at, TAG_DIGITS, u16::from(b));
-    fields::put(text, end, b'.');
+    tables::put(text, end, b'.');
     end + 1
 }
 
@@ -322,7 +322,7 @@ fn put_numbers(bytes: &[u8], text: &mut [u8], at: usize) -> usize
     let mut end = at;
     let mut before = b':';
     for i in 0..bytes.len() / NUMBER_BYTES {
-        fields::put(text, end, before);
+        tables::put(text, end, before);
         let number = fields::read_two(bytes, NUMBER_BYTES * i);
         end = put_decimal(text, end + 1, NUMBER_DIGITS, number);
         before = b',';
@@ -349,7 +349,7 @@ fn put_gap(rest: &[u8], text: &mut [u8], at: usize) -> usize
     if rest.is_empty() {
         at
     } else {
-        fields::put(text, at, b' ');
+        tables::put(text, at, b' ');
         at + 1
     }
 }

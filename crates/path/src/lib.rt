@@ -14,7 +14,8 @@ use meaning::{RecordId, ScopeId, tag};
 use scoping::Ctx;
 use tables::{Cursor, Row, record};
 
-// The last row visited, the last free row, the last row in use, the innermost open row or 0, and the counters.
+// The last row visited, the last free row, the last row in use, the innermost open row or 0, and the counters. The three lent tables stay
+// three parameters beside it: a struct that held them would ask of each function a clause that each reference is the one that it was.
 #[derive(Clone, Copy)]
 pub struct Walk {
     pub visited: RecordId,
@@ -77,23 +78,12 @@ impl Walk {
 
 // ---- scopes of open rows
 
-// The scope that a record has, or 0.
+// The scope that a record has, or 0, as its clause says.
 #[tactic(auto, unfolding(meaning::specs::Grammar::scope_of))]
 pub fn scope_of(r: Row) -> ScopeId
     ensures { result.0 ≡ scope_of (head_f r) }
 {
-    ScopeId(match r.tag {
-        tag::PROGRAM
-        | tag::BLOCK
-        | tag::PLAIN
-        | tag::FOR
-        | tag::FOR_OF
-        | tag::SWITCH
-        | tag::CATCH
-        | tag::STATIC_BLOCK => r.a,
-        tag::FUNCTION | tag::CLASS => r.b,
-        _ => 0,
-    })
+    meaning::scope_named(r.tag, r.a, r.b)
 }
 
 // The row before another.

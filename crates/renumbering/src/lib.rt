@@ -12,7 +12,7 @@ use tables::Row;
 
 // ---- one scope
 
-// The new number of a scope, or 0 if it has none.
+// The new number of a scope, or 0 if it has none: the parent of the root scope is written so, and no `Option` is.
 #[tactic(auto, unfolding(crate::specs::Numbers::number_in))]
 pub fn new_number(numbers: &[u16], s: ScopeId) -> u16
     ensures { result ≡ number_in numbers.now s.0 }

@@ -237,7 +237,7 @@ fn block_scope(records: &[u16], s: LastChild) -> LastChild
     }
 }
 
-// A Block's scope, or 0.
+// A Block's scope, or 0, as above.
 #[tactic(auto, unfolding(crate::specs::Tries::if_block_f))]
 fn if_block(r: Row) -> ScopeId
     ensures { result.0 ≡ if_block_f r }
@@ -249,7 +249,7 @@ fn if_block(r: Row) -> ScopeId
     }
 }
 
-// The scope of the last Block of a list, or 0.
+// The scope of the last Block of a list, or 0, as above.
 #[tactic(auto, unfolding(crate::specs::Tries::last_block_scope_f), using(tables::specs::Loops::next_turn, tables::specs::Loops::last_turn))]
 fn last_block_scope(records: &[u16], after: RecordId, n: u16) -> ScopeId
     ensures { result.0 ≡ last_block_scope_f records.now after.0 n }

@@ -236,23 +236,12 @@ pub fn is_right(place: Place, symbols: usize, x: Field) -> bool
 
 // ---- scopes and children
 
-// The scope row that a record names, or 0.
+// The scope row that a record names, or 0, as its clause says.
 #[tactic(auto, unfolding(meaning::specs::Grammar::scope_of, meaning::specs::Grammar::head_of, meaning::specs::File::own_numbers, meaning::specs::File::has_children, meaning::specs::File::numbers_of))]
 pub fn scope_in(x: Field) -> ScopeId
     ensures { result.0 ≡ scope_of (head_of x) }
 {
-    match x.tag {
-        tag::PROGRAM
-        | tag::BLOCK
-        | tag::PLAIN
-        | tag::FOR
-        | tag::FOR_OF
-        | tag::SWITCH
-        | tag::CATCH
-        | tag::STATIC_BLOCK => ScopeId(x.a),
-        tag::FUNCTION | tag::CLASS => ScopeId(x.b),
-        _ => ScopeId(0),
-    }
+    meaning::scope_named(x.tag, x.a, x.b)
 }
 
 // The current scope below a record with scope s.

@@ -91,7 +91,8 @@ const MADE: usize = symbol::MADE as usize;
 
 // ---- numbers of rows
 
-// A number of row i, by 1, of the first `count` rows of `width` numbers, or 0 if there is no such row.
+// A number of row i, by 1, of the first `count` rows of `width` numbers, or 0 if there is no such row: the clauses of `scope_number` and
+// `symbol_number` have that 0, so no `Option`.
 fn number(rows: &[u16], width: usize, count: u16, i: u16, f: u16) -> u16
     requires narrow { width ≤ SymbolTable.Numbers }
     ensures { result ≡ number_f width rows.now count i f }
@@ -145,6 +146,8 @@ fn put_symbol(symbols: &mut [u16], count: u16, y: SymbolId, f: u16, v: u16)
 }
 
 // ---- scopes
+//
+// Each setter is a call that the Rust makes by this name; one that took the column would be called by all of them.
 
 // `create_child_scope`: a new scope takes strict from its parent besides its flags.
 #[tactic(auto, unfolding(crate::specs::Changes::create_child_scope_f))]
@@ -329,7 +332,7 @@ pub fn get_binding(symbols: &[u16], count: u16, f: u16, scope: ScopeId, name: u1
     binding_from(symbols, count, Sought { f, scope, name }, 0, SymbolId(0))
 }
 
-// The name seen from a scope, or 0: all symbol rows are looked at for each scope on the way outwards.
+// The name seen from a scope, or 0 as in `find_binding`'s clause: all symbol rows are looked at for each scope on the way outwards.
 fn search_outwards(scopes: &[u16], symbols: &[u16], ctx: Ctx, from: ScopeId, name: u16) -> SymbolId
     ensures { result.0 ≡ find_binding ctx.scopes (store_f scopes.now symbols.now ctx) from.0 name }
 {
@@ -405,7 +408,7 @@ fn climbs_to(scopes: &[u16], count: u16, from: ScopeId, to: ScopeId) -> bool
     false
 }
 
-// `find_binding`: the name seen from a scope, or 0. If one row alone binds the name, only that row's scope is looked for.
+// `find_binding`: the name seen from a scope, or 0, which a Load's row has for none, so no `Option`. If one row alone binds the name, only that row's scope is looked for.
 pub fn find_binding(scopes: &[u16], symbols: &[u16], ctx: Ctx, from: ScopeId, name: u16) -> SymbolId
     ensures { result.0 ≡ find_binding ctx.scopes (store_f scopes.now symbols.now ctx) from.0 name }
 {

@@ -35,6 +35,24 @@ by_rows_lem true true false f = refl
 by_rows_lem true false x₃ f = refl
 by_rows_lem false x₂ x₃ f = refl
 
+in_turn : (x₁ x₂ x₃ : Bool) (q : Surveyed)
+    → (if x₁ then (if x₂ then (if x₃ then Ok q else refused Reason.FewRows 2) else refused Reason.FewRows 1) else refused Reason.FewRows 0)
+    ≡ (ensure x₁ Reason.FewRows 0 >> (ensure x₂ Reason.FewRows 1 >> (ensure x₃ Reason.FewRows 2 >> Ok q)))
+in_turn true true true q = refl
+in_turn true true false q = refl
+in_turn true false x₃ q = refl
+in_turn false x₂ x₃ q = refl
+
+-- one table after another
+pub tables_tested : (q : Surveyed) (r s y : List ℕ)
+    → admit_by (Ok q) r s y
+    ≡ (ensure (leb q.figures.records (length r / 7)) Reason.FewRows 0
+    >> (ensure (leb q.figures.scopes (length s / 3)) Reason.FewRows 1
+    >> (ensure (leb q.figures.symbols (length y / 6)) Reason.FewRows 2 >> Ok q)))
+unfolding admit_by
+tables_tested q r s y =
+    in_turn (leb q.figures.records (length r / 7)) (leb q.figures.scopes (length s / 3)) (leb q.figures.symbols (length y / 6)) q
+
 module _ (b r s y : List ℕ) where
   by_file : (o : Outcome File)
       → admit_by (surveyed_of o) r s y ≡ surveyed_of (o >>= (λ f. check_rows (lent_in r s y) (final_figures f) >> Ok f))

@@ -1,7 +1,7 @@
 -- The tables that are filled hold the file just read.
 -- Assumes nothing.
 use Rattle.meaning.specs.declared.Reason.TheVariants as Reason
-use Rattle.meaning.specs.Refusals.{Outcome, refused}
+use Rattle.meaning.specs.Refusals.{Outcome}
 use Rattle.std.specs.Prelude.{Ok, Err, ◌≡◌, Bool, true, false, List, [], ◌++◌, leb}
 use Rattle.std.proofs.Math.Path.{refl}
 use Rattle.std.proofs.Common.{ap, subst, append-nil, zero-add, leb-true}

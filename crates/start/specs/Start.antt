@@ -1,6 +1,6 @@
 -- What start answers and leaves in the lent tables.
 -- Assumes nothing.
-use Rattle.meaning.specs.Refusals.{Outcome, refused}
+use Rattle.meaning.specs.Refusals.{Outcome}
 use Rattle.std.specs.Prelude.{Ok, Err, List, ◌++◌, ℕ, ◌*◌, ◌-◌, ◌/◌, length, replicate}
 use Rattle.meaning.specs.Tree.{size}
 use Rattle.meaning.specs.Mentions.{mentions}

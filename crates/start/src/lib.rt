@@ -4,8 +4,10 @@
 // records behind the free rows in theirs. The counts of symbols stand behind the rows for which their table has numbers.
 #![tactic(auto)]
 
-ghost use Rattle.std.specs.Prelude.{if◌then◌else◌, ◌≡◌, ◌≤◌, min, ltb, length, replicate};
+ghost use Rattle.std.specs.Prelude.{if◌then◌else◌, ◌≡◌, ◌≤◌, min, ltb, leb, length, replicate};
 ghost use Rattle.path.specs.Path.{tables};
+ghost use Rattle.meaning.specs.declared.Reason.TheVariants as Reason;
+ghost use Rattle.meaning.specs.Reading.{ensure};
 ghost use Rattle.meaning.specs.Lowering as lowering;
 ghost use Rattle.checking.specs.Survey.{surveyed_of};
 ghost use Rattle.start.specs.Flat.{scope_into_f, scopes_f, symbol_into_f, symbols_f, records_f, walk_f, fill_f};
@@ -32,11 +34,13 @@ pub fn clear(table: &mut [u16])
 }
 
 // Scope row k, counted from 0.
+#[tactic(auto, unfolding(crate::specs::Flat::scope_into_f))]
 fn put_scope(file: &[u8], scopes: &mut [u16], k: u16)
     ensures { scopes.new ≡ scope_into_f file.now scopes.old k }
 {
-    let at = SCOPE_BYTES * ((k as usize) + 1);
-    let to = (k as usize) * scope::NUMBERS;
+    let k = usize::from(k);
+    let at = SCOPE_BYTES * (k + 1);
+    let to = k * scope::NUMBERS;
     tables::put(scopes, to, fields::read_two(file, at + NUMBER_A));
     tables::put(scopes, to + 1, fields::read_two(file, at + NUMBER_B));
 }
@@ -50,12 +54,14 @@ fn put_scopes(file: &[u8], scopes: &mut [u16], count: u16)
 }
 
 // Symbol row k, counted from 0; its scope is stored twice, as it stands and as read.
+#[tactic(auto, unfolding(crate::specs::Flat::symbol_into_f))]
 fn put_symbol(file: &[u8], symbols: &mut [u16], first: u16, k: u16)
     ensures { symbols.new ≡ symbol_into_f file.now first symbols.old k }
 {
-    let at = (first as usize) + SYMBOL_BYTES * (k as usize);
+    let k = usize::from(k);
+    let at = usize::from(first) + SYMBOL_BYTES * k;
     let scope = fields::read_two(file, at + NUMBER_C);
-    let to = (k as usize) * symbol::NUMBERS;
+    let to = k * symbol::NUMBERS;
     tables::put(symbols, to, fields::read_two(file, at + NUMBER_A));
     tables::put(symbols, to + 1, fields::read_two(file, at + NUMBER_B));
     tables::put(symbols, to + 2, scope);
@@ -81,6 +87,7 @@ fn own_number(count: u8, i: u8, v: u16) -> u16
 }
 
 // The row of a record that is not open.
+#[tactic(auto, unfolding(representation::specs::Run::record_row, meaning::specs::Grammar::head_of))]
 fn row_of(x: Field) -> Row
     ensures { result ≡ record_row x }
 {
@@ -99,7 +106,7 @@ fn row_of(x: Field) -> Row
 fn put_records(file: &[u8], records: &mut [u16], free: u16, end: u16, tree: u16)
     ensures { records.new ≡ records_f file.now free end tree records.old }
 {
-    let mut at = tree as usize;
+    let mut at = usize::from(tree);
     for k in free..end {
         let x = fields::field_of(file, at as u32);
         tables::put_row(records, RecordId(k), row_of(x));
@@ -110,6 +117,7 @@ fn put_records(file: &[u8], records: &mut [u16], free: u16, end: u16, tree: u16)
 // ---- the tables
 
 // Before the first visit.
+#[tactic(auto, unfolding(crate::specs::Flat::walk_f))]
 fn walk_of(l: Layout, free: u16, end: u16) -> Walk
     ensures { result ≡ walk_f l free end }
 {
@@ -131,6 +139,7 @@ fn walk_of(l: Layout, free: u16, end: u16) -> Walk
 }
 
 // The tree just read into the tables, with `end` record rows in use.
+#[tactic(auto, unfolding(crate::specs::Flat::fill_f))]
 pub fn fill(
     file: &[u8],
     l: Layout,
@@ -152,6 +161,20 @@ pub fn fill(
     walk_of(l, free, end)
 }
 
+// Refuses a table that is lent with too few rows, by its number.
+#[tactic(auto, unfolding(meaning::specs::Reading::ensure))]
+fn enough(lent: usize, needed: u64, place: usize) -> Result<(), Refusal>
+    ensures { result ≡ ensure (leb needed lent) Reason.FewRows place }
+{
+    if (lent as u64) < needed {
+        return Err(Refusal {
+            reason: Reason::FewRows,
+            place,
+        });
+    }
+    Ok(())
+}
+
 // ---- public
 
 // The layout and the figures of a file that is accepted and for which enough rows are lent: 01's refusals 1 to 9.
@@ -166,24 +189,9 @@ pub fn admit(
 {
     let surveyed = checking::survey(file)?;
     let needed = surveyed.figures;
-    if ((records.len() / record::NUMBERS) as u64) < needed.records {
-        return Err(Refusal {
-            reason: Reason::FewRows,
-            place: 0,
-        });
-    }
-    if ((scopes.len() / scope::LENT) as u64) < needed.scopes {
-        return Err(Refusal {
-            reason: Reason::FewRows,
-            place: 1,
-        });
-    }
-    if ((symbols.len() / symbol::LENT) as u64) < needed.symbols {
-        return Err(Refusal {
-            reason: Reason::FewRows,
-            place: 2,
-        });
-    }
+    enough(records.len() / record::NUMBERS, needed.records, 0)?;
+    enough(scopes.len() / scope::LENT, needed.scopes, 1)?;
+    enough(symbols.len() / symbol::LENT, needed.symbols, 2)?;
     Ok(surveyed)
 }
 

@@ -1,17 +1,13 @@
 -- Usings taken up by a context, as their rows pass.
 -- Assumes nothing.
-use Rattle.std.specs.Prelude.{if◌then◌else◌, [], ◌∷◌, Bool, ◌&&◌, ℕ, ◌-◌, eqb, ltb}
+use Rattle.std.specs.Prelude.{if◌then◌else◌, Bool, ◌&&◌, ℕ, ◌-◌, eqb, ltb}
 use Rattle.meaning.specs.Numbers.Tag
 use Rattle.meaning.specs.Numbers.Kind
-use Rattle.meaning.specs.Tree.{one_of}
 use Rattle.meaning.specs.Statements.{is_using, is_await_using, letter_if}
 use Rattle.tables.specs.Loops.{turns}
 use Rattle.tables.specs.Table.{row_f, closed_row_f, head_f}
 use Rattle.tables.specs.Stream.{Buf, emit_f, replace_row_f, copy_row_f, copy_f}
 use Rattle.tables.specs.declared.Row.{Row}
-
-abbrev pub is_using_kind_f : ℕ → Bool
-is_using_kind_f kind = one_of (Kind.Using ∷ Kind.AwaitUsing ∷ []) kind
 
 -- a Declarator with more children than Names
 unfoldable pub has_initializer_f : Row → Bool

@@ -5,7 +5,7 @@ ghost use Rattle.std.specs.Prelude.{◌≡◌};
 ghost use Rattle.meaning.specs.Statements.{is_using, is_await_using, letter_if};
 ghost use Rattle.tables.specs.Table.{capped, head_f};
 ghost use Rattle.tables.specs.Stream.{buf};
-ghost use Rattle.statements.specs.TakeUp.{is_using_kind_f, has_initializer_f, as_const_f, take_up_declarator_f, take_up_declarators_f, take_up_item_f, take_up_f};
+ghost use Rattle.statements.specs.TakeUp.{has_initializer_f, as_const_f, take_up_declarator_f, take_up_declarators_f, take_up_item_f, take_up_f};
 ghost use Rattle.statements.specs.Plan.{count_one_f, initializers_f, wraps_f, plan_one_f, plan_f, no_plan};
 ghost use Rattle.statements.specs.Try.{line_f, step_form, declare_f, declare_context_f, catch_clause_f, finally_block_f, handlers_f, open_try_f, transform_list_f};
 
@@ -31,7 +31,8 @@ pub const CONTEXT_ROWS: u16 = 11;
 // The rows that a context adds where its list goes into a new Block: that Block, too.
 pub const WRAPPED_CONTEXT_ROWS: u16 = 12;
 
-// The last row looked at, and a count so far.
+// The last row looked at, and a count so far. Four loops count so, each with its own step: one loop for all would take the step as a closure,
+// with a contract longer than they are.
 #[derive(Clone, Copy)]
 pub struct Counting {
     pub at: RecordId,
@@ -49,19 +50,12 @@ pub struct Plan {
 
 // ---- tests
 
-// `using` or `await using`.
-fn is_using_kind(kind: u16) -> bool
-    ensures { result ≡ is_using_kind_f kind }
-{
-    matches!(kind, kind::USING | kind::AWAIT_USING)
-}
-
 // A Declaration that is a using, or is recorded as one.
 #[tactic(auto, unfolding(meaning::specs::Statements::is_using))]
 pub fn is_using(r: Row) -> bool
     ensures { result ≡ is_using (head_f r) }
 {
-    r.tag == tag::DECLARATION && (is_using_kind(r.a) || is_using_kind(r.b))
+    r.tag == tag::DECLARATION && (kind::is_using(r.a) || kind::is_using(r.b))
 }
 
 // A Declaration that is an `await using`, or is recorded as one.

@@ -6,6 +6,9 @@
 //
 // A pass reads at the right end of the free rows and writes at their left end, so that a made row takes a free one and no row behind the
 // list that is rewritten moves. A row is named by the number of rows up to it, from 1 on; a place between rows by the row before it.
+//
+// The memory is the caller's, since there is no heap, and C lends it as such slices. A row may hold any number there (`row_after`), so tags
+// and kinds are numbers with names, and no enums.
 #![tactic(auto)]
 
 pub mod record;
@@ -42,15 +45,15 @@ pub struct Cursor {
 
 // ---- numbers
 
-// The number at a place, or 0 past the end.
+// The number at a place, or 0 past the end: the clause's number, so no `Option`.
 pub fn get(table: &[u16], at: usize) -> u16
     ensures { result ≡ get_or table.now at 0 }
 {
     table.get(at).copied().unwrap_or(0)
 }
 
-// Stores a number; past the end nothing happens.
-pub fn put(table: &mut [u16], at: usize, v: u16)
+// Stores a number or a byte; past the end nothing happens.
+pub fn put<T: Copy>(table: &mut [T], at: usize, v: T)
     ensures { table.new ≡ set table.old at v }
 {
     // By index: of the slice after a `get_mut` the library promises nothing.
@@ -208,6 +211,8 @@ pub fn end_after(records: &[u16], after: RecordId, count: u16) -> RecordId
 }
 
 // ---- behind the rows of the other tables
+//
+// Two functions of one line: one with the widths as parameters would be called by two that name them.
 
 // Where the new numbers of scopes stand: behind the rows for which the table has numbers.
 #[tactic(auto, unfolding(crate::specs::Table::new_numbers_at))]

@@ -1,38 +1,45 @@
 // A line is `FILE|CHECK|FIGURES`: a file, and the answers of `check` and `figures`. An answer is `refused NUMBER PLACE` or `ok`, for `figures`
 // with records, scopes, symbols, contexts and bytes.
 use figures::FinalFigures;
-use test_lines::{lines, memory};
+use std::alloc::{AllocError, Global};
+use test_lines::lines;
 
-fn check_agrees(file: &[u8], line: &[u8], at: usize) -> bool {
+fn check_agrees(file: &[u8], told: &str) -> bool {
     match checking::check(file) {
-        Ok(()) => lines::is_fine(line, at),
-        Err(refusal) => lines::same_refusal(line, at, refusal),
+        Ok(()) => told == "ok",
+        Err(refusal) => lines::same_refusal(told, refusal),
     }
 }
 
-fn same_figures(line: &[u8], at: usize, g: FinalFigures) -> bool {
-    let bytes = lines::behind_figures(line, at, g);
-    if bytes == 0 {
-        return false;
-    }
-    let n = lines::read_number(line, bytes);
-    (n.value as u64) == g.bytes
+fn all_figures_told(told: &str) -> Option<FinalFigures> {
+    let (figures, bytes) = lines::figures_told(told)?;
+    Some(FinalFigures {
+        bytes: bytes.parse().ok()?,
+        ..figures
+    })
 }
 
-fn figures_agree(file: &[u8], line: &[u8], at: usize) -> bool {
+fn figures_agree(file: &[u8], told: &str) -> bool {
     match checking::figures(file) {
-        Ok(figures) => same_figures(line, at, figures),
-        Err(refusal) => lines::same_refusal(line, at, refusal),
+        Ok(figures) => all_figures_told(told) == Some(figures),
+        Err(refusal) => lines::same_refusal(told, refusal),
     }
 }
 
-pub fn agrees(line: &[u8]) -> bool {
-    let mut buffer = [0u8; memory::LARGE];
-    let n = lines::read_hex(line, 0, &mut buffer);
-    let file = lines::part(&buffer, 0, n);
-    let check = lines::behind(line, 0, b'|');
-    if !check_agrees(file, line, check) {
-        return false;
+pub fn agrees(alloc: Global, line: &str) -> Result<bool, AllocError> {
+    let Some((digits, check, figures)) = lines::three_parts(line) else {
+        return Ok(false);
+    };
+    let Some(file) = lines::decoded(alloc, digits)? else {
+        return Ok(false);
+    };
+    Ok(check_agrees(&file, check) && figures_agree(&file, figures))
+}
+
+// The file of a line.
+pub fn file(alloc: Global, line: &str) -> Result<Option<Vec<u8>>, AllocError> {
+    match lines::three_parts(line) {
+        Some((digits, _, _)) => lines::decoded(alloc, digits),
+        None => Ok(None),
     }
-    figures_agree(file, line, lines::behind(line, check, b'|'))
 }

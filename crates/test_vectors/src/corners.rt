@@ -2,80 +2,78 @@
 // empty one the empty file. What comes of it is printed. The tables lent have 64 records, 24 scopes and 16 symbols, the output 724 bytes:
 // enough for every case but those that show refusals 9 and 10.
 use figures::FinalFigures;
-use meaning::Refusal;
+use std::alloc::{AllocError, Global};
 use std::io;
-use test_lines::lines::Seen;
-use test_lines::{lines, memory};
+use test_lines::lines;
+use test_lines::memory::{Memory, Rows};
 
-fn show_file(rt: &impl Print, name: &[u8], file: &[u8]) -> io::Result<()> {
-    lines::put(rt, name)?;
-    if 0 < file.len() {
-        lines::put(rt, b" ")?;
+const TOO_LONG: &str = "zeros";
+
+const LENT: Rows = Rows {
+    records: 64,
+    scopes: 24,
+    symbols: 16,
+};
+
+fn is_heading(line: &str) -> bool {
+    line.starts_with('#')
+}
+
+fn show_file(rt: &(impl Print + AllocGlobal), name: &str, file: &[u8]) -> io::Result<()> {
+    let space = if file.is_empty() { "" } else { " " };
+    let text = lines::shown(rt.alloc(), file)?;
+    println!(rt; "  {name}:{space}{text}")
+}
+
+fn show_figures(rt: &impl Print, figures: FinalFigures) -> io::Result<()> {
+    let FinalFigures {
+        records,
+        scopes,
+        symbols,
+        contexts,
+        bytes,
+    } = figures;
+    println!(rt;
+        "  figures: records {records}, scopes {scopes}, symbols {symbols}, contexts {contexts}, bytes {bytes}"
+    )
+}
+
+fn show_lowered(rt: &(impl Print + AllocGlobal), file: &[u8]) -> io::Result<()> {
+    let mut memory = Memory::new(rt.alloc(), LENT, 724)?;
+    match memory.lower(file) {
+        Ok(figures) => {
+            memory.out.truncate(figures.bytes as usize);
+            show_file(rt, "out", &memory.out)?;
+            show_figures(rt, figures)
+        }
+        Err(refusal) => println!(rt; "  {refusal}"),
     }
-    let mut text = [0u8; memory::LARGE];
-    let n = notation::show(file, &mut text);
-    lines::put(rt, lines::part(&text, 0, n))?;
-    lines::put(rt, b"\n")
 }
 
-fn show_figures(rt: &impl Print, f: FinalFigures) -> io::Result<()> {
-    lines::put_number(rt, b"  figures: records ", f.records)?;
-    lines::put_number(rt, b", scopes ", f.scopes)?;
-    lines::put_number(rt, b", symbols ", f.symbols)?;
-    lines::put_number(rt, b", contexts ", f.contexts)?;
-    lines::put_number(rt, b", bytes ", f.bytes)?;
-    lines::put(rt, b"\n")
-}
-
-fn show_written(rt: &impl Print, f: FinalFigures, out: &[u8]) -> io::Result<()> {
-    show_file(rt, b"  out:", lines::part(out, 0, f.bytes as usize))?;
-    show_figures(rt, f)
-}
-
-fn show_refusal(rt: &impl Print, refusal: Refusal) -> io::Result<()> {
-    println!(rt; "  {refusal}")
-}
-
-fn show_lowered(rt: &impl Print, file: &[u8]) -> io::Result<()> {
-    let mut records = [0u16; 448];
-    let mut scopes = [0u16; 72];
-    let mut symbols = [0u16; 96];
-    let mut out = [0u8; 724];
-    match lowering::lower(file, &mut records, &mut scopes, &mut symbols, &mut out) {
-        Ok(figures) => show_written(rt, figures, &out),
-        Err(refusal) => show_refusal(rt, refusal),
+fn show_line(rt: &(impl Print + AllocGlobal), line: &str) -> io::Result<()> {
+    if is_heading(line) {
+        return println!(rt; "{line}");
     }
-}
-
-fn show_case(rt: &impl Print, line: &[u8]) -> io::Result<()> {
-    let mut buffer = [0u8; 4096];
-    let n = notation::encode(line, &mut buffer);
-    let file = lines::part(&buffer, 0, n);
-    show_file(rt, b"  in:", file)?;
-    show_lowered(rt, file)
-}
-
-// A file that no line can hold: 65,536 zeros.
-fn show_too_long(rt: &impl Print) -> io::Result<()> {
-    let file = [0u8; memory::LARGE];
+    if line == TOO_LONG {
+        return show_lowered(rt, &[0u8; lines::LARGE]);
+    }
+    let file = lines::encoded(rt.alloc(), line)?;
+    show_file(rt, "in", &file)?;
     show_lowered(rt, &file)
 }
 
-pub fn show_line(rt: &impl Print, line: &[u8], seen: Seen) -> io::Result<Seen> {
-    let c = lines::byte(line, 0);
-    match c {
-        b'#' => {
-            lines::put(rt, line)?;
-            lines::put(rt, b"\n")?;
-            Ok(seen)
-        }
-        b'z' => {
-            show_too_long(rt)?;
-            lines::add(rt, seen, true)
-        }
-        _ => {
-            show_case(rt, line)?;
-            lines::add(rt, seen, true)
-        }
+// How many files there were.
+pub fn show(rt: &(impl Print + AllocGlobal), text: &str) -> io::Result<usize> {
+    for line in text.lines() {
+        show_line(rt, line)?;
     }
+    Ok(text.lines().filter(|line| !is_heading(line)).count())
+}
+
+// The file of a line, but for the one that is too long.
+pub fn file(alloc: Global, line: &str) -> Result<Option<Vec<u8>>, AllocError> {
+    if is_heading(line) || line == TOO_LONG {
+        return Ok(None);
+    }
+    Ok(Some(lines::encoded(alloc, line)?))
 }

@@ -1,117 +1,67 @@
 // A line is `R S Y OUT|FILE|ANSWER`: the rows and output bytes that are lent, a file, and what `lower` answers: `refused NUMBER PLACE`, or `ok`
 // with records, scopes, symbols, contexts and the written file.
 use figures::FinalFigures;
-use meaning::Refusal;
-use test_lines::{lines, memory};
+use std::alloc::{AllocError, Global};
+use test_lines::lines;
+use test_lines::memory::{Memory, Rows};
 
 // ---- answers
 
-fn answer_agrees(
-    answer: Result<FinalFigures, Refusal>,
-    line: &[u8],
-    at: usize,
-    records: &[u16],
-    scopes: &[u16],
-    symbols: &[u16],
-    out: &[u8],
-) -> bool {
-    match answer {
-        Ok(g) => {
-            if !memory::written_agrees(line, at, g, out) {
-                return false;
-            }
-            memory::all_tables(records, scopes, symbols, 0)
-        }
-        Err(refusal) => {
-            if !memory::refusal_agrees(line, at, refusal, out) {
-                return false;
-            }
-            memory::all_tables(records, scopes, symbols, memory::NUMBER)
-        }
-    }
+fn written_agrees(
+    alloc: Global,
+    memory: &Memory,
+    figures: FinalFigures,
+    told: &str,
+) -> Result<bool, AllocError> {
+    let Some((first, digits)) = lines::figures_told(told) else {
+        return Ok(false);
+    };
+    let Some(file) = lines::decoded(alloc, digits)? else {
+        return Ok(false);
+    };
+    let bytes = file.len() as u64;
+    Ok(figures == FinalFigures { bytes, ..first } && memory.holds_written(&file))
 }
 
 // ---- a lowering
 
-fn replay(
-    file: &[u8],
-    line: &[u8],
-    at: usize,
-    records: &mut [u16],
-    scopes: &mut [u16],
-    symbols: &mut [u16],
-    out: &mut [u8],
-) -> bool {
-    memory::fill_numbers(records);
-    memory::fill_numbers(scopes);
-    memory::fill_numbers(symbols);
-    memory::fill_bytes(out);
-    let answer = lowering::lower(file, records, scopes, symbols, out);
-    answer_agrees(answer, line, at, records, scopes, symbols, out)
+// The rows and the output bytes that are lent; none where a line asks for more than the desk lends.
+fn lent(text: &str) -> Option<(Rows, usize)> {
+    let (rows, bytes) = text.rsplit_once(' ')?;
+    let rows = Rows::told(rows, ' ')?;
+    let bytes = bytes.parse().ok()?;
+    if rows.records <= 4096
+        && rows.scopes <= 1024
+        && rows.symbols <= 1024
+        && bytes <= lines::LARGE
+    {
+        Some((rows, bytes))
+    } else {
+        None
+    }
 }
 
-// With so many rows, and some numbers more that make no row.
-fn replay_lent(
-    file: &[u8],
-    line: &[u8],
-    at: usize,
-    r: usize,
-    s: usize,
-    y: usize,
-    out: &mut [u8],
-) -> bool {
-    let mut records = [0u16; 28679];
-    let mut scopes = [0u16; 3075];
-    let mut symbols = [0u16; 6150];
-    if 4096 < r {
-        return false;
+pub fn agrees(alloc: Global, line: &str) -> Result<bool, AllocError> {
+    let Some((numbers, digits, told)) = lines::three_parts(line) else {
+        return Ok(false);
+    };
+    let Some((rows, bytes)) = lent(numbers) else {
+        return Ok(false);
+    };
+    let Some(file) = lines::decoded(alloc, digits)? else {
+        return Ok(false);
+    };
+    let mut memory = Memory::filled(alloc, rows, bytes)?;
+    match memory.lower(&file) {
+        Ok(figures) => written_agrees(alloc, &memory, figures, told),
+        Err(refusal) => Ok(lines::same_refusal(told, refusal) && memory.is_untouched()),
     }
-    if 1024 < s {
-        return false;
-    }
-    if 1024 < y {
-        return false;
-    }
-    replay(
-        file,
-        line,
-        at,
-        &mut records[..(r * 7 + r % 7)],
-        &mut scopes[..(s * 3 + s % 3)],
-        &mut symbols[..(y * 6 + y % 6)],
-        out,
-    )
 }
 
-// With so many output bytes.
-fn replay_file(file: &[u8], line: &[u8], at: usize) -> bool {
-    let mut out = [0u8; memory::LARGE];
-    let records = lines::read_number(line, 0);
-    let scopes = lines::read_number(line, records.next);
-    let symbols = lines::read_number(line, scopes.next);
-    let bytes = lines::read_number(line, symbols.next);
-    let o = bytes.value;
-    if out.len() < o {
-        return false;
+// The file of a line.
+pub fn file(alloc: Global, line: &str) -> Result<Option<Vec<u8>>, AllocError> {
+    match lines::three_parts(line) {
+        Some((_, digits, _)) => lines::decoded(alloc, digits),
+        None => Ok(None),
     }
-    replay_lent(
-        file,
-        line,
-        at,
-        records.value,
-        scopes.value,
-        symbols.value,
-        &mut out[..o],
-    )
-}
-
-pub fn agrees(line: &[u8]) -> bool {
-    let mut buffer = [0u8; memory::LARGE];
-    let file = lines::behind(line, 0, b'|');
-    let n = lines::read_hex(line, file, &mut buffer);
-    replay_file(
-        lines::part(&buffer, 0, n),
-        line,
-        lines::behind(line, file, b'|'),
-    )
 }

@@ -44,7 +44,7 @@ fn put_field(out: &mut [u8], to: Offset, tag: u16, a: u16, b: u16, c: u16, d: u1
     ensures { out.new ≡ sets out.old to.at (field_with tag a b c d) }
 {
     let count = fields::numbers_of(tag);
-    fields::put(out, to.at, tag as u8);
+    tables::put(out, to.at, tag as u8);
     fields::put_two(out, to.at + TAG_BYTES, fields::length_of(tag) as u16);
     put_number(out, to, count, 0, a);
     put_number(out, to, count, 1, b);

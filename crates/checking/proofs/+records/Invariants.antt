@@ -27,8 +27,8 @@ abbrev pub invariant-check_children-loop-k : goal.invariant-check_children-loop-
 invariant-check_children-loop-k l =
     (1 ≤ l.levels)
     × (l.k ≤ l.n)
-    × (children_f l.levels l.file l.rows.scopes l.rows.symbols l.around l.role_around l.x l.scope.0 l.initial.marks
+    × (children_f l.levels l.source.file.now l.source.rows.scopes l.source.rows.symbols l.site.place l.site.role l.x l.site.scope.0 l.initial.marks
     ≡ list_f
     (λ j s a m.
-    record_f l.levels l.file l.rows.scopes l.rows.symbols (place_of l.around l.x j) (ups_f l.file l.role_around l.x j) l.scope.0 s a m)
+    record_f l.levels l.source.file.now l.source.rows.scopes l.source.rows.symbols (place_of l.site.place l.x j) (ups_f l.source.file.now l.site.role l.x j) l.site.scope.0 s a m)
     (l.n - l.k) l.k l.done.tally l.done.at l.marks)

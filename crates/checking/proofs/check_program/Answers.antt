@@ -8,7 +8,7 @@ returns c =
     record_first _ _ _ _ _ _ _ _ _ _ _
     (record_entered _ _ _ _ _ _ _ _ _ _ _ _ (rw c.in_ok-x.was at c.enter_record.ensures)
     c.check_entered.ensures)
-    c.no_tally-tally.ensures
+    c.no_tally.ensures
 
 pub returns-in_err-x : goal.returns-in_err-x
 returns-in_err-x c =

@@ -1,6 +1,6 @@
 -- `checking::first_wrong` meets its contract. Assumes nothing.
 use mathlib.Core.Path.{◌≡◌}
-use Prim.Native.Nat.{◌+◌, ◌-◌, ◌≤◌}
+use Prim.Native.Nat.{◌+◌, ◌≤◌}
 use lib.ListN.{length}
 use Rattle.checking.specs.Flat.{wrong_in}
 use Rattle.checking.proofs.Counts.{wrong_from}

@@ -5,24 +5,8 @@ use Rattle.checking.proofs.read_right.Goals as goal
 
 pub returns-in_err-x : goal.returns-in_err-x
 unfolding right_at
-returns-in_err-x c = rw (handed_on _ c.from_residual.ensures.1, ← c.read_field.ensures, c.in_err-x.was)
-
-pub returns-then-not-is_right : goal.returns-then-not-is_right
-unfolding right_at
-returns-then-not-is_right c =
-    rw (
-      ← c.read_field.ensures,
-      c.in_ok-x.was,
-      ← c.is_right.ensures,
-      c.if-not-is_right.true,
-    )
+returns-in_err-x c = rw (handed_on _ c.from_residual.ensures.1, ← c.field.ensures, c.in_err-x.was)
 
 pub returns : goal.returns
 unfolding right_at
-returns c =
-    rw (
-      ← c.read_field.ensures,
-      c.in_ok-x.was,
-      ← c.is_right.ensures,
-      c.if-not-is_right.false,
-    )
+returns c = rw (← c.field.ensures, c.in_ok-x.was, ← c.is_right.ensures) c.judged.ensures

@@ -5,24 +5,8 @@ use Rattle.checking.proofs.read_scope.Goals as goal
 
 pub returns-in_err-x : goal.returns-in_err-x
 unfolding scope_at
-returns-in_err-x c = rw (handed_on _ c.from_residual.ensures.1, ← c.read_field.ensures, c.in_err-x.was)
-
-pub returns-then-not-scope_right : goal.returns-then-not-scope_right
-unfolding scope_at
-returns-then-not-scope_right c =
-    rw (
-      ← c.read_field.ensures,
-      c.in_ok-x.was,
-      ← c.scope_right.ensures,
-      c.if-not-scope_right.true,
-    )
+returns-in_err-x c = rw (handed_on _ c.from_residual.ensures.1, ← c.field.ensures, c.in_err-x.was)
 
 pub returns : goal.returns
 unfolding scope_at
-returns c =
-    rw (
-      ← c.read_field.ensures,
-      c.in_ok-x.was,
-      ← c.scope_right.ensures,
-      c.if-not-scope_right.false,
-    )
+returns c = rw (← c.field.ensures, c.in_ok-x.was, ← c.scope_right.ensures) c.judged.ensures

@@ -5,24 +5,8 @@ use Rattle.checking.proofs.read_symbol.Goals as goal
 
 pub returns-in_err-x : goal.returns-in_err-x
 unfolding symbol_at
-returns-in_err-x c = rw (handed_on _ c.from_residual.ensures.1, ← c.read_field.ensures, c.in_err-x.was)
-
-pub returns-then-not-symbol_right : goal.returns-then-not-symbol_right
-unfolding symbol_at
-returns-then-not-symbol_right c =
-    rw (
-      ← c.read_field.ensures,
-      c.in_ok-x.was,
-      ← c.symbol_right.ensures,
-      c.if-not-symbol_right.true,
-    )
+returns-in_err-x c = rw (handed_on _ c.from_residual.ensures.1, ← c.field.ensures, c.in_err-x.was)
 
 pub returns : goal.returns
 unfolding symbol_at
-returns c =
-    rw (
-      ← c.read_field.ensures,
-      c.in_ok-x.was,
-      ← c.symbol_right.ensures,
-      c.if-not-symbol_right.false,
-    )
+returns c = rw (← c.field.ensures, c.in_ok-x.was, ← c.symbol_right.ensures) c.judged.ensures

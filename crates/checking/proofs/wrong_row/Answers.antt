@@ -13,4 +13,4 @@ first_miscounted-requires c = zeros_few most_symbols _ c.requires
 pub returns : goal.returns
 unfolding wrong_f
 returns c =
-    rw (← take_zeros most_symbols _ c.requires) c.first_miscounted.ensures
+    rw (← zeros_length most_symbols _ c.requires, take_zeros most_symbols _ c.requires) at c.first_miscounted.ensures

@@ -15,7 +15,7 @@ pub loop-i-preserved : goal.loop-i-preserved
 loop-i-preserved c =
     let i = c.loop-i.i in
     let e : 2 * (i + 1) ≡ 2 * i + 2 = omega arith in (
-      c.put_decimal-end.auto.text ∙ c.put.auto.file ∙ c.loop-i.invariant.0,
+      c.put_decimal-end.auto.text ∙ c.put.auto.table ∙ c.loop-i.invariant.0,
       omega (arith, c.put_decimal-end.ensures.upper_bound),
       rw e
           (left_more _ _ _ _ _ _ _ _ _ _ c.loop-i.invariant.2 (numbers_more _ _ _ _ (omega arith) c.read_two-number.ensures)

@@ -8,7 +8,7 @@ use borrow.Author.Rules.{rules}
 use Rattle.start.proofs.put_records.Goals as goal
 
 pub loop-k-init : goal.loop-k-init
-loop-k-init c = (search rules, search rules, refl, refl)
+loop-k-init c = (search rules, search rules, refl, rw c.from-at.ensures)
 
 pub loop-k-preserved : goal.loop-k-preserved
 loop-k-preserved c =

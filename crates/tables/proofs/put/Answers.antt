@@ -5,8 +5,8 @@ use borrow.Author.Rules.{rules}
 use Rattle.tables.proofs.put.Goals as goal
 
 pub returns-then-at-table : goal.returns-then-at-table
-returns-then-at-table c = search rules
+returns-then-at-table g c = search rules
 
 pub returns-else-at-table : goal.returns-else-at-table
-returns-else-at-table c =
+returns-else-at-table g c =
     sym (set_out _ _ _ c.if-at-table.false)

@@ -1,4 +1,5 @@
--- `fields::field_at` meets its contract. Assumes nothing.
+-- `fields::read_field` meets its contract. Assumes nothing.
+use mathlib.Core.Path.{◌∙◌}
 use Prim.Native.Nat.{◌+◌}
 use native.Mathlib.Omega.{arith}
 use lib.ListN.{length}
@@ -6,7 +7,7 @@ use borrow.Author.Tests.{eq-eqb, ne_eqb, lt-ltb, le-ltb}
 use Rattle.meaning.specs.File.{field_bytes}
 use Rattle.meaning.specs.Grammar.{field_at, field_of}
 use Rattle.fields.specs.Lengths.{half}
-use Rattle.fields.proofs.field_at.Goals as goal
+use Rattle.fields.proofs.read_field.Goals as goal
 
 pub returns-then-left-lt-HEAD_BYTES : goal.returns-then-left-lt-HEAD_BYTES
 unfolding field_at
@@ -27,9 +28,9 @@ returns-then-not-is_allowed c =
       c.if-not-is_allowed.true,
     )
 
-pub returns-then-two_at-length : goal.returns-then-two_at-length
+pub returns-then-read_two-from : goal.returns-then-read_two-from
 unfolding field_at
-returns-then-two_at-length c =
+returns-then-read_two-from c =
     let file = c.args.file.now in
     let at = c.args.at in
     rw (
@@ -37,9 +38,9 @@ returns-then-two_at-length c =
       ← c.tag_at-tag.ensures,
       ← c.is_allowed.ensures,
       c.if-not-is_allowed.false,
-      ← c.two_at.ensures,
+      ← c.read_two.ensures,
       ← c.length_of-length.ensures.rule,
-      ne_eqb _ _ c.if-two_at-length.true,
+      ne_eqb _ _ (rw c.from.ensures at c.if-read_two-from.true),
     )
 
 pub returns-then-left-length : goal.returns-then-left-length
@@ -52,9 +53,9 @@ returns-then-left-length c =
       ← c.tag_at-tag.ensures,
       ← c.is_allowed.ensures,
       c.if-not-is_allowed.false,
-      ← c.two_at.ensures,
+      ← c.read_two.ensures,
       ← c.length_of-length.ensures.rule,
-      eq-eqb _ _ c.if-two_at-length.false,
+      eq-eqb _ _ (c.if-read_two-from.false ∙ c.from.ensures),
       lt-ltb (length file) (at + (3 + c.length_of-length.result)) (omega arith),
     )
 
@@ -68,10 +69,10 @@ returns c =
       ← c.tag_at-tag.ensures,
       ← c.is_allowed.ensures,
       c.if-not-is_allowed.false,
-      ← c.two_at.ensures,
+      ← c.read_two.ensures,
       ← c.length_of-length.ensures.rule,
       half c.length_of-length.ensures.rule,
-      eq-eqb _ _ c.if-two_at-length.false,
+      eq-eqb _ _ (c.if-read_two-from.false ∙ c.from.ensures),
       le-ltb (length file) (at + (3 + c.length_of-length.result)) (omega arith),
       ← c.read_number.ensures,
       ← c.read_number-2.ensures,
