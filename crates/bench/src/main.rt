@@ -30,7 +30,7 @@ fn figures(file: &[u8]) -> u64 {
     repeated(|| checking::figures(file).map_or(0, |figures| figures.records))
 }
 
-// The length written, or 0.
+// The length written, or 0. The memory stands on the stack, as a caller without a heap would lend it.
 fn lower(file: &[u8]) -> u64 {
     let mut records = [0u16; 150000];
     let mut scopes = [0u16; 30720];

@@ -1,10 +1,10 @@
 -- The turns of the pass that counts mentions, and of the search for a wrong count.
 -- Assumes nothing.
-use Rattle.std.specs.Prelude.{if◌then◌else◌}
-use mathlib.Core.Path.{◌≡◌}
+use Rattle.std.specs.Prelude.{if◌then◌else◌, Option, Some, None, MatchOption}
+use mathlib.Core.Path.{◌≡◌, refl}
 use mathlib.Core.Bool.{true, false}
 use mathlib.Core.List.{List}
-use Prim.Native.Nat.{ℕ, suc, ◌+◌, ◌*◌, ◌-◌, ◌≤◌, ◌<◌}
+use Prim.Native.Nat.{ℕ, zero, suc, ◌+◌, ◌*◌, ◌-◌, ◌≤◌, ◌<◌}
 use native.Mathlib.Nat.{zero-add}
 use native.Mathlib.Omega.{arith}
 use lib.Dec.{eqb}
@@ -19,7 +19,8 @@ use Rattle.tables.specs.Loops.{turns, next_turn}
 use Rattle.tables.specs.Table.{closed_row_f, head_f}
 use Rattle.tables.specs.declared.Row.{Row}
 use Rattle.mentions.specs.Counters.{add_record_f}
-use Rattle.checking.specs.Flat.{Counting, counting, next_count, wrong_in}
+use Rattle.checking.specs.Flat.{Counting, counting, next_count, wrong_in, row_below}
+use Rattle.checking.proofs.Laws.{row_here, row_behind}
 
 -- ---- the records
 
@@ -82,3 +83,22 @@ module _ (f t : List ℕ) (first k : ℕ) where
       let none_left : length t - k ≡ 0 = omega arith in
       let e : w ≡ k + 0 = rw none_left at so_far in
       omega arith
+
+-- what is the first row with a wrong count, or none
+module _ (f t : List ℕ) (first : ℕ) where
+  abbrev Fine : ℕ → Type 0
+  Fine k = two f (first + symbol_bytes * k + 11) ≡ get_or t k 0
+
+  past : (d i w : ℕ) → w ≡ i + wrong_from f t first i → i + d ≤ length t → ((j : ℕ) → i ≤ j → j < i + d → Fine j) → w ≡ (i + d) + wrong_from f t first (i + d)
+  past zero i w e h all = let z : i + 0 ≡ i = omega arith in rw z e
+  past (suc d) i w e h all =
+      let s : i + 1 + d ≡ i + suc d = omega arith in
+      rw s at (past d (i + 1) w (wrong_step f t first i w _ e refl (omega arith) (all i (omega arith) (omega arith))) (omega arith) (λ j a b. all j (omega arith) (omega arith)))
+
+  from_first : (k : ℕ) → k ≤ length t → ((j : ℕ) → 0 ≤ j → j < k → Fine j) → wrong_in f t first ≡ k + wrong_from f t first k
+  from_first k h all = let z : 0 + k ≡ k = omega arith in rw z at (past k 0 _ (wrong_first f t first) (omega arith) (λ j a b. all j a (omega arith)))
+
+  pub first_row : (r : Option ℕ) → MatchOption r ((k : ℕ) → 0 ≤ k → k < length t → Fine k) (λ k. (0 ≤ k) × (k < length t) × (Fine k → ⊥) × ((j : ℕ) → 0 ≤ j → j < k → Fine j))
+      → r ≡ row_below (wrong_in f t first) (length t)
+  first_row None h = row_behind _ _ _ (wrong_end f t first _ _ (from_first (length t) (omega arith) h) (omega arith)) (omega arith)
+  first_row (Some k) h = row_here _ _ _ (wrong_here f t first k _ _ (from_first k (omega (arith, h.1)) h.3) refl h.1 h.2) h.1

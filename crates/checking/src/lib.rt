@@ -12,8 +12,8 @@ ghost use Rattle.figures.specs.Figures.{figured_of};
 ghost use Rattle.meaning.specs.declared.Place.TheVariants.{Program as ProgramPlace};
 ghost use Rattle.figures.specs.declared.tally.Role.TheVariants.{Plain as PlainRole};
 ghost use Rattle.figures.specs.Tally.{no_tally};
-ghost use Rattle.checking.specs.Flat.{expression_at, expression_here, right_at, is_whole, expression_size, mention_size, leaf_size, entered, enter_f, past, record_f, children_f, after_f, below_last, tree_f, count_f, row_below, wrong_in, wrong_f, with_records, counted_f, run_answer, symbols_f, rows_f, settings_f, file_f, checked_of};
-ghost use Rattle.checking.specs.Survey.{with_figures, surveyed_of};
+ghost use Rattle.checking.specs.Flat.{expression_at, expression_here, right_at, is_whole, expression_size, mention_size, leaf_size, entered, enter_f, past, record_f, children_f, after_f, below_last, tree_f, count_f, row_below, wrong_in, wrong_f, with_records, counted_f, symbols_f, rows_f, settings_f, file_f, checked_of};
+ghost use Rattle.checking.specs.Survey.{surveyed_of};
 
 use fields::{
     EXPRESSION_BYTES, HEAD_BYTES, LENGTHS, MENTION_BYTES, NUMBER_A, NUMBER_B, NUMBER_E, Reader,
@@ -99,6 +99,8 @@ pub struct Surveyed {
 
 // ---- one record
 
+// Marks are numbers as in the definitions (`unnamed`), 0 and 1.
+//
 // Marks row s as named, if a record below the scope `cur` may name it; row 0 is none.
 #[tactic(auto, unfolding(meaning::specs::Grammar::may_name, meaning::specs::Grammar::naming, meaning::specs::Grammar::parent_in))]
 fn name_scope(file: &[u8], marks: &mut [u8], cur: ScopeId, s: ScopeId) -> bool
@@ -438,6 +440,9 @@ fn check_children(
 }
 
 // ---- the rows before the tree
+//
+// Scope rows and symbol rows are read by twins, each of which follows its own definition (`scope_at` and `symbol_at`, `read_scopes` and
+// `read_symbols`): one loop for both would take the test and the reading as closures, and be no shorter.
 
 // Scope row k, counted from 0.
 fn read_scope(here: Reader, k: usize) -> Result<Field, Refusal>
@@ -583,13 +588,9 @@ fn first_wrong(file: &[u8], counts: &[u16], first: u16) -> Option<usize>
     requires { length counts.now ≤ most_symbols }
     ensures { result ≡ row_below (wrong_in file.now counts.now first) (length counts.now) }
 {
-    for (k, &count) in counts.iter().enumerate() {
-        let at = (first as usize) + SYMBOL_BYTES * k;
-        if fields::read_two(file, at + NUMBER_E) != count {
-            return Some(k);
-        }
-    }
-    None
+    let first = first as usize;
+    (0..counts.len()).find(|&k| fields::read_two(file, first + SYMBOL_BYTES * k + NUMBER_E)
+        != counts[k])
 }
 
 // The same, once the records are counted.

@@ -6,14 +6,16 @@
 
 use std::io;
 use std::io::Read;
+use tables::{record, scope, symbol};
 
 // The most bytes that are read.
 const MOST_READ: u64 = 65536;
 
+// The memory stands on the stack, as a caller without a heap would lend it.
 fn lower(rt: &impl Print, file: &[u8]) -> io::Result<()> {
-    let mut records = [0u16; 4096 * 7];
-    let mut scopes = [0u16; 1024 * 3];
-    let mut symbols = [0u16; 1024 * 6];
+    let mut records = [0u16; 4096 * record::NUMBERS];
+    let mut scopes = [0u16; 1024 * scope::LENT];
+    let mut symbols = [0u16; 1024 * symbol::LENT];
     let mut out = [0u8; 65536];
     match lowering::lower(file, &mut records, &mut scopes, &mut symbols, &mut out) {
         Ok(figures) => rt.write_all(out.get(..(figures.bytes as usize)).unwrap_or_default()),

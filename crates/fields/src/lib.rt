@@ -1,7 +1,7 @@
 // Fields of a tree file: the table of their lengths, the field at an offset, whether its tag may stand there, and the file reader.
 #![tactic(auto)]
 
-ghost use Rattle.std.specs.Prelude.{◌≡◌, [], ◌∷◌, ◌++◌, ◌+◌, ◌*◌, ◌≤◌, get_or, length, set};
+ghost use Rattle.std.specs.Prelude.{◌≡◌, [], ◌∷◌, ◌++◌, ◌+◌, ◌*◌, ◌≤◌, get_or, length};
 ghost use Rattle.std.proofs.lemmas.List.Edits.{sets};
 ghost use Rattle.meaning.specs.Numbers.Tag;
 ghost use Rattle.meaning.specs.Tree.{one_of};
@@ -118,7 +118,8 @@ pub const MOST_RECORD_BYTES: usize = CATCH_BYTES;
 
 // ---- bytes and fields
 
-// The byte at an offset, or 0 behind the end: the clauses of `tag_at` and `read_two` have that 0, so no `Option` here and there.
+// The byte at an offset, or 0 behind the end: the clauses of `tag_at` and `read_two` have that 0, so no `Option` here and there. One call of
+// the library, as `tables::get` is for numbers.
 fn byte(file: &[u8], at: usize) -> u8
     ensures { result ≡ get_or file.now at 0 }
 {

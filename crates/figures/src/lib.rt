@@ -194,28 +194,25 @@ fn item_bytes(t: Tally) -> u64
 }
 
 // 1 where the runtime helper is made.
+#[tactic(auto, unfolding(crate::specs::Figures::helper_f))]
 fn helper_of(mode: u16, contexts: u64) -> u64
     ensures value { result ≡ helper_f mode contexts }
     ensures bound { result ≤ 1 }
 {
-    if mode != mode::RUNTIME {
-        return 0;
-    }
-    if contexts == 0 {
-        return 0;
-    }
-    1
+    u64::from(mode == mode::RUNTIME && contexts != 0)
 }
 
 // 1 where it is imported: in a module.
+#[tactic(auto, unfolding(crate::specs::Figures::import_f))]
 fn import_of(mode: u16, esm: u16, contexts: u64) -> u64
     ensures value { result ≡ import_f mode esm contexts }
     ensures bound { result ≤ 1 }
 {
-    if esm != 1 {
-        return 0;
+    if esm == 1 {
+        helper_of(mode, contexts)
+    } else {
+        0
     }
-    helper_of(mode, contexts)
 }
 
 // The figures of a file with these settings, so many rows and a tree of this tally.
@@ -231,7 +228,7 @@ fn final_figures(mode: u16, esm: u16, scopes: u16, symbols: u16, t: Tally) -> Fi
         records: records + IMPORT_RECORDS * i,
         scopes: (scopes as u64) + new_scopes(t),
         symbols: (symbols as u64) + (context_symbols(t) + item_symbols(t)) + h,
-        contexts: contexts,
+        contexts,
         bytes: (SETTINGS_BYTES as u64)
             + SCOPE * (scopes as u64)
             + SYMBOL * (symbols as u64)
@@ -245,13 +242,11 @@ fn final_figures(mode: u16, esm: u16, scopes: u16, symbols: u16, t: Tally) -> Fi
 fn lacks_helper(mode: u16, contexts: u64) -> bool
     ensures { result ≡ (eqb mode Mode.Inline && leb 1 contexts) }
 {
-    if mode != mode::INLINE {
-        return false;
-    }
-    1 <= contexts
+    mode == mode::INLINE && 1 <= contexts
 }
 
-// The figures of a file, or a refusal of inline mode with a context to make.
+// The figures of a file, or a refusal of inline mode with a context to make. The four numbers are those of a `Layout`, a struct of the crate
+// above, which this one leaves to it.
 pub fn figures_of(
     mode: u16,
     esm: u16,

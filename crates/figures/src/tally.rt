@@ -131,7 +131,7 @@ pub fn role_in(file: &[u8], role: Role, x: Field, k: u16) -> Role
 
 // ---- the name of a ForOf's using, in the symbol rows as read
 
-// The symbol rows of a file: so many, behind the settings and so many scope rows.
+// The symbol rows of a file: so many, behind the settings and so many scope rows. Made of what `inserts` is handed, whose clause names these.
 #[derive(Clone, Copy)]
 struct SymbolRows<'a> {
     file: &'a [u8],
@@ -343,7 +343,8 @@ fn wraps_of(role: Role, x: Field, kids: Tally) -> u32
     one_more_if(kept, has_initializer(role, x))
 }
 
-// A record that may be charged for, with the tally of its children.
+// A record that may be charged for, with the tally of its children. What is known of a record (`role`, `inserted`, `x`, `kids`) is handed on in
+// parts, since each function here looks at others of them.
 #[tactic(auto, unfolding(crate::specs::Tally::own, crate::specs::Tally::role_index, meaning::specs::Grammar::head_of))]
 fn charged_tally(role: Role, inserted: bool, x: Field, kids: Tally) -> Tally
     ensures { result ≡ cap (own role inserted (head_of x) (children_of x) kids) }

@@ -8,7 +8,7 @@ ghost use Rattle.helper_loader.specs.Load.{loading, helper_flags, make_helper_f,
 use meaning::{ScopeId, SymbolId, known_name, mode, symbol_flag};
 use scoping::Ctx;
 
-// The counters, the form and the symbol of a Load, and whether it is the walk's first.
+// The counters, the form and the symbol of a Load, and whether it is the walk's first, which the clause of `helper_load` tells (`loading`).
 #[derive(Clone, Copy)]
 pub struct Loaded {
     pub ctx: Ctx,

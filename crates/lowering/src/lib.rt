@@ -17,9 +17,6 @@ use figures::FinalFigures;
 use meaning::{Reason, RecordId, Refusal};
 use path::Walk;
 
-// A table names no more records.
-const MOST_RECORDS: u64 = tables::LARGEST as u64;
-
 // The layout and the figures of a file that is admitted and for which the output is long enough: 01's refusals 1 to 10.
 pub fn admit_output(
     file: &[u8],
@@ -104,7 +101,7 @@ pub fn lower(
 {
     let admitted = admit_output(file, records, scopes, symbols, out)?;
     let figures = admitted.figures;
-    let rows = figures.records.min(MOST_RECORDS) as u16;
+    let rows = start::capped(figures.records);
     let first = start::fill(file, admitted.layout, rows, records, scopes, symbols);
     let last = run(first, 2 * (rows as u32), records, scopes, symbols);
     finish(last, records, scopes, symbols, out);

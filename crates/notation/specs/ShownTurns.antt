@@ -4,13 +4,14 @@ use Rattle.std.specs.Prelude.{if◌then◌else◌, ◌≡◌, refl, Bool, true, 
 use Rattle.std.proofs.Common.{sym, ap, ◌∙◌, add-one, arith, length-append, length-drop, drop_of_length-le, drop-cons, take_all, le-leb, leb-true, eqb-true, eq-eqb, ne_eqb}
 use Rattle.std.proofs.Math.Numerals.{add-two}
 use Rattle.std.proofs.lemmas.List.Edits.{sets}
+use Rattle.std.proofs.Math.Seq.{drop-nil}
 use Rattle.std.proofs.lemmas.Bool.{lt-leb, eqb-false}
 use Rattle.meaning.specs.Grammar.{two}
 use Rattle.spec_laws.specs.Bools.{and-false}
 use Rattle.spec_laws.specs.Tags.{and_left}
 use Rattle.notation.specs.Notation.{space, comma, digit0}
 use Rattle.notation.specs.Shown.{decimal, shown_byte, shown_bytes, numbers_in, shown_numbers, shown_field, whole_field, gap, shown_from, most_shown, shown}
-use Rattle.notation.specs.Puts.{Put}
+use Rattle.notation.specs.Puts.{Put, Left, left_all}
 
 -- ---- a number
 
@@ -100,6 +101,9 @@ numbers_none bs c i h = rw (few_numbers (drop i bs) (omega (arith, length-drop i
 pub rest_is : (bs : List ℕ) (k : ℕ) → take (length bs - k) (drop k bs) ≡ drop k bs
 rest_is bs k = take_all (length bs - k) (drop k bs) (omega (arith, length-drop k bs))
 
+pub rest_length : (bs : List ℕ) (k : ℕ) → length (take (length bs - k) (drop k bs)) ≡ length bs - k
+rest_length bs k = ap length (rest_is bs k) ∙ length-drop k bs
+
 test_fits : (b : Bool) (n l : ℕ) → (b ≡ true → n ≤ l) → 3 ≤ n → ((if b then n else 0) ≡ 0 → ⊥)
     → (3 ≤ (if b then n else 0)) × ((if b then n else 0) ≤ l)
 test_fits true n l f g h = (g, f refl)
@@ -157,16 +161,61 @@ shown_enough (suc k) (suc j) bs f g = enough_by _ k j bs refl (shown_enough k j)
 
 -- ---- the turns of the loop over what is left of a file
 
-pub turn_field : (rest : List ℕ) (n : ℕ) → n ≡ whole_field rest → 3 ≤ n → n ≤ length rest
+pub rest_field : (rest : List ℕ) (n : ℕ) → n ≡ whole_field rest → 3 ≤ n → n ≤ length rest
     → shown_from (length rest) rest
     ≡ shown_field (take n rest) ++ gap (drop n rest) ++ shown_from (length (drop n rest)) (drop n rest)
-turn_field rest n e low high =
+rest_field rest n e low high =
     let k = length rest - 1 in
     let behind = drop n rest in
     let s : length rest ≡ suc k = omega arith in
     let d : length behind ≡ length rest - n = length-drop n rest in
     let t : shown_from k behind ≡ shown_from (length behind) behind = shown_enough k (length behind) behind (omega (arith, s, d)) (omega arith) in
     ap (λ x. shown_from x rest) s ∙ shown_field_lem k rest n e (λ z. omega (arith, z)) ∙ ap (λ x. shown_field (take n rest) ++ gap behind ++ x) t
+
+-- ---- the same turns by places in the file
+
+drop_drop : (at n : ℕ) (bs : List ℕ) → drop n (drop at bs) ≡ drop (at + n) bs
+drop_drop zero n bs = let e : 0 + n ≡ n = omega arith in rw e
+drop_drop (suc at) n [] = drop-nil n ∙ sym (drop-nil (suc at + n))
+drop_drop (suc at) n (b ∷ bs) = let e : suc at + n ≡ suc (at + n) = omega arith in rw e (drop_drop at n bs)
+
+-- what stands from a place on, as it is lent
+abbrev pub from : List ℕ → ℕ → List ℕ
+from file at = take (length file - at) (drop at file)
+
+module _ (file : List ℕ) (at n : ℕ) (l : at < length file) (e : n ≡ whole_field (from file at)) where
+  pub turn_bytes : n ≡ 0 → shown_from (length file - at) (drop at file) ≡ shown_bytes (from file at)
+  turn_bytes z = ap (λ x. shown_from (length file - at) x) (sym (rest_is file at)) ∙ shown_bytes_lem (length file - at) (from file at) (sym e ∙ z)
+
+  pub turn_fits : (n ≡ 0 → ⊥) → (3 ≤ n) × (n ≤ length (from file at)) × (at + n ≤ length file)
+  turn_fits h =
+      let fits : (3 ≤ n) × (n ≤ length (from file at)) = whole_fits (from file at) n e h in
+      (fits.0, fits.1, omega (arith, fits.1, rest_length file at))
+
+  pub turn_field : (n ≡ 0 → ⊥)
+      → shown_from (length file - at) (drop at file)
+      ≡ shown_field (take n (from file at)) ++ gap (drop n (from file at)) ++ shown_from (length file - (at + n)) (drop (at + n) file)
+  turn_field h =
+      let rest = from file at in
+      let k = length file - at - 1 in
+      let more = length file - (at + n) in
+      let s : length file - at ≡ suc k = omega arith in
+      let m : length rest ≡ length file - at = rest_length file at in
+      let d : length (drop n rest) ≡ length rest - n = length-drop n rest in
+      let fits : (3 ≤ n) × (n ≤ length rest) = whole_fits rest n e h in
+      let v : drop n rest ≡ drop (at + n) file = ap (λ x. drop n x) (rest_is file at) ∙ drop_drop at n file in
+      let t : shown_from k (drop n rest) ≡ shown_from more (drop n rest) =
+      shown_enough k more (drop n rest) (omega (arith, s, m, d, fits.0)) (omega (arith, m, d)) in
+      ap (λ x. shown_from (length file - at) x) (sym (rest_is file at)) ∙ ap (λ x. shown_from x rest) s ∙ shown_field_lem k rest n e h
+      ∙ ap (λ x. shown_field (take n rest) ++ gap (drop n rest) ++ x) (t ∙ ap (λ x. shown_from more x) v)
+
+pub turn_end : (file : List ℕ) (at : ℕ) → length file ≤ at → shown_from (length file - at) (drop at file) ≡ []
+turn_end file at h =
+    let z : length (drop at file) ≡ 0 = omega (arith, length-drop at file) in
+    shown_bytes_lem (length file - at) (drop at file) (no_field (drop at file) z) ∙ no_bytes (drop at file) z
+
+pub turn_first : (text file : List ℕ) → Left text 0 (shown_from (length file) file) text 0 (shown_from (length file - 0) (drop 0 file))
+turn_first text file = let e : length file - 0 ≡ length file = omega arith in rw e (left_all text 0 (shown_from (length file) file))
 
 pub shown_put : (file text now : List ℕ) (end : ℕ) → length file ≤ most_shown → Put text 0 (shown_from (length file) file) now end
     → (end ≡ length (shown file)) × (now ≡ sets text 0 (shown file))

@@ -1,14 +1,15 @@
 -- Where reading a text stands, as the code holds it: a spot.
 -- Assumes nothing.
-use Rattle.std.specs.Prelude.{◌≡◌, Bool, ℕ, ◌+◌, ◌*◌, ◌%◌, ◌<◌, None, Some, is_some, unwrap_or}
+use Rattle.std.specs.Prelude.{◌≡◌, Bool, true, leb, ◌≤◌, ℕ, ◌+◌, ◌*◌, ◌%◌, ◌<◌, None, Some, is_some, unwrap_or}
 use Rattle.std.specs.Char.{is_ascii_digit}
 use Rattle.std.proofs.Math.Path.{refl}
-use Rattle.std.proofs.Common.{sym, ap, ◌∙◌, arith, eq-eqb, ne_eqb}
+use Rattle.std.proofs.Common.{sym, ap, ◌∙◌, arith, leb-true, eq-eqb, ne_eqb}
 use mathlib.Core.List.{List, [], ◌∷◌, ◌++◌}
 use Rattle.std.proofs.Math.ListN.{length, get_or, length-append}
 use Rattle.meaning.specs.File.{two_bytes}
+use Rattle.spec_laws.specs.Tags.{and_left}
 use Rattle.spec_laws.specs.Trees.{two_length}
-use Rattle.notation.specs.Notation.{Part, is_digit, field_from, numbered, fielded, dotted}
+use Rattle.notation.specs.Notation.{Part, digit0, digit9, is_digit, field_from, numbered, fielded, dotted}
 use Rattle.notation.specs.declared.Spot.{Spot}
 
 -- no digits are read yet
@@ -21,6 +22,10 @@ pub record Reads (p : Part) (s : Spot) : Type 0 where
   pub count_is : s.count ≡ length p.numbers
   pub digits_is : is_some s.value ≡ p.digits
   pub value_is : unwrap_or s.value 0 ≡ p.value
+
+pub digit_low : (c : ℕ) → is_digit c ≡ true → digit0 ≤ c
+unfolding is_digit
+digit_low c e = leb-true digit0 c (and_left (leb digit0 c) (leb c digit9) e)
 
 -- a digit is an ASCII digit
 pub digit_is : (c : ℕ) (b : Bool) → b ≡ is_ascii_digit c → is_digit c ≡ b

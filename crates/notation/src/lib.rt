@@ -272,7 +272,8 @@ pub fn encode(text: &[u8], file: &mut [u8]) -> usize
 //
 // The bound on `at` shrinks by what a function puts, so each asks its own, and no type states one for all.
 
-// Puts a number at a place of a text, in decimal with at most so many digits; the place behind it.
+// Puts a number at a place of a text, in decimal with at most so many digits; the place behind it. By hand, since the text is lent and the
+// library prints to a writer.
 fn put_decimal(text: &mut [u8], at: usize, most: usize, n: u16) -> usize
     requires { at + most ≤ 3000000000 }
     ensures put { Put text.old at (decimal most n) text.new result }

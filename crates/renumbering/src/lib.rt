@@ -62,7 +62,8 @@ pub fn number_scopes(scopes: &mut [u16], records: &[u16], count: u16)
 
 // ---- one record
 
-// The row with another number for its scope, if its tag has one.
+// The row with another number for its scope, if its tag has one. The tags stand in `meaning::scope_named` too: that one reads the number and
+// this one stores it.
 #[tactic(auto, unfolding(crate::specs::Numbers::with_scope_f, meaning::specs::Renumbering::with_scope))]
 fn with_scope(r: Row, v: u16) -> Row
     ensures { result ≡ with_scope_f r v }

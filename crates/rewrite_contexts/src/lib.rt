@@ -197,7 +197,7 @@ fn is_part(r: Row, plan: Plan) -> bool
     r.tag == tag::BLOCK && plan.usings != 0
 }
 
-// `n` parts beside each other: each Block with a using directly in it is transformed.
+// `n` parts beside each other: each Block with a using directly in it is transformed. (A loop of its own, as `statements::take_up_declarators` says why.)
 #[tactic(auto, unfolding(crate::specs::Tries::transform_parts_f), using(tables::specs::Loops::next_turn, tables::specs::Loops::last_turn))]
 fn transform_parts(
     records: &mut [u16],
@@ -346,7 +346,7 @@ fn transform_child(
     }
 }
 
-// Block, handler and finalizer in turn.
+// Block, handler and finalizer in turn. (A loop of its own, as `statements::take_up_declarators` says why.)
 #[tactic(auto, unfolding(crate::specs::Tries::transform_children_f), using(tables::specs::Loops::next_turn, tables::specs::Loops::last_turn))]
 fn transform_children(
     records: &mut [u16],

@@ -160,7 +160,8 @@ fn write_wrap(records: &mut [u16], q: Cursor, u: Using, scope: ScopeId) -> Curso
 
 // ---- `enter_for_of_statement`
 
-// The using goes in at index 0 of the body, and moves to the body's scope.
+// The using goes in at index 0 of the body, and moves to the body's scope. It begins as `wrap_body` does; where the two part, the new symbol is
+// made already, and the definitions of both make it for themselves.
 #[tactic(auto, unfolding(crate::specs::ForOf::insert_using_f))]
 pub fn insert_using(records: &mut [u16], scopes: &[u16], symbols: &mut [u16], w: Walk) -> Walk
     ensures { tables records.new scopes.now symbols.new result

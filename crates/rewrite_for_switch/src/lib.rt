@@ -3,9 +3,8 @@
 
 ghost use Rattle.std.specs.Prelude.{◌≡◌};
 ghost use Rattle.path.specs.Path.{tables};
-ghost use Rattle.tables.specs.Loops.{until};
 ghost use Rattle.tables.specs.Stream.{buf};
-ghost use Rattle.rewrite_for_switch.specs.For.{is_loop_f, next_row, labels_end_f, plan_for_f, pass_rows_f, for_rows_f, transform_for_statement_f};
+ghost use Rattle.rewrite_for_switch.specs.For.{is_loop_f, labels_end_f, plan_for_f, pass_rows_f, for_rows_f, transform_for_statement_f};
 ghost use Rattle.rewrite_for_switch.specs.Switch.{take_up_case_f, take_up_cases_f, plan_case_f, plan_cases_f, switch_rows_f, transform_switch_statement_f};
 
 use meaning::{RecordId, ScopeId, SymbolId, tag};
@@ -24,16 +23,15 @@ fn is_loop(records: &[u16], after: RecordId) -> bool
 }
 
 // The last of the Labels after a row, each the only child of the one before.
-#[tactic(auto, unfolding(crate::specs::For::labels_end_f), using(tables::specs::Loops::run_out, tables::specs::Loops::stopped))]
+#[tactic(auto, unfolding(crate::specs::For::labels_end_f))]
 fn labels_end(records: &[u16], after: RecordId) -> RecordId
     ensures { result.0 ≡ labels_end_f records.now after.0 }
 {
-    for at in after.0..tables::LARGEST {
-        if is_loop(records, RecordId(at)) {
-            return RecordId(at);
-        }
-    }
-    RecordId(tables::LARGEST)
+    RecordId(
+        (after.0..tables::LARGEST)
+            .find(|&at| is_loop(records, RecordId(at)))
+            .unwrap_or(tables::LARGEST),
+    )
 }
 
 // What the For below the Labels after a row has to take up.
@@ -50,7 +48,7 @@ pub fn plan_for(records: &[u16], after: RecordId) -> Plan
     }
 }
 
-// Copies the next n rows.
+// Copies the next n rows. (A loop of its own, as `statements::take_up_declarators` says why.)
 #[tactic(auto, unfolding(crate::specs::For::pass_rows_f), using(tables::specs::Loops::next_turn, tables::specs::Loops::last_turn))]
 fn pass_rows(records: &mut [u16], start: Cursor, n: u16) -> Cursor
     ensures { buf records.new result ≡ pass_rows_f n (buf records.old start) }
@@ -116,7 +114,7 @@ fn take_up_case(records: &mut [u16], q: Cursor, context: SymbolId) -> Cursor
     }
 }
 
-// The n children of a Switch.
+// The n children of a Switch. (A loop of its own, as `statements::take_up_declarators` says why.)
 #[tactic(auto, unfolding(crate::specs::Switch::take_up_cases_f), using(tables::specs::Loops::next_turn, tables::specs::Loops::last_turn))]
 fn take_up_cases(records: &mut [u16], start: Cursor, n: u16, context: SymbolId) -> Cursor
     ensures { buf records.new result ≡ take_up_cases_f n context.0 (buf records.old start) }

@@ -285,7 +285,7 @@ fn write_specifiers(records: &mut [u16], symbols: &[u16], ctx: Ctx, at: Cursor, 
 fn drop_row(records: &mut [u16], q: Cursor) -> Cursor
     ensures { buf records.new result ≡ drop_f (buf records.old q) }
 {
-    tables::put_row(records, q.read, tables::closed_row(0, 0, 0, 0, 0));
+    tables::clear_row(records, q.read);
     Cursor {
         read: RecordId(q.read.0.saturating_add(1)),
         ..q

@@ -187,7 +187,7 @@ fn number_item(records: &mut [u16], s: Numbering) -> Numbering
     }
 }
 
-// The rows of n items get their places.
+// The rows of n items get their places. (A loop of its own, as `statements::take_up_declarators` says why.)
 #[tactic(auto, unfolding(crate::specs::Arrange::number_items_f), using(tables::specs::Loops::next_turn, tables::specs::Loops::last_turn))]
 fn number_items(records: &mut [u16], start: Numbering, n: u16) -> Numbering
     ensures { numbering records.new result ≡ number_items_f n (numbering records.old start) }
@@ -219,7 +219,7 @@ fn arrange(records: &mut [u16], after: RecordId, n: u16, rows: u16)
 
 // ---- the Program
 
-// The next n items.
+// The next n items. (A loop of its own, as `statements::take_up_declarators` says why.)
 #[tactic(auto, unfolding(crate::specs::Program::transform_items_f), using(tables::specs::Loops::next_turn, tables::specs::Loops::last_turn))]
 fn transform_items(records: &mut [u16], symbols: &mut [u16], start: Rewriting, n: u16) -> Rewriting
     ensures { passing records.new symbols.new result

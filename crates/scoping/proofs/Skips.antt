@@ -1,6 +1,6 @@
 -- The turns of the searches for the next row with a number, and that a pass may leave out the rows before it.
 -- Assumes nothing.
-use Rattle.std.specs.Prelude.{if◌then◌else◌}
+use Rattle.std.specs.Prelude.{if◌then◌else◌, Option, Some, None, MatchOption}
 use mathlib.Core.Path.{◌≡◌, refl, sym, ◌∙◌}
 use mathlib.Core.Bool.{Bool, true, false, and-false}
 use mathlib.Core.List.{List}
@@ -15,7 +15,7 @@ use Rattle.meaning.specs.Scoping.{binds, get_binding, is_among_bindings}
 use Rattle.tables.specs.Table.{capped}
 use Rattle.tables.specs.Loops.{turns, one_less, next_turn as one_turn}
 use Rattle.scoping.specs.Rows.{symbol_at, symbols_f}
-use Rattle.scoping.specs.Search.{next_row_f, binding_from}
+use Rattle.scoping.specs.Search.{next_row_f, Finds, binding_from}
 use Rattle.scoping.specs.Candidates.{add_candidate_f}
 use Rattle.scoping.specs.Changes.{Moving, moving, moves_f, move_bound_f, move_one}
 use Rattle.scoping.specs.declared.Ctx.{Ctx}
@@ -50,6 +50,15 @@ module _ (t : List ℕ) (f want n : ℕ) where
   unfolding next_row_f
   next_out k h = let s : n - k ≡ 0 = omega arith in rw s
 
+  -- past d rows without the number
+  next_past : (d i : ℕ) → d ≤ n - i → ((j : ℕ) → i ≤ j → j < i + d → get_or t (j * SymbolTable.Numbers + f) 0 ≡ want → ⊥)
+      → next_row_f t f want (n - i) i ≡ next_row_f t f want (n - (i + d)) (i + d)
+  next_past zero i h none = let z : i + 0 ≡ i = omega arith in rw z
+  next_past (suc d) i h none =
+      let s : i + 1 + d ≡ i + suc d = omega arith in
+      next_turn i (omega arith) (none i (omega arith) (omega arith))
+      ∙ rw s at (next_past d (i + 1) (omega arith) (λ j a b. none j (omega arith) (omega arith)))
+
   -- the row comes at or behind row i, so that fewer are left after it
   next_after : (m i : ℕ) → i ≤ next_row_f t f want m i
   unfolding next_row_f
@@ -74,6 +83,17 @@ module _ (t : List ℕ) (f want n : ℕ) where
   next_same F same (suc m) i h =
       by_test F i _ (eqb (get_or t (i * SymbolTable.Numbers + f) 0) want)
       (λ q. rw add-one at (same i (omega arith) (eqb-false _ _ q)) ∙ next_same F same m (suc i) (omega arith))
+
+  -- what is the first from row i on, among the n, is the row, or none
+  pub finds_first : (i : ℕ) (r : Option ℕ)
+      → MatchOption r ((k : ℕ) → i ≤ k → k < n → get_or t (k * SymbolTable.Numbers + f) 0 ≡ want → ⊥)
+      (λ k. (i ≤ k) × (k < n) × (get_or t (k * SymbolTable.Numbers + f) 0 ≡ want) × ((j : ℕ) → i ≤ j → j < k → get_or t (j * SymbolTable.Numbers + f) 0 ≡ want → ⊥))
+      → Finds n (next_row_f t f want (n - i) i) r
+  finds_first i None h =
+      rw (next_past (n - i) i (omega arith) (λ j a b. h j a (omega arith)) ∙ next_out (i + (n - i)) (omega arith)) (omega arith)
+  finds_first i (Some k) h =
+      let s : i + (k - i) ≡ k = omega (arith, h.0) in
+      (h.1, sym (next_past (k - i) i (omega (arith, h.0, h.1)) (λ j a b. h.3 j a (omega (arith, h.0))) ∙ rw s (next_here k h.1 h.2)))
 
   -- m of them: the search goes on at the row that they give, and ends there if it is one of them
   pub next_on : (m k r : ℕ) → m ≤ n - k → r ≡ next_row_f t f want m k → next_row_f t f want (n - k) k ≡ next_row_f t f want (n - r) r

@@ -190,7 +190,7 @@ pub fn insert_scope_between(scopes: &mut [u16], ctx: Ctx, s: ScopeId, flags: u16
 
 // ---- symbols
 
-// `create_symbol`: a new symbol row; made is 1 for a unique name, else 0.
+// `create_symbol`: a new symbol row; made is 1 for a unique name, else 0, or what another row has there.
 #[tactic(auto, unfolding(crate::specs::Changes::create_symbol_f))]
 pub fn create_symbol(
     symbols: &mut [u16],
@@ -241,29 +241,19 @@ fn next_of_eight(symbols: &[u16], f: u16, want: u16, i: u16) -> Option<u16>
     requires i_bound { i + 8 < 65536 }
     ensures { Finds (i + 8) (next_row_f symbols.now f want 8 i) result }
 {
-    let at = (i as usize) * symbol::NUMBERS + (f as usize);
-    for j in 0..AT_ONCE {
-        if symbols[at + (j as usize) * symbol::NUMBERS] == want {
-            return Some(i + j);
-        }
-    }
-    None
+    (i..i + AT_ONCE).find(|&k| symbols[(k as usize) * symbol::NUMBERS + (f as usize)] == want)
 }
 
 // The first row from row i on that has the number in column f, of the first `count`: row by row.
 fn next_near(symbols: &[u16], count: u16, f: u16, want: u16, i: u16) -> Option<u16>
     ensures { Finds count (next_row_f symbols.now f want (count - i) i) result }
 {
-    for k in i..count {
-        if tables::get(symbols, (k as usize) * symbol::NUMBERS + (f as usize)) == want {
-            return Some(k);
-        }
-    }
-    None
+    (i..count).find(|&k| tables::get(symbols, (k as usize) * symbol::NUMBERS + (f as usize))
+        == want)
 }
 
 // The first row from row i on that has the number in column f, of the first `count`: eight rows at a time, as long as there are eight in
-// the table.
+// the table. Column, number and row are three numbers of every search, and a struct would be made anew for each.
 fn next_row(symbols: &[u16], count: u16, f: u16, want: u16, i: u16) -> Option<u16>
     ensures { Finds count (next_row_f symbols.now f want (count - i) i) result }
 {

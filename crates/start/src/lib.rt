@@ -4,7 +4,7 @@
 // records behind the free rows in theirs. The counts of symbols stand behind the rows for which their table has numbers.
 #![tactic(auto)]
 
-ghost use Rattle.std.specs.Prelude.{if◌then◌else◌, ◌≡◌, ◌≤◌, min, ltb, leb, length, replicate};
+ghost use Rattle.std.specs.Prelude.{if◌then◌else◌, ◌≡◌, min, ltb, leb, length, replicate};
 ghost use Rattle.path.specs.Path.{tables};
 ghost use Rattle.meaning.specs.declared.Reason.TheVariants as Reason;
 ghost use Rattle.meaning.specs.Reading.{ensure};
@@ -21,8 +21,23 @@ use path::Walk;
 use scoping::Ctx;
 use tables::{Row, record, scope, symbol};
 
-// A table names no more records.
-const MOST_RECORDS: u64 = tables::LARGEST as u64;
+// The columns as places in a row.
+const SCOPE_FLAGS: usize = scope::FLAGS as usize;
+
+const FLAGS: usize = symbol::FLAGS as usize;
+
+const SCOPE: usize = symbol::SCOPE as usize;
+
+const MADE: usize = symbol::MADE as usize;
+
+const READ_SCOPE: usize = symbol::READ_SCOPE as usize;
+
+// A number, or the largest that fits.
+pub fn capped(x: u64) -> u16
+    ensures { result ≡ min x 65535 }
+{
+    x.min(tables::LARGEST as u64) as u16
+}
 
 // ---- scope and symbol rows
 
@@ -42,7 +57,11 @@ fn put_scope(file: &[u8], scopes: &mut [u16], k: u16)
     let at = SCOPE_BYTES * (k + 1);
     let to = k * scope::NUMBERS;
     tables::put(scopes, to, fields::read_two(file, at + NUMBER_A));
-    tables::put(scopes, to + 1, fields::read_two(file, at + NUMBER_B));
+    tables::put(
+        scopes,
+        to + SCOPE_FLAGS,
+        fields::read_two(file, at + NUMBER_B),
+    );
 }
 
 fn put_scopes(file: &[u8], scopes: &mut [u16], count: u16)
@@ -63,10 +82,10 @@ fn put_symbol(file: &[u8], symbols: &mut [u16], first: u16, k: u16)
     let scope = fields::read_two(file, at + NUMBER_C);
     let to = k * symbol::NUMBERS;
     tables::put(symbols, to, fields::read_two(file, at + NUMBER_A));
-    tables::put(symbols, to + 1, fields::read_two(file, at + NUMBER_B));
-    tables::put(symbols, to + 2, scope);
-    tables::put(symbols, to + 3, fields::read_two(file, at + NUMBER_D));
-    tables::put(symbols, to + 4, scope);
+    tables::put(symbols, to + FLAGS, fields::read_two(file, at + NUMBER_B));
+    tables::put(symbols, to + SCOPE, scope);
+    tables::put(symbols, to + MADE, fields::read_two(file, at + NUMBER_D));
+    tables::put(symbols, to + READ_SCOPE, scope);
 }
 
 fn put_symbols(file: &[u8], symbols: &mut [u16], first: u16, count: u16)
@@ -79,7 +98,7 @@ fn put_symbols(file: &[u8], symbols: &mut [u16], first: u16, count: u16)
 
 // ---- records
 
-// Number i, or 0 if it is not one of a record's own.
+// Number i, or 0 if it is not one of a record's own, as a row has it.
 fn own_number(count: u8, i: u8, v: u16) -> u16
     ensures { result ≡ (if ltb i count then v else 0) }
 {
@@ -206,7 +225,7 @@ pub fn start(
         ≡ start_f file.now records.old scopes.old symbols.old }
 {
     let admitted = admit(file, records, scopes, symbols)?;
-    let end = admitted.figures.records.min(MOST_RECORDS) as u16;
+    let end = capped(admitted.figures.records);
     let walk = fill(file, admitted.layout, end, records, scopes, symbols);
     mentions::count_rows(symbols, records, walk.gap, walk.end);
     Ok(walk)

@@ -13,7 +13,7 @@ use meaning::{RecordId, ScopeId, SymbolId, kind, letter, parts, step_form, tag};
 use tables::{Cursor, Row};
 
 // The numbers of the rows that a context makes: its symbol, the form and the symbol of its Load, the Catch's scope (that of its body and that
-// of the last Block come next), the symbol of `_`, and the form of the last Step.
+// of the last Block come next), the symbol of `_`, and the form of the last Step. All are numbers as they go into rows.
 #[derive(Clone, Copy)]
 pub struct Parts {
     pub context: SymbolId,
@@ -31,8 +31,8 @@ pub const CONTEXT_ROWS: u16 = 11;
 // The rows that a context adds where its list goes into a new Block: that Block, too.
 pub const WRAPPED_CONTEXT_ROWS: u16 = 12;
 
-// The last row looked at, and a count so far. Four loops count so, each with its own step: one loop for all would take the step as a closure,
-// with a contract longer than they are.
+// The last row looked at, and a count so far. Four loops count so, each with its own step: one loop for all would need a trait and four
+// impls for the steps, longer than the loops.
 #[derive(Clone, Copy)]
 pub struct Counting {
     pub at: RecordId,
@@ -104,6 +104,8 @@ fn take_up_declarator(records: &mut [u16], q: Cursor, letter: u16, context: Symb
 }
 
 // The n Declarators of a using; their initializers are called through the context.
+// Its own loop: one for all such steps would take the step as a closure that holds lent tables. So it is with each loop over a list below
+// and in the crates of the rewrites.
 #[tactic(auto, unfolding(crate::specs::TakeUp::take_up_declarators_f), using(tables::specs::Loops::next_turn, tables::specs::Loops::last_turn))]
 fn take_up_declarators(
     records: &mut [u16],
@@ -145,7 +147,7 @@ fn take_up_item(records: &mut [u16], q: Cursor, context: SymbolId) -> Cursor
     }
 }
 
-// The usings of a list of n items.
+// The usings of a list of n items. (A loop of its own, as `statements::take_up_declarators` says why.)
 #[tactic(auto, unfolding(crate::specs::TakeUp::take_up_f), using(tables::specs::Loops::next_turn, tables::specs::Loops::last_turn))]
 pub fn take_up(records: &mut [u16], start: Cursor, n: u16, context: SymbolId) -> Cursor
     ensures { buf records.new result ≡ take_up_f n context.0 (buf records.old start) }
@@ -210,7 +212,7 @@ fn plan_one(records: &[u16], p: Plan) -> Plan
     }
 }
 
-// Counted on from a plan: n items after its last row.
+// Counted on from a plan: n items after its last row. (A loop of its own, as `statements::take_up_declarators` says why.)
 #[tactic(auto, unfolding(crate::specs::Plan::plan_f), using(tables::specs::Loops::next_turn, tables::specs::Loops::last_turn))]
 pub fn plan_list(records: &[u16], start: Plan, n: u16) -> Plan
     ensures { result ≡ plan_f records.now start n }
@@ -244,7 +246,7 @@ pub fn plan_children(records: &[u16], after: RecordId, n: u16) -> Plan
 
 // ---- the rows of a Try
 
-// `_usingCtx.d()` or `await _usingCtx.d()`
+// `_usingCtx.d()` or `await _usingCtx.d()`, by how many usings of a list are awaited: the plan's count, so no `bool`.
 #[tactic(auto, unfolding(crate::specs::Try::step_form))]
 pub fn step_form(awaits: u16) -> u16
     ensures { result ≡ step_form awaits }

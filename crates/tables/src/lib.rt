@@ -97,7 +97,8 @@ pub fn put_column(records: &mut [u16], after: RecordId, f: u16, v: u16)
     );
 }
 
-// The row after another, where the table may end inside it.
+// The row after another, where the table may end inside it. Apart from `row_after`, which reads a whole row after one test; so it is with
+// `put_by_column`.
 #[tactic(auto, unfolding(crate::specs::Table::row_f))]
 fn row_by_column(records: &[u16], after: RecordId) -> Row
     ensures { result ≡ row_f records.now after.0 }
@@ -305,7 +306,7 @@ pub fn unread_row(records: &mut [u16], q: Cursor) -> Cursor
     }
 }
 
-// The last `n` rows written go behind the free rows again.
+// The last `n` rows written go behind the free rows again. A loop of its own, since its step holds the table.
 pub fn take_back(records: &mut [u16], start: Cursor, n: u16) -> Cursor
     ensures { buf records.new result ≡ take_back_f n (buf records.old start) }
 {

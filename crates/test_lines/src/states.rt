@@ -42,6 +42,7 @@ impl<'a> Field<'a> {
         fields::read_two(self.numbers, 2 * usize::from(k))
     }
 
+    // Number by number, since a row has other numbers between.
     fn is_scope(self, scopes: &[u16], k: u16) -> bool {
         let row = usize::from(k) * scope::NUMBERS;
         self.number(0) == tables::get(scopes, row) && self.number(1) == tables::get(scopes, row + 1)

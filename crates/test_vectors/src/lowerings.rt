@@ -1,5 +1,6 @@
 // A line is `R S Y OUT|FILE|ANSWER`: the rows and output bytes that are lent, a file, and what `lower` answers: `refused NUMBER PLACE`, or `ok`
 // with records, scopes, symbols, contexts and the written file.
+use crate::twice;
 use figures::FinalFigures;
 use std::alloc::{AllocError, Global};
 use test_lines::lines;
@@ -30,9 +31,10 @@ fn lent(text: &str) -> Option<(Rows, usize)> {
     let (rows, bytes) = text.rsplit_once(' ')?;
     let rows = Rows::told(rows, ' ')?;
     let bytes = bytes.parse().ok()?;
-    if rows.records <= 4096
-        && rows.scopes <= 1024
-        && rows.symbols <= 1024
+    let most = twice::LENT;
+    if rows.records <= most.records
+        && rows.scopes <= most.scopes
+        && rows.symbols <= most.symbols
         && bytes <= lines::LARGE
     {
         Some((rows, bytes))

@@ -7,7 +7,7 @@ use test_lines::lines;
 use test_lines::memory::{Memory, Rows};
 
 // What the desk lends.
-const LENT: Rows = Rows {
+pub const LENT: Rows = Rows {
     records: 4096,
     scopes: 1024,
     symbols: 1024,

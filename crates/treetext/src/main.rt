@@ -18,27 +18,15 @@ const MOST_CHARACTERS: usize = 262144;
 // The most bytes that are read, one more than a text may have.
 const MOST_READ: u64 = 262145;
 
-// To standard output.
-fn put(rt: &impl Print, text: &[u8]) -> io::Result<()> {
-    rt.write_all(text)
-}
-
-// A line with a number in it.
-fn say(rt: &impl Print, before: &[u8], n: usize, behind: &[u8]) -> io::Result<()> {
-    put(rt, before)?;
-    rt.print(n)?;
-    put(rt, behind)
-}
-
-// A file as text.
+// A file as text. `notation` fills lent memory, so the buffer has a length beside it here; so it is with the bytes of a text.
 fn write_text(rt: &impl Print, file: &[u8]) -> io::Result<()> {
     if MOST_BYTES < file.len() {
-        return put(rt, b"too long: a tree file may have 65536 bytes\n");
+        return println!(rt; "too long: a tree file may have 65536 bytes");
     }
     let mut text = [0u8; MOST_CHARACTERS];
     let n = notation::show(file, &mut text);
-    put(rt, &text[..n])?;
-    put(rt, b"\n")
+    rt.write_all(&text[..n])?;
+    println!(rt;)
 }
 
 // A text that is spelled right, as bytes.
@@ -46,20 +34,15 @@ fn write_bytes(rt: &impl Print, text: &[u8]) -> io::Result<()> {
     let mut file = [0u8; MOST_BYTES];
     let n = notation::encode(text, &mut file);
     if MOST_BYTES < n {
-        return say(
-            rt,
-            b"too long: a tree file may have 65536 bytes, this one has ",
-            n,
-            b"\n",
-        );
+        return println!(rt; "too long: a tree file may have 65536 bytes, this one has {n}");
     }
-    put(rt, &file[..n])
+    rt.write_all(&file[..n])
 }
 
 // A text as bytes, or where it is wrong.
 fn write_file(rt: &impl Print, text: &[u8]) -> io::Result<()> {
     if MOST_CHARACTERS < text.len() {
-        return put(rt, b"too long: a text may have 262144 characters\n");
+        return println!(rt; "too long: a text may have 262144 characters");
     }
     match notation::check(text) {
         Ok(()) => write_bytes(rt, text),

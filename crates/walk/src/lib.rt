@@ -334,8 +334,8 @@ fn part_of(records: &[u16], w: Walk) -> Part
     }
 }
 
-// The mentions of a part are taken off the counts. It is apart from `count_part`, since one function with the effect as a parameter would
-// still be called by two that name it.
+// The mentions of a part are taken off the counts. It is apart from `count_part`: one function for both would need
+// `mentions` to hand out its two effects, for four calls.
 #[tactic(auto, unfolding(crate::specs::Counted::discount_part_f))]
 fn discount_part(symbols: &mut [u16], records: &[u16], p: Part, w: Walk)
     ensures { symbols.new ≡ discount_part_f records.now p w symbols.old }

@@ -19,6 +19,15 @@ use meaning::{RecordId, ScopeId, tag};
 use path::Walk;
 use tables::{Row, scope, symbol};
 
+// The columns as places in a row.
+const SCOPE_FLAGS: usize = scope::FLAGS as usize;
+
+const FLAGS: usize = symbol::FLAGS as usize;
+
+const SCOPE: usize = symbol::SCOPE as usize;
+
+const MADE: usize = symbol::MADE as usize;
+
 // ---- fields
 
 // An offset that is written to: sums with it fit.
@@ -70,7 +79,7 @@ impl<'a> Source<'a> {
     {
         let at = (s.0.saturating_sub(1) as usize) * scope::NUMBERS;
         let parent = ScopeId(tables::get(self.scopes, at));
-        let flags = tables::get(self.scopes, at + 1);
+        let flags = tables::get(self.scopes, at + SCOPE_FLAGS);
         let parent = renumbering::new_number(self.numbers, parent);
         put_field(out, to, tag::SCOPE, parent, flags, 0, 0);
     }
@@ -114,9 +123,9 @@ impl<'a> Source<'a> {
         let symbols = self.symbols;
         let at = (k as usize) * symbol::NUMBERS;
         let name = tables::get(symbols, at);
-        let flags = tables::get(symbols, at + 1);
-        let scope = ScopeId(tables::get(symbols, at + 2));
-        let made = tables::get(symbols, at + 3);
+        let flags = tables::get(symbols, at + FLAGS);
+        let scope = ScopeId(tables::get(symbols, at + SCOPE));
+        let made = tables::get(symbols, at + MADE);
         let count = tables::get(symbols, tables::counts_at(symbols) + (k as usize));
         let scope = renumbering::new_number(self.numbers, scope);
         put_field(out, to, tag::SYMBOL, name, flags, scope, made);
@@ -172,7 +181,7 @@ impl<'a> Source<'a> {
 
 // ---- records
 
-// Number i of a record's own, or n behind them.
+// Number i of a record's own, or n behind them; `start::own_number` is the case of 0, in a crate that writes nothing.
 #[tactic(auto, unfolding(crate::specs::Writing::own_or))]
 fn own_or(own: u8, i: u8, v: u16, n: u16) -> u16
     ensures { result ≡ own_or own i v n }

@@ -11,7 +11,7 @@ returns c =
     rw (
       ← lower_is _ _ _ _ _ (λ i. omega (arith, c.shared_slice_known-1.given i)) _ c.admit_output.ensures,
       c.in_ok-admitted.was,
-      ← c.min-rows.ensures,
+      ← c.capped-rows.ensures,
       ← c.fill-first.ensures,
       ← c.run-last.ensures,
       c.finish.ensures.records,

@@ -5,7 +5,7 @@ use native.Mathlib.Omega.{arith}
 use borrow.Author.Tests.{lt-leb}
 use Rattle.notation.specs.Shown.{shown}
 use Rattle.notation.specs.Puts.{left_all, left_more, left_last}
-use Rattle.notation.specs.ShownTurns.{shown_bytes_lem, turn_field, shown_put}
+use Rattle.notation.specs.ShownTurns.{shown_bytes_lem, rest_field, shown_put}
 use Rattle.notation.proofs.show.Goals as goal
 
 pub returns-then-file-gt-MOST_SHOWN : goal.returns-then-file-gt-MOST_SHOWN
@@ -22,7 +22,7 @@ loop-n-preserved c =
       c.put_part-end.auto.text ∙ c.loop-n.invariant.0,
       omega (arith, field, c.put_part-end.ensures.upper_bound),
       left_more _ _ _ _ _ _ _ _ _ _ c.loop-n.invariant.2
-          (rw (parts.front, parts.back) (turn_field c.loop-n.rest.now c.in-Some.n field.0 field.1 field.2))
+          (rw (parts.front, parts.back) (rest_field c.loop-n.rest.now c.in-Some.n field.0 field.1 field.2))
           c.put_part-end.ensures.put,
     )
 

@@ -12,4 +12,4 @@ returns-in_err-admitted c =
 pub returns : goal.returns
 unfolding start_by counted_f
 returns c =
-    rw (← start_is _ _ _ _ _ c.admit.ensures, c.in_ok-admitted.was, ← c.min-end.ensures, ← c.fill-walk.ensures, ← c.count_rows.ensures)
+    rw (← start_is _ _ _ _ _ c.admit.ensures, c.in_ok-admitted.was, ← c.capped-end.ensures, ← c.fill-walk.ensures, ← c.count_rows.ensures)

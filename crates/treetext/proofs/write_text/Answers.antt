@@ -6,6 +6,6 @@ use Rattle.treetext.proofs.write_text.Goals as goal
 pub slice_bounds-text-end : goal.slice_bounds-text-end
 slice_bounds-text-end g c = search (rules, shown_length c.args.file.now)
 
-pub slice_bounds-put-end-2 : goal.slice_bounds-put-end-2
-slice_bounds-put-end-2 g c =
+pub slice_bounds-write_all-end : goal.slice_bounds-write_all-end
+slice_bounds-write_all-end g c =
     sym (length-take-le _ _ (search (rules, shown_length c.args.file.now)))
