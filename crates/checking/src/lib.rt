@@ -71,7 +71,8 @@ struct Source<'a> {
 }
 
 // What the check knows of a file: its settings, how many scope rows, symbol rows and records it has, and the offsets of the first symbol row
-// and of Program.
+// and of Program. Its numbers are any: the definitions and `start` take every `Layout`, so that the bounds which the two local arrays need stand
+// in the contracts of the functions around them.
 #[derive(Clone, Copy, Debug, PartialEq, Eq)]
 pub struct Layout {
     pub mode: u16,

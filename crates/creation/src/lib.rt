@@ -1,4 +1,4 @@
-// The scopes and symbols that a context makes.
+// The scopes and symbols that a context makes. (Lent tables stay parameters, as `path::Walk` says why.)
 #![tactic(auto)]
 
 ghost use Rattle.std.specs.Prelude.{◌≡◌};
@@ -41,7 +41,7 @@ pub struct Created {
     pub parts: Parts,
 }
 
-// The current scope and the hoist scope of the record to enter, or 0.
+// The current scope and the hoist scope of the record to enter, or 0, as the clauses of `scopes_around` say (`current_scope_f`), so no `Option`.
 #[derive(Clone, Copy)]
 pub struct Around {
     pub current: ScopeId,

@@ -119,14 +119,14 @@ pub const MOST_RECORD_BYTES: usize = CATCH_BYTES;
 // ---- bytes and fields
 
 // The byte at an offset, or 0 behind the end: the clauses of `tag_at` and `read_two` have that 0, so no `Option` here and there. One call of
-// the library, as `tables::get` is for numbers.
+// the library, as `tables::get` is for numbers; a generic one would have the type's default in its clause, for each caller to turn into 0.
 fn byte(file: &[u8], at: usize) -> u8
     ensures { result ≡ get_or file.now at 0 }
 {
     file.get(at).copied().unwrap_or(0)
 }
 
-// Two bytes as a number, high byte first.
+// Two bytes as a number, high byte first. One call of the library, under the clause that its two callers need.
 fn join(high: u8, low: u8) -> u16
     ensures { result ≡ high * 256 + low }
 {
@@ -152,14 +152,14 @@ pub fn put_two(file: &mut [u8], at: usize, n: u16)
     tables::put(file, at.saturating_add(1), low);
 }
 
-// The tag at an offset of a file, or 0 behind the end, which is no tag.
+// The tag at an offset of a file, or 0 behind the end: the clause's number (`get_or .. 0`), so no `Option`.
 pub fn tag_at(file: &[u8], at: usize) -> u16
     ensures { result ≡ get_or file.now at 0 }
 {
     u16::from(byte(file, at))
 }
 
-// The bytes of the numbers of a field of this tag, and 0 for a tag that does not exist, as the table has it.
+// The bytes of the numbers of a field of this tag, and 0 for a tag that does not exist: both clauses have that 0 (`entry`, `rule`), so no `Option`.
 #[tactic(auto, using(crate::proofs::Lengths::lengths_right), unfolding(crate::specs::Lengths::lengths))]
 pub fn length_of(tag: u16) -> u8
     ensures entry { result ≡ get_or lengths tag 0 }
@@ -287,8 +287,8 @@ pub fn is_allowed(place: Place, tag: u16) -> bool
     }
 }
 
-// Number i of the whole field at an offset, or 0 where the field has no such number. It stays beside `number_of`: a whole field's bytes are
-// read without a test of the file's end.
+// Number i of the whole field at an offset, or 0 where the field has no such number (`number` of the clause is 0 then). It stays beside
+// `number_of`: a whole field's bytes are read without a test of the file's end.
 #[tactic(auto, unfolding(meaning::specs::Grammar::number, meaning::specs::Grammar::two))]
 fn read_number(file: &[u8], at: usize, count: u8, i: u8) -> u16
     requires { at + (head_bytes + 2 * count) ≤ length file.now }
@@ -392,7 +392,7 @@ impl<'a> Reader<'a> {
         Reader { file, at }
     }
 
-    // The tag at the offset, or 0 behind the end.
+    // The tag at the offset, or 0 behind the end, by the clause as in `tag_at`.
     pub fn tag(self) -> u16
         ensures { result ≡ get_or self.entry.file.now self.entry.at 0 }
     {

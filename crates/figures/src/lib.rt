@@ -245,8 +245,8 @@ fn lacks_helper(mode: u16, contexts: u64) -> bool
     mode == mode::INLINE && 1 <= contexts
 }
 
-// The figures of a file, or a refusal of inline mode with a context to make. The four numbers are those of a `Layout`, a struct of the crate
-// above, which this one leaves to it.
+// The figures of a file, or a refusal of inline mode with a context to make. The four numbers stay apart, as `figured_f`
+// takes them: a struct of them would be a second `Layout`, to be made and taken apart at the one call.
 pub fn figures_of(
     mode: u16,
     esm: u16,

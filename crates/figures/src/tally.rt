@@ -468,7 +468,7 @@ pub fn add_leaf(before: Tally, size: u32) -> Tally
         }
 }
 
-// Nothing counted yet.
+// Nothing counted yet: the derived default, under the clause that callers of other crates use.
 pub fn no_tally() -> Tally
     ensures { result ≡ no_tally }
 {

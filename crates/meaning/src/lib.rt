@@ -71,7 +71,8 @@ pub struct Field {
     pub next: usize,
 }
 
-// The scope row that a record with this tag names, by its first two numbers, or 0.
+// The scope row that a record with this tag names, by its first two numbers, or 0: `scope_of` of the clause is 0 then, and so is the file's
+// number, so no `Option`.
 #[tactic(auto, unfolding(crate::specs::Grammar::scope_of))]
 pub fn scope_named(tag: u16, a: u16, b: u16) -> ScopeId
     ensures { result.0 ≡ scope_of (hd tag a b 0) }

@@ -119,7 +119,8 @@ pub fn count_rows(symbols: &mut [u16], records: &[u16], from: RecordId, to: Reco
     change_counts::<Added>(symbols, records, from, to);
 }
 
-// The mentions of the rows behind one up to another are taken off the counts.
+// The mentions of the rows behind one up to another are taken off the counts. Both names stay for the one function above: they are public,
+// each with its clause.
 #[tactic(auto, unfolding(crate::specs::Counters::take_rows_f, crate::specs::Counters::take_record_f, crate::specs::Counters::take_f))]
 pub fn discount_rows(symbols: &mut [u16], records: &[u16], from: RecordId, to: RecordId)
     ensures { symbols.new ≡ on_counts (take_rows_f records.now from.0 to.0) symbols.old }

@@ -61,7 +61,7 @@ struct Spot {
     value: Option<u16>,
 }
 
-// No digits are read yet.
+// No digits are read yet. One literal, under the clause that the readers below use.
 fn fresh(at: usize, count: usize) -> Spot
     ensures { result ≡ spot_at at count }
 {
@@ -72,7 +72,7 @@ fn fresh(at: usize, count: usize) -> Spot
     }
 }
 
-// A space or a line end.
+// A space or a line end: fewer characters than the library's `is_ascii_whitespace` takes.
 #[tactic(auto, unfolding(crate::specs::Notation::is_space))]
 fn is_space(c: u8) -> bool
     ensures { result ≡ is_space c }

@@ -15,7 +15,8 @@ use scoping::Ctx;
 use tables::{Cursor, Row, record};
 
 // The last row visited, the last free row, the last row in use, the innermost open row or 0, and the counters. The three lent tables stay
-// three parameters beside it: a struct that held them would ask of each function a clause that each reference is the one that it was.
+// three parameters beside it: a struct that held them would ask of each function a clause that each reference is the one that it was. So it is in
+// all crates of the walk.
 #[derive(Clone, Copy)]
 pub struct Walk {
     pub visited: RecordId,

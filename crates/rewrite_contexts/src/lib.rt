@@ -1,4 +1,5 @@
 // Block, function body, static block and try parts get a context. Each is rewritten where it stands, as the first of the rows still to visit.
+// (Lent tables stay parameters, as `path::Walk` says why.)
 #![tactic(auto)]
 
 ghost use Rattle.std.specs.Prelude.{◌≡◌};
@@ -416,7 +417,7 @@ fn plan_part(records: &[u16], s: Counting) -> Counting
     }
 }
 
-// The rows that n parts beside each other add.
+// The rows that n parts beside each other add. (A loop of its own, as `statements::Counting` says why; so is the next.)
 #[tactic(auto, unfolding(crate::specs::Tries::plan_parts_f), using(tables::specs::Loops::next_turn, tables::specs::Loops::last_turn))]
 fn plan_parts(records: &[u16], after: RecordId, n: u16) -> u16
     ensures { result ≡ plan_parts_f records.now after.0 n }

@@ -187,8 +187,8 @@ fn count_name(records: &[u16], s: Counted) -> Counted
     }
 }
 
-// The names of n Declarators after a row. This loop, that of `flag_names` and that of `write_specifiers` stay three: each changes another table
-// or none, and one for all would take a closure that holds a lent table, with a contract longer than the loop.
+// The names of n Declarators after a row. This loop, that of `flag_names` and that of `write_specifiers` stay three: this one changes no table,
+// the others change one each, and one for all would take a closure that holds a lent table, with a contract longer than the loop.
 #[tactic(auto, unfolding(crate::specs::Names::count_names_f), using(tables::specs::Loops::go_on, tables::specs::Loops::run_out, tables::specs::Loops::stopped))]
 pub fn count_names(records: &[u16], after: RecordId, n: u16) -> u16
     ensures { result ≡ count_names_f records.now after.0 n }

@@ -143,7 +143,7 @@ fn kept_rows_one(records: &[u16], s: Counting) -> Counting
     }
 }
 
-// The rows of those among n items that stay.
+// The rows of those among n items that stay. (A loop of its own, as `statements::Counting` says why.)
 #[tactic(auto, unfolding(crate::specs::Arrange::kept_rows_f), using(tables::specs::Loops::next_turn, tables::specs::Loops::last_turn))]
 fn kept_rows(records: &[u16], after: RecordId, n: u16) -> u16
     ensures { result ≡ kept_rows_f records.now after.0 n }

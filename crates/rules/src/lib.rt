@@ -230,7 +230,7 @@ pub fn is_right(place: Place, symbols: usize, x: Field) -> bool
         tag::CALL => call_right(symbols, x),
         tag::LOAD => load_right(symbols, x),
         tag::STEP => step_right(symbols, x),
-        _ => false,
+        0 | 21..=23 | 30..=65535 => false,
     }
 }
 

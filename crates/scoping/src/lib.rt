@@ -398,7 +398,8 @@ fn climbs_to(scopes: &[u16], count: u16, from: ScopeId, to: ScopeId) -> bool
     false
 }
 
-// `find_binding`: the name seen from a scope, or 0, which a Load's row has for none, so no `Option`. If one row alone binds the name, only that row's scope is looked for.
+// `find_binding`: the name seen from a scope, or 0, which a Load's row has for none, so no `Option`. If one row alone binds the name, only that
+// row's scope is looked for.
 pub fn find_binding(scopes: &[u16], symbols: &[u16], ctx: Ctx, from: ScopeId, name: u16) -> SymbolId
     ensures { result.0 ≡ find_binding ctx.scopes (store_f scopes.now symbols.now ctx) from.0 name }
 {
@@ -433,7 +434,8 @@ fn is_block_scoped(flags: u16) -> bool
     flags / symbol_flag::BLOCK_SCOPED % 2 == 1 || flags / symbol_flag::CLASS % 2 == 1
 }
 
-// The row after i others is bound in the scope: a unique name, or the last row of its name, so that only the rows behind it are looked at.
+// The row after i others is bound in the scope: a unique name, or the last row of its name, so that only the rows behind it are looked at. Two
+// answers come before the search is set up, which as one expression would stand in the middle of it.
 #[tactic(auto, unfolding(meaning::specs::Scoping::is_among_bindings, crate::specs::Rows::symbol_at))]
 fn is_bound(symbols: &[u16], count: u16, scope: ScopeId, i: u16) -> bool
     requires { i < count }

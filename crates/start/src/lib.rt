@@ -32,7 +32,7 @@ const MADE: usize = symbol::MADE as usize;
 
 const READ_SCOPE: usize = symbol::READ_SCOPE as usize;
 
-// A number, or the largest that fits.
+// A number, or the largest that fits: the library's `min`, under the clause that its callers use.
 pub fn capped(x: u64) -> u16
     ensures { result ≡ min x 65535 }
 {
@@ -98,7 +98,7 @@ fn put_symbols(file: &[u8], symbols: &mut [u16], first: u16, count: u16)
 
 // ---- records
 
-// Number i, or 0 if it is not one of a record's own, as a row has it.
+// Number i, or 0 if it is not one of a record's own: a row holds 0 there, so no `Option`.
 fn own_number(count: u8, i: u8, v: u16) -> u16
     ensures { result ≡ (if ltb i count then v else 0) }
 {

@@ -31,8 +31,8 @@ pub const CONTEXT_ROWS: u16 = 11;
 // The rows that a context adds where its list goes into a new Block: that Block, too.
 pub const WRAPPED_CONTEXT_ROWS: u16 = 12;
 
-// The last row looked at, and a count so far. Four loops count so, each with its own step: one loop for all would need a trait and four
-// impls for the steps, longer than the loops.
+// The last row looked at, and a count so far. Four loops count so, each with its own step: one loop for all would take the step as a closure,
+// and its contract (what the step answers for every row) and the law of its recursion are longer than the four loops of three lines.
 #[derive(Clone, Copy)]
 pub struct Counting {
     pub at: RecordId,
@@ -212,7 +212,7 @@ fn plan_one(records: &[u16], p: Plan) -> Plan
     }
 }
 
-// Counted on from a plan: n items after its last row. (A loop of its own, as `statements::take_up_declarators` says why.)
+// Counted on from a plan: n items after its last row. (A loop of its own beside those of `Counting`: it counts three things.)
 #[tactic(auto, unfolding(crate::specs::Plan::plan_f), using(tables::specs::Loops::next_turn, tables::specs::Loops::last_turn))]
 pub fn plan_list(records: &[u16], start: Plan, n: u16) -> Plan
     ensures { result ≡ plan_f records.now start n }

@@ -306,7 +306,8 @@ pub fn unread_row(records: &mut [u16], q: Cursor) -> Cursor
     }
 }
 
-// The last `n` rows written go behind the free rows again. A loop of its own, since its step holds the table.
+// The last `n` rows written go behind the free rows again. A loop of its own beside that of `copy`: one for both would take the step as a closure
+// that holds the table, and say in its contract what a call leaves there.
 pub fn take_back(records: &mut [u16], start: Cursor, n: u16) -> Cursor
     ensures { buf records.new result ≡ take_back_f n (buf records.old start) }
 {

@@ -37,7 +37,7 @@ impl<'a> Field<'a> {
         Some((Field { tag, numbers }, rest))
     }
 
-    // The k-th number, or 0 past the end.
+    // The k-th number, or 0 past the end, as a row has it.
     fn number(self, k: u8) -> u16 {
         fields::read_two(self.numbers, 2 * usize::from(k))
     }

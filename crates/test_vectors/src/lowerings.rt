@@ -60,7 +60,7 @@ pub fn agrees(alloc: Global, line: &str) -> Result<bool, AllocError> {
     }
 }
 
-// The file of a line.
+// The file of a line, which is another part than in `checks::file`: two lines of a tuple, no plainer with the part's number.
 pub fn file(alloc: Global, line: &str) -> Result<Option<Vec<u8>>, AllocError> {
     match lines::three_parts(line) {
         Some((_, digits, _)) => lines::decoded(alloc, digits),

@@ -1,4 +1,4 @@
-// The walk over lent tables, one visit at a time.
+// The walk over lent tables, one visit at a time. (They stay three parameters, as `path::Walk` says why.)
 #![tactic(auto)]
 
 ghost use Rattle.std.specs.Prelude.{◌≡◌};
