@@ -472,6 +472,8 @@ fn more_symbols(here: Reader) -> bool
     here.tag() == tag::SYMBOL
 }
 
+// `read_scopes` and `read_symbols` stay two loops of one definition (`read_rows`): one would take the test and the step from a trait with two ghost
+// functions and an impl for each kind of row, in more lines than the second loop has.
 pub fn read_scopes(file: &[u8], from: usize) -> Result<Rows, Refusal>
     ensures { result ≡ read_scopes file.now from }
 {
