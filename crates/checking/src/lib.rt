@@ -239,7 +239,9 @@ fn leaf_size(here: Reader, symbols: usize, site: Site) -> Option<u32>
     let tag = here.tag();
     match tag {
         tag::EXPRESSION => expression_size(here, site.place),
-        tag::READ | tag::NAME => mention_size(here, site.place, symbols, tag),
+        // Each tag by its name, so that what may stand at a place is asked of a constant.
+        tag::READ => mention_size(here, site.place, symbols, tag::READ),
+        tag::NAME => mention_size(here, site.place, symbols, tag::NAME),
         _ => None,
     }
 }
@@ -423,10 +425,9 @@ fn check_children(
             n,
         );
     }
-    let mut done = Progress {
-        at: x.next,
-        tally: tally::no_tally(),
-    };
+    // Offset and tally apart: as one struct they go through memory from child to child.
+    let mut at = x.next;
+    let mut tally = tally::no_tally();
     for k in 0..n {
         let place = rules::place_of(site.place, x, k);
         let role = tally::role_in(source.file, site.role, x, k);
@@ -435,9 +436,11 @@ fn check_children(
             role,
             ..site
         };
-        done = check_child(source, marks, child, done, levels - 1)?;
+        let done = check_child(source, marks, child, Progress { at, tally }, levels - 1)?;
+        at = done.at;
+        tally = done.tally;
     }
-    Ok(done)
+    Ok(Progress { at, tally })
 }
 
 // ---- the rows before the tree

@@ -19,9 +19,10 @@ use Rattle.figures.specs.declared.FinalFigures.{FinalFigures}
 use Rattle.meaning.specs.declared.Reason.{Reason}
 use Rattle.meaning.specs.Refusals.{Outcome, refused, number_of}
 use Rattle.meaning.specs.declared.Reason.TheVariants as Reason
-use Rattle.std.specs.Prelude.{Ok, if◌then◌else◌, ◌≡◌, refl, true, false, ◌||◌, ◌&&◌, List, [], ◌++◌, map, ◌⊎◌, ℕ, suc, ◌+◌, ◌*◌, ◌/◌, ◌≤◌, ◌<◌, eqb, leb, length, take, get_or, set}
+use Rattle.std.specs.Prelude.{Ok, if◌then◌else◌, ◌≡◌, refl, true, false, ◌||◌, ◌&&◌, List, [], ◌∷◌, ◌++◌, map, ◌⊎◌, ℕ, suc, ◌+◌, ◌*◌, ◌/◌, ◌≤◌, ◌<◌, eqb, leb, length, take, get_or, set}
 use Rattle.std.proofs.Common.{ap, ◌∙◌}
 use Rattle.std.proofs.Math.Logic.{⊎_map}
+use Rattle.meaning.specs.Examples.{reason_numbers}
 use Rattle.meaning.specs.Numbers.Tag
 use Rattle.meaning.specs.Tree.{hd, Forest, none, more, one, size, flatten}
 use Rattle.meaning.specs.Mentions.{mentions}
@@ -111,6 +112,12 @@ start_refusals = admit_numbers
 
 pub lower_refusals : (bytes : List ℕ) (lent : Lent) (out : ℕ) (c : Reason) (p : ℕ) → lower bytes lent out ≡ refused c p → (1 ≤ number_of c) × (number_of c ≤ 10)
 lower_refusals = lower_numbers
+
+-- Each reason has 01's number, written out here once: a claim that says `refused Reason.FewRows p` says refusal 9 at p.
+pub numbers_are_01 : (number_of Reason.TooLong ∷ number_of Reason.Cut ∷ number_of Reason.WrongTag ∷ number_of Reason.WrongLength ∷ number_of Reason.WrongNumber
+    ∷ number_of Reason.TooDeep ∷ number_of Reason.BytesBehind ∷ number_of Reason.InlineContext ∷ number_of Reason.FewRows ∷ number_of Reason.ShortOutput ∷ [])
+    ≡ 1 ∷ 2 ∷ 3 ∷ 4 ∷ 5 ∷ 6 ∷ 7 ∷ 8 ∷ 9 ∷ 10 ∷ []
+numbers_are_01 = reason_numbers
 
 -- A file that is admitted, with an output too short for the file to write, is refused with 10 at the output's length.
 pub output_refusal : (bytes : List ℕ) (lent : Lent) (out : ℕ) (f : File) → admit bytes lent ≡ Ok f → out < (final_figures f).bytes

@@ -134,12 +134,10 @@ fn join(high: u8, low: u8) -> u16
 }
 
 // The number at an offset of a file; a missing byte reads as 0.
-#[tactic(auto, unfolding(meaning::specs::Grammar::two))]
 pub fn read_two(file: &[u8], at: usize) -> u16
     ensures { result ≡ two file.now at }
 {
-    let low = at.saturating_add(1);
-    join(byte(file, at), byte(file, low))
+    Reader::new(file, at).number()
 }
 
 // Stores a number, high byte first; what lies past the end is left out.
@@ -302,8 +300,8 @@ fn read_number(file: &[u8], at: usize, count: u8, i: u8) -> u16
     }
 }
 
-// The field at an offset of a file: head cut, tag, length, payload cut.
-pub fn read_field(file: &[u8], place: Place, at: usize) -> Result<Field, Refusal>
+// The field at an offset: head cut, tag, length, payload cut.
+fn field_at(file: &[u8], place: Place, at: usize) -> Result<Field, Refusal>
     ensures { result ≡ field_at file.now place at }
 {
     let left = file.len().saturating_sub(at);
@@ -399,17 +397,32 @@ impl<'a> Reader<'a> {
         tag_at(self.file, self.at)
     }
 
-    // The number at the offset; a missing byte reads as 0.
+    // The number at the offset; a missing byte reads as 0. The second byte is asked for where there is a first, and not by `saturating_add`:
+    // where the file is known to go on, the compiler then makes one load of both.
+    #[tactic(auto, unfolding(meaning::specs::Grammar::two))]
     pub fn number(self) -> u16
         ensures { result ≡ two self.entry.file.now self.entry.at }
     {
-        read_two(self.file, self.at)
+        let high = byte(self.file, self.at);
+        let low = if self.at < self.file.len() {
+            byte(self.file, self.at + 1)
+        } else {
+            0
+        };
+        join(high, low)
     }
 
     // The field at the offset: head cut, tag, length, payload cut.
     pub fn field(self, place: Place) -> Result<Field, Refusal>
         ensures { result ≡ field_at self.entry.file.now place self.entry.at }
     {
-        read_field(self.file, place, self.at)
+        field_at(self.file, place, self.at)
     }
+}
+
+// The field at an offset of a file.
+pub fn read_field(file: &[u8], place: Place, at: usize) -> Result<Field, Refusal>
+    ensures { result ≡ field_at file.now place at }
+{
+    Reader::new(file, at).field(place)
 }

@@ -1,6 +1,6 @@
 -- Small files, computed: each holds the definitions to a rule of 01 or of a request. All of 01's cases are in crates/cases.
 -- Assumes nothing.
-use Rattle.meaning.specs.Refusals.{Outcome, refused}
+use Rattle.meaning.specs.Refusals.{Outcome, refused, number_of}
 use Rattle.std.specs.Prelude.{Ok, Err, ◌≡◌, refl, true, List, [], ◌∷◌, ◌++◌, map, ℕ, zero, suc, length, take}
 use Prim.Native.String.{String}
 use Rattle.meaning.specs.declared.Reason.TheVariants as Reason
@@ -48,6 +48,14 @@ nested (suc n) = bytes "24:1,1" ++ nested n
 -- Program, a Plain and so many Expressions in each other: 2 levels and so many
 abbrev pub deep : ℕ → List ℕ
 deep n = bytes "40:1,0 41:0,16 1:1,1 3:0,1,1" ++ nested n
+
+-- ---- the numbers of the refusals
+
+-- each reason's number, written out: so these theorems, which name reasons, say numbers
+pub reason_numbers : (number_of Reason.TooLong ∷ number_of Reason.Cut ∷ number_of Reason.WrongTag ∷ number_of Reason.WrongLength ∷ number_of Reason.WrongNumber
+    ∷ number_of Reason.TooDeep ∷ number_of Reason.BytesBehind ∷ number_of Reason.InlineContext ∷ number_of Reason.FewRows ∷ number_of Reason.ShortOutput ∷ [])
+    ≡ 1 ∷ 2 ∷ 3 ∷ 4 ∷ 5 ∷ 6 ∷ 7 ∷ 8 ∷ 9 ∷ 10 ∷ []
+reason_numbers = refl
 
 -- ---- reading
 

@@ -1,4 +1,4 @@
-// What the test program shares: bytes and answers as a line tells them, the memory lent to a call, and the states of a walk.
+// What the test program compares, apart from the calls themselves: lines of text, states of a walk, and lent memory.
 #![tactic(auto)]
 
 pub mod lines;

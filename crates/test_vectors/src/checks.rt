@@ -1,45 +1,31 @@
 // A line is `FILE|CHECK|FIGURES`: a file, and the answers of `check` and `figures`. An answer is `refused NUMBER PLACE` or `ok`, for `figures`
 // with records, scopes, symbols, contexts and bytes.
 use figures::FinalFigures;
-use std::alloc::{AllocError, Global};
-use test_lines::lines;
+use test_lines::{lines, memory};
 
-fn check_agrees(file: &[u8], told: &str) -> bool {
+fn check_agrees(file: &[u8], line: &[u8], at: usize) -> bool {
     match checking::check(file) {
-        Ok(()) => told == "ok",
-        Err(refusal) => lines::same_refusal(told, refusal),
+        Ok(()) => lines::is_fine(line, at),
+        Err(refusal) => lines::same_refusal(line, at, refusal),
     }
 }
 
-fn all_figures_told(told: &str) -> Option<FinalFigures> {
-    let (figures, bytes) = lines::figures_told(told)?;
-    Some(FinalFigures {
-        bytes: bytes.parse().ok()?,
-        ..figures
-    })
+fn same_figures(line: &[u8], at: usize, g: FinalFigures) -> bool {
+    let bytes = lines::behind_figures(line, at, g);
+    bytes != 0 && (lines::read_number(line, bytes).value as u64) == g.bytes
 }
 
-fn figures_agree(file: &[u8], told: &str) -> bool {
+fn figures_agree(file: &[u8], line: &[u8], at: usize) -> bool {
     match checking::figures(file) {
-        Ok(figures) => all_figures_told(told) == Some(figures),
-        Err(refusal) => lines::same_refusal(told, refusal),
+        Ok(figures) => same_figures(line, at, figures),
+        Err(refusal) => lines::same_refusal(line, at, refusal),
     }
 }
 
-pub fn agrees(alloc: Global, line: &str) -> Result<bool, AllocError> {
-    let Some((digits, check, figures)) = lines::three_parts(line) else {
-        return Ok(false);
-    };
-    let Some(file) = lines::decoded(alloc, digits)? else {
-        return Ok(false);
-    };
-    Ok(check_agrees(&file, check) && figures_agree(&file, figures))
-}
-
-// The file of a line.
-pub fn file(alloc: Global, line: &str) -> Result<Option<Vec<u8>>, AllocError> {
-    match lines::three_parts(line) {
-        Some((digits, _, _)) => lines::decoded(alloc, digits),
-        None => Ok(None),
-    }
+pub fn agrees(line: &[u8]) -> bool {
+    let mut buffer = [0u8; memory::LARGE];
+    let n = lines::read_hex(line, 0, &mut buffer);
+    let file = lines::part(&buffer, 0, n);
+    let check = lines::behind(line, 0, b'|');
+    check_agrees(file, line, check) && figures_agree(file, line, lines::behind(line, check, b'|'))
 }

@@ -1,28 +1,19 @@
-// A line that begins with # is printed as it is, and `zeros` is a file that is too long; any other is a file in the notation of 01, and an
-// empty one the empty file. What comes of it is printed. The tables lent have 64 records, 24 scopes and 16 symbols, the output 724 bytes:
+// A line that begins with # is printed as it is, and one that begins with z is a file that is too long; any other is a file in the notation of 01, and
+// an empty one the empty file. What comes of it is printed. The tables lent have 64 records, 24 scopes and 16 symbols, the output 724 bytes:
 // enough for every case but those that show refusals 9 and 10.
 use figures::FinalFigures;
-use std::alloc::{AllocError, Global};
 use std::io;
-use test_lines::lines;
-use test_lines::memory::{Memory, Rows};
+use tables::{record, scope, symbol};
+use test_lines::lines::Seen;
+use test_lines::{lines, memory};
 
-const TOO_LONG: &str = "zeros";
-
-const LENT: Rows = Rows {
-    records: 64,
-    scopes: 24,
-    symbols: 16,
-};
-
-fn is_heading(line: &str) -> bool {
-    line.starts_with('#')
-}
-
-fn show_file(rt: &(impl Print + AllocGlobal), name: &str, file: &[u8]) -> io::Result<()> {
+fn show_file(rt: &impl Print, name: &str, file: &[u8]) -> io::Result<()> {
     let space = if file.is_empty() { "" } else { " " };
-    let text = lines::shown(rt.alloc(), file)?;
-    println!(rt; "  {name}:{space}{text}")
+    print!(rt; "  {name}:{space}")?;
+    let mut text = [0u8; memory::LARGE];
+    let n = notation::show(file, &mut text);
+    lines::put(rt, lines::part(&text, 0, n))?;
+    println!(rt;)
 }
 
 fn show_figures(rt: &impl Print, figures: FinalFigures) -> io::Result<()> {
@@ -38,42 +29,43 @@ fn show_figures(rt: &impl Print, figures: FinalFigures) -> io::Result<()> {
     )
 }
 
-fn show_lowered(rt: &(impl Print + AllocGlobal), file: &[u8]) -> io::Result<()> {
-    let mut memory = Memory::new(rt.alloc(), LENT, 724)?;
-    match memory.lower(file) {
+fn show_lowered(rt: &impl Print, file: &[u8]) -> io::Result<()> {
+    let mut records = [0u16; 64 * record::NUMBERS];
+    let mut scopes = [0u16; 24 * scope::LENT];
+    let mut symbols = [0u16; 16 * symbol::LENT];
+    let mut out = [0u8; 724];
+    match lowering::lower(file, &mut records, &mut scopes, &mut symbols, &mut out) {
         Ok(figures) => {
-            memory.out.truncate(figures.bytes as usize);
-            show_file(rt, "out", &memory.out)?;
+            show_file(rt, "out", lines::part(&out, 0, figures.bytes as usize))?;
             show_figures(rt, figures)
         }
         Err(refusal) => println!(rt; "  {refusal}"),
     }
 }
 
-fn show_line(rt: &(impl Print + AllocGlobal), line: &str) -> io::Result<()> {
-    if is_heading(line) {
-        return println!(rt; "{line}");
-    }
-    if line == TOO_LONG {
-        return show_lowered(rt, &[0u8; lines::LARGE]);
-    }
-    let file = lines::encoded(rt.alloc(), line)?;
-    show_file(rt, "in", &file)?;
-    show_lowered(rt, &file)
+fn show_case(rt: &impl Print, line: &[u8]) -> io::Result<()> {
+    let mut buffer = [0u8; 4096];
+    let n = notation::encode(line, &mut buffer);
+    let file = lines::part(&buffer, 0, n);
+    show_file(rt, "in", file)?;
+    show_lowered(rt, file)
 }
 
-// How many files there were.
-pub fn show(rt: &(impl Print + AllocGlobal), text: &str) -> io::Result<usize> {
-    for line in text.lines() {
-        show_line(rt, line)?;
-    }
-    Ok(text.lines().filter(|line| !is_heading(line)).count())
+// A file that no line can hold: 65,536 zeros.
+fn show_too_long(rt: &impl Print) -> io::Result<()> {
+    show_lowered(rt, &[0u8; memory::LARGE])
 }
 
-// The file of a line, but for the one that is too long.
-pub fn file(alloc: Global, line: &str) -> Result<Option<Vec<u8>>, AllocError> {
-    if is_heading(line) || line == TOO_LONG {
-        return Ok(None);
+// A heading is no file, and not counted.
+pub fn show_line(rt: &impl Print, line: &[u8], seen: Seen) -> io::Result<Seen> {
+    match lines::byte(line, 0) {
+        b'#' => {
+            lines::put(rt, line)?;
+            println!(rt;)?;
+            return Ok(seen);
+        }
+        b'z' => show_too_long(rt)?,
+        _ => show_case(rt, line)?,
     }
-    Ok(Some(lines::encoded(alloc, line)?))
+    lines::add(rt, seen, true)
 }

@@ -1,69 +1,97 @@
 // A line is `R S Y OUT|FILE|ANSWER`: the rows and output bytes that are lent, a file, and what `lower` answers: `refused NUMBER PLACE`, or `ok`
 // with records, scopes, symbols, contexts and the written file.
-use crate::twice;
-use figures::FinalFigures;
-use std::alloc::{AllocError, Global};
-use test_lines::lines;
-use test_lines::memory::{Memory, Rows};
+use tables::{record, scope, symbol};
+use test_lines::{lines, memory};
 
-// ---- answers
+// The memory stands on the stack, as a caller without a heap would lend it: the rows of the desk, and some numbers more that make no row.
+const RECORDS: usize = 4096;
 
-fn written_agrees(
-    alloc: Global,
-    memory: &Memory,
-    figures: FinalFigures,
-    told: &str,
-) -> Result<bool, AllocError> {
-    let Some((first, digits)) = lines::figures_told(told) else {
-        return Ok(false);
-    };
-    let Some(file) = lines::decoded(alloc, digits)? else {
-        return Ok(false);
-    };
-    let bytes = file.len() as u64;
-    Ok(figures == FinalFigures { bytes, ..first } && memory.holds_written(&file))
-}
+const SCOPES: usize = 1024;
+
+const SYMBOLS: usize = 1024;
 
 // ---- a lowering
 
-// The rows and the output bytes that are lent; none where a line asks for more than the desk lends.
-fn lent(text: &str) -> Option<(Rows, usize)> {
-    let (rows, bytes) = text.rsplit_once(' ')?;
-    let rows = Rows::told(rows, ' ')?;
-    let bytes = bytes.parse().ok()?;
-    let most = twice::LENT;
-    if rows.records <= most.records
-        && rows.scopes <= most.scopes
-        && rows.symbols <= most.symbols
-        && bytes <= lines::LARGE
-    {
-        Some((rows, bytes))
-    } else {
-        None
+fn replay(
+    file: &[u8],
+    line: &[u8],
+    at: usize,
+    records: &mut [u16],
+    scopes: &mut [u16],
+    symbols: &mut [u16],
+    out: &mut [u8],
+) -> bool {
+    memory::fill_numbers(records);
+    memory::fill_numbers(scopes);
+    memory::fill_numbers(symbols);
+    memory::fill_bytes(out);
+    match lowering::lower(file, records, scopes, symbols, out) {
+        Ok(figures) => {
+            memory::written_agrees(line, at, figures, out)
+                && memory::all_tables(records, scopes, symbols, 0)
+        }
+        Err(refusal) => {
+            memory::refusal_agrees(line, at, refusal, out)
+                && memory::all_tables(records, scopes, symbols, memory::NUMBER)
+        }
     }
 }
 
-pub fn agrees(alloc: Global, line: &str) -> Result<bool, AllocError> {
-    let Some((numbers, digits, told)) = lines::three_parts(line) else {
-        return Ok(false);
-    };
-    let Some((rows, bytes)) = lent(numbers) else {
-        return Ok(false);
-    };
-    let Some(file) = lines::decoded(alloc, digits)? else {
-        return Ok(false);
-    };
-    let mut memory = Memory::filled(alloc, rows, bytes)?;
-    match memory.lower(&file) {
-        Ok(figures) => written_agrees(alloc, &memory, figures, told),
-        Err(refusal) => Ok(lines::same_refusal(told, refusal) && memory.is_untouched()),
+// With so many rows, and some numbers more that make no row.
+fn replay_lent(
+    file: &[u8],
+    line: &[u8],
+    at: usize,
+    r: usize,
+    s: usize,
+    y: usize,
+    out: &mut [u8],
+) -> bool {
+    let mut records = [0u16; RECORDS * record::NUMBERS + record::NUMBERS];
+    let mut scopes = [0u16; SCOPES * scope::LENT + scope::LENT];
+    let mut symbols = [0u16; SYMBOLS * symbol::LENT + symbol::LENT];
+    if RECORDS < r || SCOPES < s || SYMBOLS < y {
+        return false;
     }
+    replay(
+        file,
+        line,
+        at,
+        &mut records[..(r * record::NUMBERS + r % record::NUMBERS)],
+        &mut scopes[..(s * scope::LENT + s % scope::LENT)],
+        &mut symbols[..(y * symbol::LENT + y % symbol::LENT)],
+        out,
+    )
 }
 
-// The file of a line, which is another part than in `checks::file`: two lines of a tuple, no plainer with the part's number.
-pub fn file(alloc: Global, line: &str) -> Result<Option<Vec<u8>>, AllocError> {
-    match lines::three_parts(line) {
-        Some((_, digits, _)) => lines::decoded(alloc, digits),
-        None => Ok(None),
+// With so many output bytes.
+fn replay_file(file: &[u8], line: &[u8], at: usize) -> bool {
+    let mut out = [0u8; memory::LARGE];
+    let records = lines::read_number(line, 0);
+    let scopes = lines::read_number(line, records.next);
+    let symbols = lines::read_number(line, scopes.next);
+    let bytes = lines::read_number(line, symbols.next).value;
+    if out.len() < bytes {
+        return false;
     }
+    replay_lent(
+        file,
+        line,
+        at,
+        records.value,
+        scopes.value,
+        symbols.value,
+        &mut out[..bytes],
+    )
+}
+
+pub fn agrees(line: &[u8]) -> bool {
+    let mut buffer = [0u8; memory::LARGE];
+    let file = lines::behind(line, 0, b'|');
+    let n = lines::read_hex(line, file, &mut buffer);
+    replay_file(
+        lines::part(&buffer, 0, n),
+        line,
+        lines::behind(line, file, b'|'),
+    )
 }

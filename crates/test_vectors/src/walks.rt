@@ -1,60 +1,101 @@
 // A walk is a line `file FILE` in the notation of 01, and a line for what `start` leaves and for each `visit_call` after it: `K R,S,Y TREE`, the
 // visits made, how many records, scopes and symbols there are, and the scope rows, symbol rows and records in the notation, or `same`.
-use std::alloc::{AllocError, Global};
 use std::io;
-use test_lines::lines::{self, Seen};
-use test_lines::memory::Rows;
-use test_lines::states::{self, State};
+use tables::{record, scope, symbol};
+use test_lines::lines::Seen;
+use test_lines::states::Stand;
+use test_lines::{lines, memory, states};
 
-// What the first line of a walk begins with.
-const FIRST: &str = "file ";
+// A walk has at most so many states.
+const MOST_STATES: u32 = 100000;
 
-// A state is compared before each visit, and after one call more, which changes nothing.
+// A state is compared, and a visit made.
+fn step(
+    rt: &impl Print,
+    text: &[u8],
+    s: Stand,
+    tree: &mut [u8],
+    records: &mut [u16],
+    scopes: &mut [u16],
+    symbols: &mut [u16],
+) -> io::Result<Stand> {
+    let at = s.next;
+    let w = s.walk;
+    let end = lines::find(text, at, b'\n');
+    let len = states::next_tree(text, at, end, tree, s.len);
+    let told = states::rows_told(text, at);
+    let agrees = states::holds(told, tree, len, w, records, scopes, symbols);
+    let seen = lines::add(rt, s.seen, agrees)?;
+    Ok(Stand {
+        last: at,
+        next: lines::plus(end, 1),
+        len,
+        seen,
+        walk: walk::visit_call(w, records, scopes, symbols),
+    })
+}
+
+// The states of a walk, and one call more, which changes nothing.
 fn replay_states(
-    rt: &(impl Print + AllocGlobal),
-    mut state: State,
-    told: &str,
-    seen: &mut Seen,
-) -> io::Result<()> {
-    let mut rows = Rows::default();
-    let mut tree = Vec::new(rt.alloc());
-    for line in told.lines() {
-        let Some((next_rows, text)) = states::told(line) else {
-            return seen.add(rt, false);
-        };
-        rows = next_rows;
-        if text != "same" {
-            tree = lines::encoded(rt.alloc(), text)?;
+    rt: &impl Print,
+    text: &[u8],
+    first: Stand,
+    tree: &mut [u8],
+    records: &mut [u16],
+    scopes: &mut [u16],
+    symbols: &mut [u16],
+) -> io::Result<Seen> {
+    let mut s = first;
+    for _ in 0..MOST_STATES {
+        if !states::is_state(text, s.next) {
+            break;
         }
-        seen.add(rt, state.holds(rows, &tree))?;
-        state.visit();
+        s = step(rt, text, s, tree, records, scopes, symbols)?;
     }
-    seen.add(rt, state.holds(rows, &tree))
+    let told = states::rows_told(text, s.last);
+    let agrees = states::holds(told, tree, s.len, s.walk, records, scopes, symbols);
+    lines::add(rt, s.seen, agrees)
 }
 
-// A walk, from its file on.
-fn replay_walk(rt: &(impl Print + AllocGlobal), walk: &str, seen: &mut Seen) -> io::Result<()> {
-    let Some((text, told)) = walk.split_once('\n') else {
-        return seen.add(rt, false);
-    };
-    let file = lines::encoded(rt.alloc(), text)?;
-    match State::start(rt.alloc(), &file)? {
-        Ok(state) => replay_states(rt, state, told, seen),
-        Err(_) => seen.add(rt, false),
+fn replay_file(
+    rt: &impl Print,
+    file: &[u8],
+    text: &[u8],
+    at: usize,
+    seen: Seen,
+) -> io::Result<Seen> {
+    let mut tree = [0u8; memory::LARGE];
+    let mut records = [0u16; 512 * record::NUMBERS];
+    let mut scopes = [0u16; 256 * scope::LENT];
+    let mut symbols = [0u16; 256 * symbol::LENT];
+    match states::begin(file, at, seen, &mut records, &mut scopes, &mut symbols) {
+        Ok(first) => replay_states(
+            rt,
+            text,
+            first,
+            &mut tree,
+            &mut records,
+            &mut scopes,
+            &mut symbols,
+        ),
+        Err(_) => lines::add(rt, seen, false),
     }
 }
 
-pub fn replay(rt: &(impl Print + AllocGlobal), text: &str) -> io::Result<Seen> {
-    let mut seen = Seen::default();
-    for walk in text.split(FIRST).skip(1) {
-        replay_walk(rt, walk, &mut seen)?;
+// The walk whose first line the text begins with; none, if that line is none's.
+pub fn replay(rt: &impl Print, text: &[u8], seen: Seen) -> io::Result<Seen> {
+    if lines::byte(text, 0) != b'f' {
+        return Ok(seen);
     }
-    Ok(seen)
-}
-
-// The file of a walk's first line.
-pub fn file(alloc: Global, line: &str) -> Result<Option<Vec<u8>>, AllocError> {
-    line.strip_prefix(FIRST)
-        .map(|text| lines::encoded(alloc, text))
-        .transpose()
+    let mut buffer = [0u8; memory::LARGE];
+    let end = lines::find(text, 0, b'\n');
+    let first = lines::part(text, lines::behind(text, 0, b' '), end);
+    let n = notation::encode(first, &mut buffer);
+    replay_file(
+        rt,
+        lines::part(&buffer, 0, n),
+        text,
+        lines::plus(end, 1),
+        seen,
+    )
 }

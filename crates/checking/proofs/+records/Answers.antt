@@ -18,7 +18,7 @@ check_children-returns-then-levels-eq0 t c =
 pub check_children-loop-k-init : goal.check_children-loop-k-init
 unfolding children_f
 check_children-loop-k-init t c =
-    (search rules, search rules, rw (c.children_of-n.ensures, c.no_tally.ensures, sub-zero))
+    (search rules, search rules, rw (c.children_of-n.ensures, c.no_tally-tally.ensures, sub-zero))
 
 pub check_children-returns-in_err-done : goal.check_children-returns-in_err-done
 check_children-returns-in_err-done t c =

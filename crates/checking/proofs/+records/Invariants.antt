@@ -31,4 +31,4 @@ invariant-check_children-loop-k l =
     ≡ list_f
     (λ j s a m.
     record_f l.levels l.source.file.now l.source.rows.scopes l.source.rows.symbols (place_of l.site.place l.x j) (ups_f l.source.file.now l.site.role l.x j) l.site.scope.0 s a m)
-    (l.n - l.k) l.k l.done.tally l.done.at l.marks)
+    (l.n - l.k) l.k l.tally l.at l.marks)

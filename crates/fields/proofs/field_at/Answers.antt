@@ -1,4 +1,4 @@
--- `fields::read_field` meets its contract. Assumes nothing.
+-- `fields::field_at` meets its contract. Assumes nothing.
 use mathlib.Core.Path.{◌∙◌}
 use Prim.Native.Nat.{◌+◌}
 use native.Mathlib.Omega.{arith}
@@ -7,7 +7,7 @@ use borrow.Author.Tests.{eq-eqb, ne_eqb, lt-ltb, le-ltb}
 use Rattle.meaning.specs.File.{field_bytes}
 use Rattle.meaning.specs.Grammar.{field_at, field_of}
 use Rattle.fields.specs.Lengths.{half}
-use Rattle.fields.proofs.read_field.Goals as goal
+use Rattle.fields.proofs.field_at.Goals as goal
 
 pub returns-then-left-lt-HEAD_BYTES : goal.returns-then-left-lt-HEAD_BYTES
 unfolding field_at
