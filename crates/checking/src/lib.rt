@@ -356,8 +356,8 @@ fn check_statement(
     check_entered(source, marks, site, done.tally, levels, x)
 }
 
-// An expression: an Expression, a Read, a Call, a Load, or a Function or Class of form 1. An Expression without children and a Read are
-// leaves and passed at once, and so is a Name, though it is a part of a Declarator or a Catch. So many levels are left for its children.
+// An expression: an Expression, a Read, a Call, a Load, or a Function or Class of form 1; and a Name, though it is a part of a Declarator or a
+// Catch. So many levels are left for its children.
 #[cycle(records)]
 fn check_expression(
     source: Source,
@@ -372,12 +372,6 @@ fn check_expression(
     let file = source.file;
     let here = Reader { file, at: done.at };
     let symbols = source.rows.symbols as usize;
-    if let Some(size) = leaf_size(here, symbols, site) {
-        return Ok(Progress {
-            at: done.at + (size as usize),
-            tally: tally::add_leaf(done.tally, size),
-        });
-    }
     let x = enter_expression(here, marks, symbols, site)?;
     check_entered(source, marks, site, done.tally, levels, x)
 }
@@ -425,7 +419,7 @@ fn check_children(
             n,
         );
     }
-    // Offset and tally apart: as one struct they go through memory from child to child.
+    // A leaf is passed at once, and changes offset and tally in place: an answer of its own would go through memory from child to child.
     let mut at = x.next;
     let mut tally = tally::no_tally();
     for k in 0..n {
@@ -436,6 +430,15 @@ fn check_children(
             role,
             ..site
         };
+        let here = Reader {
+            file: source.file,
+            at,
+        };
+        if let Some(size) = leaf_size(here, source.rows.symbols as usize, child) {
+            at += size as usize;
+            tally = tally::add_leaf(tally, size);
+            continue;
+        }
         let done = check_child(source, marks, child, Progress { at, tally }, levels - 1)?;
         at = done.at;
         tally = done.tally;

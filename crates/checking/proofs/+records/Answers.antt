@@ -1,5 +1,6 @@
 -- The cycle of calls: records and lists of children. Assumes nothing.
-use mathlib.Core.Path.{sym, ◌∙◌}
+use mathlib.Core.Path.{refl, sym, ◌∙◌}
+use Prim.Native.Nat.{◌-◌}
 use native.Mathlib.Nat.{sub-zero}
 use Rattle.spec_laws.specs.Refused.{handed_on}
 use native.Mathlib.Omega.{arith}
@@ -28,6 +29,17 @@ check_children-returns-in_err-done t c =
     (rw (← c.place_of-place.ensures, ← c.role_in-role.ensures) c.check_child.ensures))
     c.in_err-done.was)
 
+pub check_children-loop-k-preserved-in-Some : goal.check_children-loop-k-preserved-in-Some
+check_children-loop-k-preserved-in-Some t c = (
+  c.loop-k.invariant.0,
+  search rules,
+  list_step _ _ _ _ _ _ _ c.loop-k.invariant.2 _ _ _ _ c.loop-k-test.true
+      (child_level _ _ _ _ _ _ _ _ _ _ _ c.loop-k.invariant.0
+      (rw (← c.place_of-place.ensures, ← c.role_in-role.ensures)
+      (leaf_fine _ _ _ _ _ _ (sym c.leaf_size.ensures ∙ c.in-Some.is) (c.args.levels - 1) c.args.source.rows.scopes c.args.site.scope.0 _ _ _ c.add_leaf-tally.ensures)))
+      refl,
+)
+
 pub check_children-loop-k-preserved : goal.check_children-loop-k-preserved
 check_children-loop-k-preserved t c = (
   c.loop-k.invariant.0,
@@ -41,6 +53,11 @@ check_children-loop-k-preserved t c = (
 pub check_children-returns : goal.check_children-returns
 check_children-returns t c =
     list_end _ _ _ _ _ _ _ c.loop-k.invariant.2 c.loop-k-test.false
+
+pub check_children-overflow_add-at : goal.check_children-overflow_add-at
+check_children-overflow_add-at t c =
+    let fits = leaf_inside _ _ _ _ _ _ (sym c.leaf_size.ensures ∙ c.in-Some.is) in
+    omega arith
 
 -- ---- what is left of a record
 
@@ -58,15 +75,6 @@ check_entered-returns t c =
     _ _ _ _ c.in_ok-kids.was c.inserts-inserted.ensures c.add_record.ensures
 
 -- ---- an expression
-
-pub check_expression-overflow_add-result : goal.check_expression-overflow_add-result
-check_expression-overflow_add-result t c =
-    let fits = leaf_inside _ _ _ _ _ _ (sym c.leaf_size.ensures ∙ c.in-Some.is) in
-    omega arith
-
-pub check_expression-returns-in-Some : goal.check_expression-returns-in-Some
-check_expression-returns-in-Some t c =
-    leaf_fine _ _ _ _ _ _ (sym c.leaf_size.ensures ∙ c.in-Some.is) _ _ _ _ _ _ c.add_leaf.ensures
 
 pub check_expression-returns-in_err-x : goal.check_expression-returns-in_err-x
 check_expression-returns-in_err-x t c =
