@@ -4,3 +4,5 @@
 pub mod lines;
 pub mod memory;
 pub mod states;
+#[cfg(test)]
+mod tests;

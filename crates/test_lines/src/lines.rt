@@ -2,10 +2,22 @@
 //
 // Lines are read by places in lent memory, and leniently: a number ends at the first character that is no digit, and what follows is passed
 // over. So every text has an answer, whatever stands in it and however long its lines are, and a file takes no more memory than one piece of it.
-ghost use Rattle.std.specs.Prelude.{◌≤◌, length, IfOk};
+// The calls on a `str`, at the end, are exact: what is not in their form has no answer. The test program does not make them.
+ghost use Rattle.std.specs.Prelude.{if◌then◌else◌, ◌≡◌, ◌↔◌, ◌≤◌, ◌<◌, ◌∷◌, ◌++◌, [], List, ℕ, ◌+◌, ◌-◌, ◌^◌, min, take, length, option_map, IfOk, IfSome, IsSome, IsTrue};
+ghost use Rattle.std.specs.Result.{result_ok};
+ghost use Rattle.std.specs.String.{string_bytes};
+ghost use Rattle.std.specs.Str.Lossy.{utf8_lossy};
+ghost use Rattle.hex.specs.Hex.{decode_of};
+ghost use Rattle.meaning.specs.Refusals.{number_of};
+ghost use Rattle.test_lines.specs.Told.{space, bar, fine, large, HasByte, before, behind, Tells, TellsRefusal};
+ghost use Rattle.notation.specs.Notation as notation;
+ghost use Rattle.notation.specs.Shown as shown;
 
+pub use crate::memory::LARGE;
 use figures::FinalFigures;
+use hex::FromHexError;
 use meaning::Refusal;
+use std::alloc::{AllocError, Global};
 use std::io::Read;
 use std::{fmt, io};
 
@@ -32,6 +44,21 @@ pub fn put_number(rt: &impl Print, text: &[u8], n: u64) -> io::Result<()> {
 pub struct Seen {
     pub all: u64,
     pub right: u64,
+}
+
+impl Seen {
+    // As `add` below, in place and with no largest count but the type's. The case is counted where printing fails, too.
+    pub fn add(&mut self, rt: &impl Print, agrees: bool) -> io::Result<()>
+        ensures all { self.new.all ≡ min (self.old.all + 1) (2 ^ 64 - 1) }
+        ensures right { self.new.right ≡ (if agrees then min (self.old.right + 1) (2 ^ 64 - 1) else self.old.right) }
+    {
+        self.all = self.all.saturating_add(1);
+        self.right = self.right.saturating_add(u64::from(agrees));
+        if !agrees {
+            println!(rt; "differs: {}", self.all)?;
+        }
+        Ok(())
+    }
 }
 
 impl fmt::Display for Seen {
@@ -222,7 +249,7 @@ pub fn is_fine(text: &[u8], at: usize) -> bool {
     byte(text, at) == b'o'
 }
 
-pub fn same_refusal(text: &[u8], at: usize, refusal: Refusal) -> bool {
+pub fn same_refusal_at(text: &[u8], at: usize, refusal: Refusal) -> bool {
     let number = read_number(text, behind(text, at, b' '));
     let place = read_number(text, number.next);
     byte(text, at) == b'r'
@@ -246,4 +273,82 @@ pub fn behind_figures(text: &[u8], at: usize, g: FinalFigures) -> usize {
     } else {
         0
     }
+}
+
+// ---- for one who may allocate: bytes from text, and the notation
+
+// The bytes that hexadecimal digits spell.
+pub fn decoded(alloc: Global, digits: &str) -> Result<Option<Vec<u8>>, AllocError>
+    ensures { IfOk result (λ bytes. option_map (λ v. v.items) bytes ≡ result_ok (decode_of digits.now)) }
+{
+    match hex::decode(alloc, digits) {
+        Ok(bytes) => Ok(Some(bytes)),
+        Err(FromHexError::OutOfMemory) => Err(AllocError),
+        Err(_) => Ok(None),
+    }
+}
+
+// The file that a text in the notation of 01 spells. `notation` has no heap: it fills lent memory, and answers how much.
+pub fn encoded(alloc: Global, text: &str) -> Result<Vec<u8>, AllocError>
+    ensures { IfOk result (λ file. file.items ≡ take large (notation.encoded text.now)) }
+{
+    let mut file = vec![in alloc; 0u8; LARGE]?;
+    let length = notation::encode(text.as_bytes(), &mut file);
+    file.truncate(length);
+    Ok(file)
+}
+
+// The text of a file in the notation of 01.
+pub fn shown(alloc: Global, file: &[u8]) -> Result<String, AllocError>
+    ensures { IfOk result (λ text. string_bytes text ≡ utf8_lossy (take large (shown.shown file.now))) }
+{
+    let mut text = vec![in alloc; 0u8; LARGE]?;
+    let length = notation::show(file, &mut text);
+    text.truncate(length);
+    String::from_utf8_lossy(alloc, &text)
+}
+
+// ---- for one who holds a `str`: its parts, and the answers in it
+
+// Three parts with `|` between them.
+pub fn three_parts(line: &str) -> Option<(&str, &str, &str)>
+    ensures found { IsSome result ↔ (HasByte bar line.now × HasByte bar (behind bar line.now)) }
+    ensures first { IfSome result (λ parts. parts.0.now ≡ before bar line.now) }
+    ensures second { IfSome result (λ parts. parts.1.now ≡ before bar (behind bar line.now)) }
+    ensures third { IfSome result (λ parts. parts.2.now ≡ behind bar (behind bar line.now)) }
+{
+    let (first, rest) = line.split_once('|')?;
+    let (second, third) = rest.split_once('|')?;
+    Some((first, second, third))
+}
+
+// The number and the place behind `refused`.
+fn refusal_told(answer: &str) -> Option<(u8, usize)>
+    ensures { IfSome result (λ told. TellsRefusal answer.now told.0 told.1) }
+{
+    let (number, place) = answer.strip_prefix("refused ")?.split_once(' ')?;
+    Some((number.parse().ok()?, place.parse().ok()?))
+}
+
+pub fn same_refusal(answer: &str, refusal: Refusal) -> bool
+    ensures { IsTrue result → TellsRefusal answer.now (number_of refusal.reason) refusal.place }
+{
+    refusal_told(answer) == Some((u8::from(refusal.reason), refusal.place))
+}
+
+// The figures behind `ok`, but for the bytes, and what stands behind them.
+pub fn figures_told(answer: &str) -> Option<(FinalFigures, &str)>
+    ensures figures { IfSome result (λ told. (text : List ℕ) × (answer.now ≡ fine ++ text)
+        × Tells space text (told.0.records ∷ told.0.scopes ∷ told.0.symbols ∷ told.0.contexts ∷ []) told.1.now) }
+    ensures bytes { IfSome result (λ told. told.0.bytes ≡ 0) }
+{
+    let mut words = answer.strip_prefix("ok ")?.splitn(5, ' ');
+    let figures = FinalFigures {
+        records: words.next()?.parse().ok()?,
+        scopes: words.next()?.parse().ok()?,
+        symbols: words.next()?.parse().ok()?,
+        contexts: words.next()?.parse().ok()?,
+        bytes: 0,
+    };
+    Some((figures, words.next()?))
 }

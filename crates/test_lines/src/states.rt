@@ -1,17 +1,19 @@
-// The state that a line of a walk tells (test_vectors, walks.rt), held against the tables.
+// The state that a line of a walk tells (test_vectors, walks.rt), held against the tables; and a walk on allocated memory, whose trees have
+// whole fields only.
+ghost use Rattle.std.specs.Prelude.{Ok, Err, ◌≡◌, ◌+◌, ◌-◌, ◌^◌, min, ◌<◌, List, [], ◌∷◌, ℕ, length, IfOk, IfSome, IsTrue, MatchResult};
+ghost use Rattle.start.specs.Start.{begun};
+ghost use Rattle.test_lines.specs.Told.{space, comma, before, behind, IsNumberText, Tells, started};
+ghost use Rattle.path.specs.Path.{tables};
+ghost use Rattle.walk.specs.Call.{visit_call_f};
+
 use crate::lines;
 use crate::lines::Seen;
+use crate::memory::Memory;
+pub use crate::memory::Rows;
 use meaning::{RecordId, Refusal, tag};
 use path::Walk;
+use std::alloc::{AllocError, Global};
 use tables::{Row, scope, symbol};
-
-// How many rows of each kind there are.
-#[derive(Clone, Copy, Default, PartialEq, Eq)]
-pub struct Rows {
-    records: u16,
-    scopes: u16,
-    symbols: u16,
-}
 
 // A tree has at most so many fields.
 const MOST_FIELDS: u32 = 100000;
@@ -54,7 +56,11 @@ fn same_record(tree: &[u8], at: usize, r: Row) -> bool {
 
 // ---- the tables
 
-fn rows_of(w: Walk) -> Rows {
+fn rows_of(w: Walk) -> Rows
+    ensures records { result.records ≡ min (w.visited.0 + (w.end.0 - w.gap.0)) (2 ^ 16 - 1) }
+    ensures scopes { result.scopes ≡ w.ctx.scopes }
+    ensures symbols { result.symbols ≡ w.ctx.symbols }
+{
     Rows {
         records: w.visited.0.saturating_add(w.end.0.saturating_sub(w.gap.0)),
         scopes: w.ctx.scopes,
@@ -201,4 +207,132 @@ pub fn begin(
         seen,
         walk,
     })
+}
+
+// ---- a walk on allocated memory
+
+// A line `K R,S,Y TREE`, without the visits made: how many rows there are, and the text of the tree.
+pub fn told(line: &str) -> Option<(Rows, &str)>
+    ensures rows { IfSome result (λ told. (last : List ℕ)
+        × Tells comma (before space (behind space line.now)) (told.0.records ∷ told.0.scopes ∷ []) last × IsNumberText last told.0.symbols) }
+    ensures tree { IfSome result (λ told. told.1.now ≡ behind space (behind space line.now)) }
+{
+    let (_, state) = line.split_once(' ')?;
+    let (rows, tree) = state.split_once(' ')?;
+    Some((Rows::told(rows, ',')?, tree))
+}
+
+// A field of a tree: its tag, and the bytes of its numbers.
+#[derive(Clone, Copy)]
+struct Field<'a> {
+    tag: u16,
+    numbers: &'a [u8],
+}
+
+impl<'a> Field<'a> {
+    // The first field of a tree, and the rest, which is shorter.
+    fn split(tree: &'a [u8]) -> Option<(Field<'a>, &'a [u8])>
+        ensures { IfSome result (λ first. length first.1.now < length tree.now) }
+    {
+        let (head, rest) = tree.split_first_chunk::<3>()?;
+        let length = u16::from_be_bytes([head[1], head[2]]);
+        let (numbers, rest) = rest.split_at_checked(usize::from(length))?;
+        let tag = u16::from(head[0]);
+        Some((Field { tag, numbers }, rest))
+    }
+
+    // The k-th number, or 0 past the end, as a row has it.
+    fn number(self, k: u8) -> u16 {
+        fields::read_two(self.numbers, 2 * usize::from(k))
+    }
+
+    // Number by number, since a row has other numbers between.
+    fn is_scope(self, scopes: &[u16], k: u16) -> bool {
+        let row = usize::from(k) * scope::NUMBERS;
+        self.number(0) == tables::get(scopes, row) && self.number(1) == tables::get(scopes, row + 1)
+    }
+
+    fn is_symbol(self, symbols: &[u16], k: u16) -> bool {
+        let row = usize::from(k) * symbol::NUMBERS;
+        let count = tables::counts_at(symbols).saturating_add(usize::from(k));
+        self.number(0) == tables::get(symbols, row)
+            && self.number(1) == tables::get(symbols, row + 1)
+            && self.number(2) == tables::get(symbols, row + 2)
+            && self.number(3) == tables::get(symbols, row + 3)
+            && self.number(4) == tables::get(symbols, count)
+    }
+
+    // A record's number of children stands behind its own numbers. The mark of a Declaration is not written.
+    fn is_record(self, r: Row) -> bool {
+        let own = rules::own_numbers(self.tag);
+        let own_number = |k: u8| if k < own { self.number(k) } else { 0 };
+        self.tag == r.tag
+            && own_number(0) == r.a
+            && (r.tag == tag::DECLARATION || own_number(1) == r.b)
+            && own_number(2) == r.c
+            && self.number(own) == r.n
+    }
+}
+
+// Tables, and where a walk over them stands.
+#[derive(Drop)]
+pub struct State {
+    memory: Memory,
+    walk: Walk,
+}
+
+impl State {
+    // Before the first visit of a file's walk.
+    pub fn start(alloc: Global, file: &[u8]) -> Result<Result<State, Refusal>, AllocError>
+        ensures { IfOk result (λ made. MatchResult made
+            (λ s. begun (Ok s.walk) s.memory.records.items s.memory.scopes.items s.memory.symbols.items ≡ started file.now)
+            (λ why. Err why ≡ (started file.now).answer)) }
+    {
+        let rows = Rows {
+            records: 512,
+            scopes: 256,
+            symbols: 256,
+        };
+        let mut memory = Memory::new(alloc, rows, 0)?;
+        Ok(memory.start(file).map(|walk| State { memory, walk }))
+    }
+
+    pub fn visit(&mut self)
+        ensures { tables self.new.memory.records.items self.new.memory.scopes.items self.new.memory.symbols.items self.new.walk
+            ≡ visit_call_f (tables self.old.memory.records.items self.old.memory.scopes.items self.old.memory.symbols.items self.old.walk) }
+    {
+        self.walk = self.memory.visit(self.walk);
+    }
+
+    // The row of a field, with so many before it.
+    fn has_row(&self, field: Field<'_>, before: Rows) -> bool {
+        match field.tag {
+            tag::SCOPE => field.is_scope(&self.memory.scopes, before.scopes),
+            tag::SYMBOL => field.is_symbol(&self.memory.symbols, before.symbols),
+            _ => field.is_record(record(&self.memory.records, self.walk, before.records)),
+        }
+    }
+
+    // The rows of a tree and no others.
+    fn has_tree(&self, tree: &[u8]) -> bool {
+        let mut rows = Rows::default();
+        let mut rest = tree;
+        while let Some((field, behind)) = Field::split(rest) {
+            if !self.has_row(field, rows) {
+                return false;
+            }
+            rows = counted(rows, field.tag);
+            rest = behind;
+        }
+        rest.is_empty() && rows == rows_of(self.walk)
+    }
+
+    // So many rows, and the tree.
+    pub fn holds(&self, told: Rows, tree: &[u8]) -> bool
+        ensures records { IsTrue result → told.records ≡ min (self.now.walk.visited.0 + (self.now.walk.end.0 - self.now.walk.gap.0)) (2 ^ 16 - 1) }
+        ensures scopes { IsTrue result → told.scopes ≡ self.now.walk.ctx.scopes }
+        ensures symbols { IsTrue result → told.symbols ≡ self.now.walk.ctx.symbols }
+    {
+        told == rows_of(self.walk) && self.has_tree(tree)
+    }
 }

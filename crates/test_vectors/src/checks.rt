@@ -6,7 +6,7 @@ use test_lines::{lines, memory};
 fn check_agrees(file: &[u8], line: &[u8], at: usize) -> bool {
     match checking::check(file) {
         Ok(()) => lines::is_fine(line, at),
-        Err(refusal) => lines::same_refusal(line, at, refusal),
+        Err(refusal) => lines::same_refusal_at(line, at, refusal),
     }
 }
 
@@ -18,7 +18,7 @@ fn same_figures(line: &[u8], at: usize, g: FinalFigures) -> bool {
 fn figures_agree(file: &[u8], line: &[u8], at: usize) -> bool {
     match checking::figures(file) {
         Ok(figures) => same_figures(line, at, figures),
-        Err(refusal) => lines::same_refusal(line, at, refusal),
+        Err(refusal) => lines::same_refusal_at(line, at, refusal),
     }
 }
 

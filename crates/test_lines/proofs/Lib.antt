@@ -1,0 +1,3 @@
+-- Lemmas of this crate.
+mod Stored
+mod Parts

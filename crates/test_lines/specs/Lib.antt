@@ -1,0 +1,2 @@
+-- Definitions that this crate's contracts cite.
+pub mod Told
