@@ -1,11 +1,13 @@
 -- What a text tells: parts round a character, and numbers with a character behind each. Assumes nothing.
-use Rattle.std.specs.Prelude.{◌≡◌, ◌<◌, ◌==◌, Bool, List, [], ◌∷◌, ◌++◌, ℕ, ◌*◌, length, replicate, encode_utf8}
+use Rattle.std.specs.Prelude.{◌≡◌, ◌<◌, ◌==◌, Bool, List, [], ◌∷◌, ◌++◌, ℕ, ◌+◌, ◌-◌, ◌*◌, min, length, replicate, encode_utf8}
 use Rattle.std.specs.List.{position_or_len, before_first, after_first, list_all}
 use Rattle.std.specs.Str.Parse.{IsNumeral, digits_value, without_leading_plus}
 use Rattle.tables.specs.Columns.RecordTable
 use Rattle.tables.specs.Columns.ScopeTable
 use Rattle.tables.specs.Columns.SymbolTable
+use Rattle.path.specs.declared.Walk.{Walk}
 use Rattle.start.specs.Start.{Begun, start_f}
+use Rattle.test_lines.specs.declared.memory.Rows.{Rows}
 
 -- the characters that stand between the parts of a line
 abbrev pub space : ℕ
@@ -18,12 +20,12 @@ abbrev pub bar : ℕ
 bar = 124
 
 -- what an answer with figures begins with: `ok` and a space
-abbrev pub fine : List ℕ
-fine = 111 ∷ 107 ∷ space ∷ []
+abbrev pub fine_prefix : List ℕ
+fine_prefix = 111 ∷ 107 ∷ space ∷ []
 
 -- what a refusal begins with: `refused` and a space
-abbrev pub refused : List ℕ
-refused = 114 ∷ 101 ∷ 102 ∷ 117 ∷ 115 ∷ 101 ∷ 100 ∷ space ∷ []
+abbrev pub refused_prefix : List ℕ
+refused_prefix = 114 ∷ 101 ∷ 102 ∷ 117 ∷ 115 ∷ 101 ∷ 100 ∷ space ∷ []
 
 -- what lent memory is filled with before a call
 abbrev pub filled_number : ℕ
@@ -65,7 +67,16 @@ Tells c text (n ∷ ns) rest = (front : List ℕ) × (more : List ℕ) × (text 
 
 -- the text is a refusal with this number and this place
 abbrev pub TellsRefusal : List ℕ → ℕ → ℕ → Type 0
-TellsRefusal answer number place = (text : List ℕ) × (last : List ℕ) × (answer ≡ refused ++ text) × Tells space text (number ∷ []) last × IsNumberText last place
+TellsRefusal answer number place = (text : List ℕ) × (last : List ℕ) × (answer ≡ refused_prefix ++ text) × Tells space text (number ∷ []) last × IsNumberText last place
+
+-- how many rows a walk has: records before and behind the free rows, scopes and symbols
+abbrev pub rows_of_f : Walk → Rows
+rows_of_f w =
+    record {
+      records = min (w.visited.0 + (w.end.0 - w.gap.0)) 65535;
+      scopes = w.ctx.scopes;
+      symbols = w.ctx.symbols;
+    }
 
 -- a file's walk before its first visit, on tables of 512 records, 256 scopes and 256 symbols
 unfoldable pub started : List ℕ → Begun

@@ -3,13 +3,13 @@
 // Lines are read by places in lent memory, and leniently: a number ends at the first character that is no digit, and what follows is passed
 // over. So every text has an answer, whatever stands in it and however long its lines are, and a file takes no more memory than one piece of it.
 // The calls on a `str`, at the end, are exact: what is not in their form has no answer. The test program does not make them.
-ghost use Rattle.std.specs.Prelude.{if◌then◌else◌, ◌≡◌, ◌↔◌, ◌≤◌, ◌<◌, ◌∷◌, ◌++◌, [], List, ℕ, ◌+◌, ◌-◌, ◌^◌, min, take, length, option_map, IfOk, IfSome, IsSome, IsTrue};
+ghost use Rattle.std.specs.Prelude.{if◌then◌else◌, ◌≡◌, ◌↔◌, ◌≤◌, ◌<◌, ◌∷◌, ◌++◌, [], List, ℕ, ◌+◌, ◌-◌, ◌^◌, min, take, length, option_map, IfOk, IfSome, IsOk, IsSome, IsTrue};
 ghost use Rattle.std.specs.Result.{result_ok};
 ghost use Rattle.std.specs.String.{string_bytes};
 ghost use Rattle.std.specs.Str.Lossy.{utf8_lossy};
 ghost use Rattle.hex.specs.Hex.{decode_of};
 ghost use Rattle.meaning.specs.Refusals.{number_of};
-ghost use Rattle.test_lines.specs.Told.{space, bar, fine, large, HasByte, before, behind, Tells, TellsRefusal};
+ghost use Rattle.test_lines.specs.Told.{space, bar, fine_prefix, large, HasByte, before, behind, Tells, TellsRefusal};
 ghost use Rattle.notation.specs.Notation as notation;
 ghost use Rattle.notation.specs.Shown as shown;
 
@@ -51,6 +51,7 @@ impl Seen {
     pub fn add(&mut self, rt: &impl Print, agrees: bool) -> io::Result<()>
         ensures all { self.new.all ≡ min (self.old.all + 1) (2 ^ 64 - 1) }
         ensures right { self.new.right ≡ (if agrees then min (self.old.right + 1) (2 ^ 64 - 1) else self.old.right) }
+        ensures silent { IsTrue agrees → IsOk result }
     {
         self.all = self.all.saturating_add(1);
         self.right = self.right.saturating_add(u64::from(agrees));
@@ -338,7 +339,7 @@ pub fn same_refusal(answer: &str, refusal: Refusal) -> bool
 
 // The figures behind `ok`, but for the bytes, and what stands behind them.
 pub fn figures_told(answer: &str) -> Option<(FinalFigures, &str)>
-    ensures figures { IfSome result (λ told. (text : List ℕ) × (answer.now ≡ fine ++ text)
+    ensures figures { IfSome result (λ told. (text : List ℕ) × (answer.now ≡ fine_prefix ++ text)
         × Tells space text (told.0.records ∷ told.0.scopes ∷ told.0.symbols ∷ told.0.contexts ∷ []) told.1.now) }
     ensures bytes { IfSome result (λ told. told.0.bytes ≡ 0) }
 {

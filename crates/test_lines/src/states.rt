@@ -1,8 +1,8 @@
 // The state that a line of a walk tells (test_vectors, walks.rt), held against the tables; and a walk on allocated memory, whose trees have
 // whole fields only.
-ghost use Rattle.std.specs.Prelude.{Ok, Err, ◌≡◌, ◌+◌, ◌-◌, ◌^◌, min, ◌<◌, List, [], ◌∷◌, ℕ, length, IfOk, IfSome, IsTrue, MatchResult};
+ghost use Rattle.std.specs.Prelude.{Ok, Err, ◌≡◌, ◌<◌, List, [], ◌∷◌, ℕ, length, IfOk, IfSome, IsTrue, MatchResult};
 ghost use Rattle.start.specs.Start.{begun};
-ghost use Rattle.test_lines.specs.Told.{space, comma, before, behind, IsNumberText, Tells, started};
+ghost use Rattle.test_lines.specs.Told.{space, comma, before, behind, IsNumberText, Tells, rows_of_f, started};
 ghost use Rattle.path.specs.Path.{tables};
 ghost use Rattle.walk.specs.Call.{visit_call_f};
 
@@ -57,9 +57,7 @@ fn same_record(tree: &[u8], at: usize, r: Row) -> bool {
 // ---- the tables
 
 fn rows_of(w: Walk) -> Rows
-    ensures records { result.records ≡ min (w.visited.0 + (w.end.0 - w.gap.0)) (2 ^ 16 - 1) }
-    ensures scopes { result.scopes ≡ w.ctx.scopes }
-    ensures symbols { result.symbols ≡ w.ctx.symbols }
+    ensures { result ≡ rows_of_f w }
 {
     Rows {
         records: w.visited.0.saturating_add(w.end.0.saturating_sub(w.gap.0)),
@@ -329,9 +327,7 @@ impl State {
 
     // So many rows, and the tree.
     pub fn holds(&self, told: Rows, tree: &[u8]) -> bool
-        ensures records { IsTrue result → told.records ≡ min (self.now.walk.visited.0 + (self.now.walk.end.0 - self.now.walk.gap.0)) (2 ^ 16 - 1) }
-        ensures scopes { IsTrue result → told.scopes ≡ self.now.walk.ctx.scopes }
-        ensures symbols { IsTrue result → told.symbols ≡ self.now.walk.ctx.symbols }
+        ensures { IsTrue result → told ≡ rows_of_f self.now.walk }
     {
         told == rows_of(self.walk) && self.has_tree(tree)
     }

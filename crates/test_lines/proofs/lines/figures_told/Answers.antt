@@ -1,7 +1,7 @@
 -- `lines::figures_told` meets its contract. Assumes nothing.
 use mathlib.Core.Path.{sym, ◌∙◌}
 use native.Mathlib.Omega.{arith}
-use Rattle.test_lines.specs.Told.{fine}
+use Rattle.test_lines.specs.Told.{fine_prefix}
 use Rattle.test_lines.proofs.Parts.{number_text, stripped, had_more, last_part, next_part}
 use Rattle.test_lines.proofs.lines.figures_told.Goals as goal
 
@@ -22,6 +22,6 @@ returns-clause-figures c =
     let number-3 = number_text c.in_ok-next-3.field-0.now 64 _ _ _ c.parse-3.ensures.value.0 c.ok-3.ensures.value c.in_ok-ok-3.was in
     let number-4 = number_text c.in_ok-next-4.field-0.now 64 _ _ _ c.parse-4.ensures.value.0 c.ok-4.ensures.value c.in_ok-ok-4.was in (
       c.in_ok-strip_prefix.field-0.now,
-      stripped fine c.args.answer.now c.in_ok-strip_prefix.field-0.now c.in_ok-strip_prefix.ensures.cases,
+      stripped fine_prefix c.args.answer.now c.in_ok-strip_prefix.field-0.now c.in_ok-strip_prefix.ensures.cases,
       (_, _, sym begun.text ∙ first.1, number, (_, _, second.1, number-2, (_, _, third.1, number-3, (_, _, fourth.1, number-4, sym last)))),
     )
